@@ -1,0 +1,3 @@
+-- The vocabulary that every law uses: answers taken apart, tests, bytes, lists.
+pub mod Answers
+pub mod Bytes

@@ -1,0 +1,14 @@
+pub mod Answer
+pub mod Coding
+pub mod Lists
+pub mod Table
+pub mod Run
+pub mod Packet
+pub mod Read
+pub mod Sheet
+pub mod Calls
+pub mod Rows
+pub mod Edit
+pub mod Show
+pub mod Room
+pub mod Valid

@@ -1,0 +1,81 @@
+//! Tags once per level and ids once per series.
+//!
+//! While the numbers rise strictly none can be a repeat. Where one does not,
+//! the whole level is looked through once for its first repeat, and from
+//! then on only that place is compared.
+
+use crate::coding::TAG_LIMIT;
+
+/// The numbers of one level so far.
+pub struct Rising {
+    greatest: u64,
+    repeat: Option<usize>,
+}
+
+/// The place of the first repeat where there is none.
+const NOWHERE: usize = usize::MAX;
+
+impl Rising {
+    #[inline]
+    pub fn new() -> Rising {
+        Rising { greatest: 0, repeat: None }
+    }
+
+    /// Whether the number at this place stood before; `number` is above 0.
+    #[inline(always)]
+    pub fn repeats(&mut self, number: u64, place: usize, first: impl FnOnce() -> usize) -> bool {
+        if number > self.greatest {
+            self.greatest = number;
+            return false;
+        }
+        *self.repeat.get_or_insert_with(first) == place
+    }
+}
+
+/// The place of the first tag that stood before.
+#[cold]
+#[inline(never)]
+pub fn first_tag(mut tags: impl Iterator<Item = (usize, u16)>) -> usize {
+    let mut seen = [0u64; (TAG_LIMIT as usize + 1) / 64];
+    let found = tags.find(|&(_, tag)| {
+        let word = &mut seen[usize::from(tag) / 64];
+        let before = *word;
+        *word |= 1 << (tag % 64);
+        *word == before
+    });
+    found.map_or(NOWHERE, |(place, _)| place)
+}
+
+/// The place of the first id that stood before.
+#[cold]
+#[inline(never)]
+pub fn first_id(ids: impl Iterator<Item = (usize, u64)> + Clone) -> usize {
+    // A sheet holds fewer than 8,192 targets, half the larger table.
+    first_in::<1_024>(ids.clone())
+        .or_else(|| first_in::<16_384>(ids))
+        .unwrap_or(NOWHERE)
+}
+
+/// The same by a table of `SLOTS`, or nothing once it is half full.
+#[inline(never)]
+fn first_in<const SLOTS: usize>(ids: impl Iterator<Item = (usize, u64)>) -> Option<usize> {
+    let mut slots = [0u64; SLOTS];
+    let mut room = SLOTS / 2;
+    for (place, id) in ids {
+        let key = id.wrapping_add(1);
+        let spread = key.wrapping_mul(0x9E37_79B9_7F4A_7C15);
+        let mut slot = (spread >> (64 - SLOTS.trailing_zeros())) as usize % SLOTS;
+        while slots[slot] != 0 && slots[slot] != key {
+            slot = (slot + 1) % SLOTS;
+        }
+        if slots[slot] == key {
+            return Some(place);
+        }
+        if room == 0 {
+            return None;
+        }
+        room -= 1;
+        slots[slot] = key;
+    }
+    Some(NOWHERE)
+}

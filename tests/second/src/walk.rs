@@ -1,0 +1,81 @@
+//! The second pass: over a packet already checked, without questions.
+//! Where the bytes cannot be read on, it just ends.
+
+use crate::packet::{read_item, read_pack, Item, Pack, Visit};
+use crate::table::Kind;
+
+/// The items of a set or a pack, which ends where `bytes` do.
+#[derive(Clone)]
+pub(crate) struct Items<'a, const SET: bool> {
+    bytes: &'a [u8],
+    at: usize,
+}
+
+impl<'a, const SET: bool> Items<'a, SET> {
+    #[inline]
+    pub(crate) fn new(bytes: &'a [u8], at: usize) -> Self {
+        Items { bytes, at }
+    }
+}
+
+impl<const SET: bool> Iterator for Items<'_, SET> {
+    type Item = Item;
+
+    #[inline(always)]
+    fn next(&mut self) -> Option<Item> {
+        let item = read_item::<SET>(self.bytes, self.at).ok()?;
+        self.at = item.end;
+        Some(item)
+    }
+}
+
+/// The packs of a series, which ends where `bytes` do.
+#[derive(Clone)]
+pub(crate) struct Packs<'a> {
+    bytes: &'a [u8],
+    at: usize,
+}
+
+impl<'a> Packs<'a> {
+    #[inline]
+    pub(crate) fn new(bytes: &'a [u8], at: usize) -> Self {
+        Packs { bytes, at }
+    }
+}
+
+impl Iterator for Packs<'_> {
+    type Item = Pack;
+
+    #[inline(always)]
+    fn next(&mut self) -> Option<Pack> {
+        let pack = read_pack(self.bytes, self.at).ok()?;
+        self.at = pack.end;
+        Some(pack)
+    }
+}
+
+/// Tells a visitor of a checked packet, whose set begins at `start`.
+pub(crate) fn walk(packet: &[u8], start: usize, visit: &mut impl Visit) {
+    for item in Items::<true>::new(packet, start) {
+        match item.kind {
+            Kind::Series => {
+                visit.series(&item);
+                walk_series(&packet[..item.end], item.start, visit);
+                visit.series_end(&item);
+            }
+            Kind::Checksum => visit.checksum(&item),
+            _ => visit.set_item(&item),
+        }
+    }
+}
+
+#[inline]
+fn walk_series(bytes: &[u8], start: usize, visit: &mut impl Visit) {
+    for pack in Packs::new(bytes, start) {
+        visit.pack(&pack);
+        for item in Items::<false>::new(&bytes[..pack.end], pack.items) {
+            visit.pack_item(&item);
+        }
+        visit.pack_end(&pack);
+    }
+}

@@ -1,3 +1,6 @@
 -- The laws of the definitions, a folder for each layer.
 pub mod words
+pub mod coding
+pub mod table
+pub mod reading
 mod tables

@@ -1,3 +1,5 @@
 -- The vocabulary that every law uses: answers taken apart, tests, bytes, lists.
 pub mod Answers
 pub mod Bytes
+pub mod Keys
+pub mod Flats

@@ -25,7 +25,7 @@ pub fn tag(bytes: &[u8], at: usize) -> Result<(u16, usize), u8> {
         [0, ..] => Err(BAD_TAG),
         [only @ 1..=0x7F, ..] => Ok((u16::from(only), at + 1)),
         [_] => Err(CUT),
-        [0x80, ..] | [_, 0x80.., ..] => Err(BAD_TAG),
+        [0x80, ..] | [_, 0x80..=0xFF, ..] => Err(BAD_TAG),
         [high, low, ..] => Ok((u16::from(high & 0x7F) << 7 | u16::from(low), at + 2)),
     }
 }
@@ -57,7 +57,11 @@ pub fn id(bytes: &[u8], at: usize) -> Result<(u64, usize), u8> {
         value = value << 7 | u64::from(byte & 0x7F);
         if byte < 0x80 {
             let padded = rest[0] == 0x80;
-            return if padded { Err(BAD_ID) } else { Ok((value, at + index + 1)) };
+            return if padded {
+                Err(BAD_ID)
+            } else {
+                Ok((value, at + index + 1))
+            };
         }
     }
     Err(if rest.len() < ID_WIDTH { CUT } else { BAD_ID })

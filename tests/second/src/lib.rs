@@ -22,6 +22,7 @@ mod rows;
 pub mod sheet;
 mod show;
 pub mod table;
+mod walk;
 mod write;
 
 pub use edit::{edit, Change};

@@ -84,7 +84,9 @@ pub fn check(form: Form, packet: &[u8], visit: &mut impl Visit) -> Result<usize,
     let mut checksum = None;
     let mut at = start;
     while at < packet.len() {
-        let item = level.item::<true>(at).or_else(|number| refuse(number, at))?;
+        let item = level
+            .item::<true>(at)
+            .or_else(|number| refuse(number, at))?;
         match item.kind {
             Kind::Series => {
                 visit.series(&item);
@@ -170,7 +172,13 @@ pub(crate) fn read_pack(bytes: &[u8], place: usize) -> Result<Pack, u8> {
     }
     let end = start + length;
     let (id, items) = coding::id(&bytes[..end], start)?;
-    Ok(Pack { id, place, start, items, end })
+    Ok(Pack {
+        id,
+        place,
+        start,
+        items,
+        end,
+    })
 }
 
 /// The items of a pack, which ends where `bytes` do: is tag 17 there?
@@ -185,7 +193,9 @@ fn check_pack(
     let mut located = false;
     let mut at = start;
     while at < bytes.len() {
-        let item = level.item::<false>(at).or_else(|number| refuse(number, at))?;
+        let item = level
+            .item::<false>(at)
+            .or_else(|number| refuse(number, at))?;
         located |= item.kind == Kind::Location;
         visit.pack_item(&item);
         at = item.end;
@@ -205,7 +215,12 @@ struct Level<'a> {
 impl<'a> Level<'a> {
     #[inline]
     fn new(bytes: &'a [u8], start: usize, standalone: bool) -> Level<'a> {
-        Level { bytes, start, standalone, tags: Rising::new() }
+        Level {
+            bytes,
+            start,
+            standalone,
+            tags: Rising::new(),
+        }
     }
 
     /// One item, by the one rule for both levels: 3, 4, 3, 5, 6, 7, 9, 13,
@@ -217,11 +232,16 @@ impl<'a> Level<'a> {
         if item.end == item.start {
             return Err(EMPTY);
         }
-        let first = || first_tag(Items::<SET>::new(bytes, start).map(|item| (item.place, item.tag)));
+        let first =
+            || first_tag(Items::<SET>::new(bytes, start).map(|item| (item.place, item.tag)));
         if self.tags.repeats(u64::from(item.tag), at, first) {
             return Err(TAG_REPEATED);
         }
-        let rule = if SET { set_rule(item.tag) } else { pack_rule(item.tag) };
+        let rule = if SET {
+            set_rule(item.tag)
+        } else {
+            pack_rule(item.tag)
+        };
         if SET && item.kind == Kind::Checksum && !(self.standalone && item.end == bytes.len()) {
             return Err(MAY_NOT_STAND);
         }
@@ -246,7 +266,7 @@ impl<'a> Level<'a> {
 pub(crate) fn read_item<const SET: bool>(bytes: &[u8], place: usize) -> Result<Item, u8> {
     let (tag, length, start) = match *bytes.get(place..).unwrap_or(&[]) {
         // Nearly every item: one byte each of tag and length.
-        [tag @ 1..=0x7F, length @ ..=0x7F, ..] => (u16::from(tag), usize::from(length), place + 2),
+        [tag @ 1..=0x7F, length @ 0..=0x7F, ..] => (u16::from(tag), usize::from(length), place + 2),
         _ => long_head(bytes, place)?,
     };
     let rule = if SET { set_rule(tag) } else { pack_rule(tag) };
@@ -263,7 +283,14 @@ pub(crate) fn read_item<const SET: bool>(bytes: &[u8], place: usize) -> Result<I
             short += 1;
         }
     }
-    Ok(Item { tag, kind: rule.kind, place, start, short, end })
+    Ok(Item {
+        tag,
+        kind: rule.kind,
+        place,
+        start,
+        short,
+        end,
+    })
 }
 
 #[inline(never)]

@@ -18,7 +18,10 @@ const NOWHERE: usize = usize::MAX;
 impl Rising {
     #[inline]
     pub fn new() -> Rising {
-        Rising { greatest: 0, repeat: None }
+        Rising {
+            greatest: 0,
+            repeat: None,
+        }
     }
 
     /// Whether the number at this place stood before; `number` is above 0.

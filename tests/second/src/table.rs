@@ -44,7 +44,12 @@ impl Rule {
 }
 
 const fn rule(kind: Kind, least: u16, greatest: u16) -> Rule {
-    Rule { kind, offset: false, least, greatest }
+    Rule {
+        kind,
+        offset: false,
+        least,
+        greatest,
+    }
 }
 
 const fn number(width: u16) -> Rule {
@@ -64,7 +69,12 @@ const fn text(greatest: u16) -> Rule {
 }
 
 const fn offset() -> Rule {
-    Rule { kind: Kind::Bytes, offset: true, least: 3, greatest: 3 }
+    Rule {
+        kind: Kind::Bytes,
+        offset: true,
+        least: 3,
+        greatest: 3,
+    }
 }
 
 /// One or more bytes; no packet holds more than this.
@@ -72,16 +82,16 @@ static UNLISTED: Rule = rule(Kind::Bytes, 1, u16::MAX);
 
 const SET_ITEMS: &[(usize, Rule)] = &[
     (1, rule(Kind::Checksum, 2, 2)),
-    (2, bytes(8)),  // time stamp
-    (3, text(32)),  // system name
-    (4, number(2)), // version
-    (5, number(3)), // targets detected
-    (6, number(3)), // targets reported
-    (8, number(3)), // frame width
-    (9, number(3)), // frame height
+    (2, bytes(8)),   // time stamp
+    (3, text(32)),   // system name
+    (4, number(2)),  // version
+    (5, number(3)),  // targets detected
+    (6, number(3)),  // targets reported
+    (8, number(3)),  // frame width
+    (9, number(3)),  // frame height
     (10, text(128)), // source sensor
-    (11, bytes(2)), // horizontal field of view
-    (12, bytes(2)), // vertical field of view
+    (11, bytes(2)),  // horizontal field of view
+    (12, bytes(2)),  // vertical field of view
     (101, rule(Kind::Series, 1, u16::MAX)),
 ];
 

@@ -1,0 +1,5 @@
+-- Reading: what is accepted is what is valid, for items, packs, series and packets.
+pub mod Runs
+pub mod Items
+pub mod Packs
+pub mod Entries

@@ -3,3 +3,5 @@ pub mod Runs
 pub mod Items
 pub mod Packs
 pub mod Entries
+pub mod Seal
+pub mod Packets

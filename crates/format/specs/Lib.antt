@@ -12,3 +12,4 @@ pub mod Edit
 pub mod Show
 pub mod Room
 pub mod Valid
+pub mod demands

@@ -82,6 +82,12 @@ pub record Valid (p : Packet) : Type 0 where
   pub begins : Begins (p .form) (map tagOfEntry (p .entries))
   pub framed : Framed (p .form) (p .width) (flatAll flatEntry (p .entries)) (p .sum)
 
+-- the tree lies flat as these bytes, and meets each rule
+pub record Lies (f : Form) (s : List ℕ) (p : Packet) : Type 0 where
+  pub form-is : p .form ≡ f
+  pub lies-flat : flat p ≡ s
+  pub valid : Valid p
+
 -- ---- a sheet
 
 pub record ValValid (l : Level) (f : Form) (v : Val) : Type 0 where

@@ -1,9 +1,10 @@
 //! Edit one item of a packet, keeping all that stands elsewhere.
 
+use crate::check_packet::check;
 use crate::coding::{length_width, shortest, tag_width, TAG_LIMIT};
 use crate::find::{Find, Level};
 use crate::out::Out;
-use crate::packet::{check, Form, Item, Pack, KEY};
+use crate::packet::{Form, Item, Pack, KEY};
 use crate::refusal::*;
 use crate::table::{pack_rule, set_rule, Kind, Rule};
 use crate::PACKET_LIMIT;

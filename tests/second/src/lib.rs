@@ -7,6 +7,8 @@
 
 #![forbid(unsafe_code)]
 
+mod check_packet;
+mod check_sheet;
 pub mod coding;
 mod edit;
 mod find;

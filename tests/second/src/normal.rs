@@ -1,8 +1,9 @@
 //! Normalise: a packet's sheet written afresh, without the sheet.
 
+use crate::check_packet::check;
 use crate::coding::{length_width, tag_width};
 use crate::out::Out;
-use crate::packet::{check, Form, Item, Pack, Visit, KEY};
+use crate::packet::{Form, Item, Pack, Visit, KEY};
 use crate::refusal::{room, Answer};
 use crate::walk::walk;
 

@@ -1,12 +1,8 @@
-//! The checking pass over a packet: a set holds a series, a series holds
-//! packs, a pack holds items, and the first fault is answered.
+//! What a packet is made of: items and packs, by their offsets.
 
 use crate::coding;
-use crate::refusal::*;
-use crate::repeat::{first_id, first_tag, Rising};
+use crate::refusal::{BAD_LENGTH, PAST_END};
 use crate::table::{pack_rule, set_rule, Kind};
-use crate::walk::{Items, Packs};
-use crate::PACKET_LIMIT;
 
 /// Which of the two forms a packet has.
 #[derive(Clone, Copy, Debug, PartialEq, Eq)]
@@ -75,192 +71,6 @@ pub trait Visit {
     fn series_end(&mut self, _item: &Item) {}
 }
 
-/// Checks a packet and gives where its set begins. A visitor hears of items
-/// before a later fault is found, so it may only take notes.
-pub fn check(form: Form, packet: &[u8], visit: &mut impl Visit) -> Result<usize, Refusal> {
-    let start = open(form, packet)?;
-    let standalone = form == Form::Standalone;
-    let mut level = Level::new(packet, start, standalone);
-    let mut checksum = None;
-    let mut at = start;
-    while at < packet.len() {
-        let item = level
-            .item::<true>(at)
-            .or_else(|number| refuse(number, at))?;
-        match item.kind {
-            Kind::Series => {
-                visit.series(&item);
-                check_series(&packet[..item.end], item.start, standalone, visit)?;
-                visit.series_end(&item);
-            }
-            Kind::Checksum => {
-                visit.checksum(&item);
-                checksum = Some(item);
-            }
-            _ => visit.set_item(&item),
-        }
-        at = item.end;
-    }
-    if standalone {
-        check_sum(packet, checksum)?;
-    }
-    Ok(start)
-}
-
-/// 1, 2 and the outer length: where the set begins.
-fn open(form: Form, packet: &[u8]) -> Result<usize, Refusal> {
-    if packet.len() > PACKET_LIMIT {
-        return refuse(OVER_LIMIT, 0);
-    }
-    if form == Form::Embedded {
-        return Ok(0);
-    }
-    if !packet.starts_with(&KEY) {
-        return refuse(NOT_KEY, 0);
-    }
-    match coding::length(packet, KEY.len()) {
-        Ok((length, start)) if length == packet.len() - start => Ok(start),
-        Ok(_) => refuse(PAST_END, 0),
-        Err(number) => refuse(number, 0),
-    }
-}
-
-/// The end of a standalone packet: 14, then 15.
-fn check_sum(packet: &[u8], item: Option<Item>) -> Result<(), Refusal> {
-    let Some(item) = item else {
-        return refuse(MISSING, packet.len());
-    };
-    let sum = coding::checksum(&packet[..item.start]);
-    if packet[item.start..item.end] != sum.to_be_bytes() {
-        return refuse(CHECKSUM_DIFFERS, item.place);
-    }
-    Ok(())
-}
-
-/// The packs of a series, which ends where `bytes` do.
-fn check_series(
-    bytes: &[u8],
-    start: usize,
-    standalone: bool,
-    visit: &mut impl Visit,
-) -> Result<(), Refusal> {
-    let mut ids = Rising::new();
-    let mut at = start;
-    while at < bytes.len() {
-        let pack = read_pack(bytes, at).or_else(|number| refuse(number, at))?;
-        let first = || first_id(Packs::new(bytes, start).map(|pack| (pack.place, pack.id)));
-        if ids.repeats(pack.id + 1, at, first) {
-            return refuse(ID_REPEATED, at);
-        }
-        visit.pack(&pack);
-        let located = check_pack(&bytes[..pack.end], pack.items, standalone, visit)?;
-        if standalone && !located {
-            return refuse(MISSING, at);
-        }
-        visit.pack_end(&pack);
-        at = pack.end;
-    }
-    Ok(())
-}
-
-/// A pack's length and id: 3, 5, 6, 3, 8.
-#[inline]
-pub(crate) fn read_pack(bytes: &[u8], place: usize) -> Result<Pack, u8> {
-    let (length, start) = coding::length(bytes, place)?;
-    if length > bytes.len() - start {
-        return Err(PAST_END);
-    }
-    let end = start + length;
-    let (id, items) = coding::id(&bytes[..end], start)?;
-    Ok(Pack {
-        id,
-        place,
-        start,
-        items,
-        end,
-    })
-}
-
-/// The items of a pack, which ends where `bytes` do: is tag 17 there?
-#[inline]
-fn check_pack(
-    bytes: &[u8],
-    start: usize,
-    standalone: bool,
-    visit: &mut impl Visit,
-) -> Result<bool, Refusal> {
-    let mut level = Level::new(bytes, start, standalone);
-    let mut located = false;
-    let mut at = start;
-    while at < bytes.len() {
-        let item = level
-            .item::<false>(at)
-            .or_else(|number| refuse(number, at))?;
-        located |= item.kind == Kind::Location;
-        visit.pack_item(&item);
-        at = item.end;
-    }
-    Ok(located)
-}
-
-/// A set or a pack while its items are checked.
-struct Level<'a> {
-    /// The packet up to the level's end.
-    bytes: &'a [u8],
-    start: usize,
-    standalone: bool,
-    tags: Rising,
-}
-
-impl<'a> Level<'a> {
-    #[inline]
-    fn new(bytes: &'a [u8], start: usize, standalone: bool) -> Level<'a> {
-        Level {
-            bytes,
-            start,
-            standalone,
-            tags: Rising::new(),
-        }
-    }
-
-    /// One item, by the one rule for both levels: 3, 4, 3, 5, 6, 7, 9, 13,
-    /// 14, 11, 12.
-    #[inline(always)]
-    fn item<const SET: bool>(&mut self, at: usize) -> Result<Item, u8> {
-        let (bytes, start) = (self.bytes, self.start);
-        let item = read_item::<SET>(bytes, at)?;
-        if item.end == item.start {
-            return Err(EMPTY);
-        }
-        let first =
-            || first_tag(Items::<SET>::new(bytes, start).map(|item| (item.place, item.tag)));
-        if self.tags.repeats(u64::from(item.tag), at, first) {
-            return Err(TAG_REPEATED);
-        }
-        let rule = if SET {
-            set_rule(item.tag)
-        } else {
-            pack_rule(item.tag)
-        };
-        if SET && item.kind == Kind::Checksum && !(self.standalone && item.end == bytes.len()) {
-            return Err(MAY_NOT_STAND);
-        }
-        if !SET && rule.offset && self.standalone {
-            return Err(MAY_NOT_STAND);
-        }
-        if SET && self.standalone && at == start && item.tag != 2 {
-            return Err(MISSING);
-        }
-        if !rule.allows(item.end - item.start) {
-            return Err(LENGTH_NOT_ALLOWED);
-        }
-        if !SET && item.kind == Kind::Pixel && bytes[item.short] == 0 {
-            return Err(PIXEL_ZERO);
-        }
-        Ok(item)
-    }
-}
-
 /// An item's tag and length, and its value's part: 3, 4, 3, 5, 6.
 #[inline(always)]
 pub(crate) fn read_item<const SET: bool>(bytes: &[u8], place: usize) -> Result<Item, u8> {
@@ -298,4 +108,22 @@ fn long_head(bytes: &[u8], place: usize) -> Result<(u16, usize, usize), u8> {
     let (tag, after) = coding::tag(bytes, place)?;
     let (length, start) = coding::length(bytes, after)?;
     Ok((tag, length, start))
+}
+
+/// A pack's length and id: 3, 5, 6, 3, 8.
+#[inline]
+pub(crate) fn read_pack(bytes: &[u8], place: usize) -> Result<Pack, u8> {
+    let (length, start) = coding::length(bytes, place)?;
+    if length > bytes.len() - start {
+        return Err(PAST_END);
+    }
+    let end = start + length;
+    let (id, items) = coding::id(&bytes[..end], start)?;
+    Ok(Pack {
+        id,
+        place,
+        start,
+        items,
+        end,
+    })
 }

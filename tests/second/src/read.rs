@@ -1,6 +1,7 @@
 //! Read a packet to a sheet.
 
-use crate::packet::{check, Form, Item, Pack, Visit};
+use crate::check_packet::check;
+use crate::packet::{Form, Item, Pack, Visit};
 use crate::refusal::{room, Answer};
 use crate::sheet::{IT, PK, TG, TI, TS};
 use crate::walk::walk;

@@ -1,6 +1,7 @@
 //! Locate: rows, one for each item and pack.
 
-use crate::packet::{check, Form, Item, Pack, Visit};
+use crate::check_packet::check;
+use crate::packet::{Form, Item, Pack, Visit};
 use crate::refusal::{room, Answer};
 use crate::walk::walk;
 

@@ -1,7 +1,8 @@
 //! Show one value: a part of the reviewer's packet, else of the detector's.
 
+use crate::check_packet::check;
 use crate::find::{Find, Level};
-use crate::packet::{check, Form, Item};
+use crate::packet::{Form, Item};
 use crate::refusal::Refusal;
 
 /// Whose packet a part belongs to.

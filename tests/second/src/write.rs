@@ -1,10 +1,11 @@
 //! Write a sheet to a packet.
 
+use crate::check_sheet::check;
 use crate::normal::Sizes;
 use crate::out::Out;
 use crate::packet::Form;
 use crate::refusal::{room, Answer};
-use crate::sheet::{check, Record, Records, OPENING};
+use crate::sheet::{Record, Records, OPENING};
 
 /// Writes a sheet's packet: the count of bytes written.
 pub fn write(sheet: &[u8], packet: &mut [u8]) -> Answer {

@@ -68,7 +68,8 @@ packs-valid f ps b h =
 
 packs-read : (f : Form) (ps : List Pack) → Together idOfPack (PackValid f) ps → Along idOfPack flatPack (ReadsAt always idOfPack (onePack f) flatPack) [] ps []
 packs-read f ps h =
-    free-along always idOfPack (onePack f) flatPack (PackValid f) (λ seen p t n g. pack-reads f seen p t (record { new = n; valid = g })) ps [] h
+    free-along always idOfPack (onePack f) flatPack (PackValid f) (λ t. Unit {0}) (λ p t. tt) (λ seen p t n _ g. pack-reads f seen p t (record { new = n; valid = g }))
+    ps [] tt h
 
 -- ---- the entry
 
@@ -122,7 +123,7 @@ read-some f seen (series w ps) last h = rw (series-flat w ps, length-item (serie
 -- ---- as steps of a run
 
 pub entry-faithful : (f : Form) → Faithful always tagOfEntry (entry f) flatEntry
-entry-faithful f seen s r b e = entry-says f seen s r b e .0
+entry-faithful f seen s r b _ e = entry-says f seen s r b e .0
 
 pub entry-stood : (f : Form) (seen : List ℕ) (e : Entry) (t : List ℕ) → Bytes (flatEntry e ++ t) → ReadsAt always tagOfEntry (entry f) flatEntry seen e t → EntryRead f seen e (none? t)
 entry-stood f seen e t b h = rw (ends-none (flatEntry e) t) at (entry-says f seen (flatEntry e ++ t) (got e (length (flatEntry e))) b (h .reads) .1)

@@ -183,7 +183,7 @@ item-back l f seen i t h =
 -- ---- as steps of a run
 
 pub item-faithful : (l : Level) (f : Form) → Faithful always tagOfItem (item l f) flatItem
-item-faithful l f seen s r b e = item-says l f seen s r b e .0
+item-faithful l f seen s r b _ e = item-says l f seen s r b e .0
 
 -- an item that was read where it stands
 pub item-stood : (l : Level) (f : Form) (seen : List ℕ) (i : Item) (t : List ℕ) → Bytes (flatItem i ++ t) → ReadsAt always tagOfItem (item l f) flatItem seen i t

@@ -46,8 +46,8 @@ items-valid f is b h =
 
 items-read : (f : Form) (is : List Item) → Together tagOfItem (ItemValid pack f) is → Along tagOfItem flatItem (ReadsAt always tagOfItem (item pack f) flatItem) [] is []
 items-read f is h =
-    free-along always tagOfItem (item pack f) flatItem (ItemValid pack f)
-    (λ seen i t n g. item-reads pack f seen i t (valid-item pack f seen i (none? t) n (begin-pack f (i .tag) seen) g)) is [] h
+    free-along always tagOfItem (item pack f) flatItem (ItemValid pack f) (λ t. Unit {0}) (λ i t. tt)
+    (λ seen i t n _ g. item-reads pack f seen i t (valid-item pack f seen i (none? t) n (begin-pack f (i .tag) seen) g)) is [] tt h
 
 -- ---- the head
 
@@ -161,7 +161,7 @@ pack-back f seen p t h =
 -- ---- as steps of a run
 
 pub pack-faithful : (f : Form) → Faithful always idOfPack (onePack f) flatPack
-pack-faithful f seen s r b e = pack-says f seen s r b e .0
+pack-faithful f seen s r b _ e = pack-says f seen s r b e .0
 
 pub pack-stood : (f : Form) (seen : List ℕ) (p : Pack) (t : List ℕ) → Bytes (flatPack p ++ t) → ReadsAt always idOfPack (onePack f) flatPack seen p t → PackRead f seen p
 pack-stood f seen p t b h = pack-says f seen (flatPack p ++ t) (got p (length (flatPack p))) b (h .reads) .1

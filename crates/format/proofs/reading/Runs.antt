@@ -43,21 +43,27 @@ module _ {X : Type 0} (key : X → ℕ) (flat : X → List ℕ) where
   along-fresh P g seen [] t h = tt
   along-fresh P g seen (x ∷ xs) t h = (g seen x _ (h .0), along-fresh P g (key x ∷ seen) xs t (h .1))
 
-  -- The other way. B is what the first asks, and every later one has.
+  -- The other way. B is what the first asks, and every later one has; T is known of the bytes that follow a thing.
   abbrev pub First : (List ℕ → ℕ → Type 0) → List ℕ → List X → Type 0
   First B seen [] = Unit {0}
   First B seen (x ∷ xs) = B seen (key x)
 
-  pub along-from : (P : List ℕ → X → List ℕ → Type 0) (Q : X → Type 0) (B : List ℕ → ℕ → Type 0) → ((k : ℕ) (seen : List ℕ) (j : ℕ) → B (k ∷ seen) j)
-      → ((seen : List ℕ) (x : X) (t : List ℕ) → has (key x) seen ≡ false → B seen (key x) → Q x → P seen x t)
-      → (seen : List ℕ) (xs : List X) (t : List ℕ) → First B seen xs → Fresh seen (map key xs) → All Q xs → Along P seen xs t
-  along-from P Q B later g seen [] t b f h = tt
-  along-from P Q B later g seen (x ∷ xs) t b f h =
-      (g seen x _ (f .0) b (h .0), along-from P Q B later g (key x ∷ seen) xs t (first (key x) seen xs) (f .1) (h .1))
-    where
-      first : (k : ℕ) (seen : List ℕ) (xs : List X) → First B (k ∷ seen) xs
-      first k seen [] = tt
-      first k seen (y ∷ ys) = later k seen (key y)
+  module _ (P : List ℕ → X → List ℕ → Type 0) (Q : X → Type 0) (B : List ℕ → ℕ → Type 0) (T : List ℕ → Type 0)
+      (later : (k : ℕ) (seen : List ℕ) (j : ℕ) → B (k ∷ seen) j) (next : (x : X) (t : List ℕ) → T (flat x ++ t))
+      (reads : (seen : List ℕ) (x : X) (t : List ℕ) → has (key x) seen ≡ false → B seen (key x) → T t → Q x → P seen x t) where
+    first-later : (k : ℕ) (seen : List ℕ) (xs : List X) → First B (k ∷ seen) xs
+    first-later k seen [] = tt
+    first-later k seen (y ∷ ys) = later k seen (key y)
+
+    follows : (xs : List X) (t : List ℕ) → T t → T (flatAll flat xs ++ t)
+    unfolding flatAll
+    follows [] t h = h
+    follows (x ∷ xs) t h = rw append-assoc (next x (flatAll flat xs ++ t))
+
+    pub along-from : (seen : List ℕ) (xs : List X) (t : List ℕ) → First B seen xs → T t → Fresh seen (map key xs) → All Q xs → Along P seen xs t
+    along-from seen [] t b z f h = tt
+    along-from seen (x ∷ xs) t b z f h =
+        (reads seen x _ (f .0) b (follows xs t z) (h .0), along-from (key x ∷ seen) xs t (first-later (key x) seen xs) z (f .1) (h .1))
 
   pub along-snoc : (P : List ℕ → X → List ℕ → Type 0) (seen : List ℕ) (xs : List X) (y : X) (t : List ℕ)
       → Along P seen xs (flat y ++ t) → P (past key seen xs) y t → Along P seen (xs ++ (y ∷ [])) t
@@ -79,7 +85,7 @@ Stops more (b ∷ s) = more (b ∷ s) ≡ false
 module _ {X : Type 0} (more : List ℕ → Bool) (key : X → ℕ) (step : Step X) (flat : X → List ℕ) where
   -- what a step takes is what it gives, flat
   abbrev pub Faithful : Type 0
-  Faithful = (seen s : List ℕ) (r : Got X) → Bytes s → step seen s ≡ ok r → Took (flat (r .val)) s (r .used)
+  Faithful = (seen s : List ℕ) (r : Got X) → Bytes s → more s ≡ true → step seen s ≡ ok r → Took (flat (r .val)) s (r .used)
 
   -- a thing is read back where it stands
   pub record ReadsAt (seen : List ℕ) (x : X) (t : List ℕ) : Type 0 where
@@ -104,7 +110,7 @@ module _ {X : Type 0} (more : List ℕ → Bool) (key : X → ℕ) (step : Step 
       → Ran (key (r .val) ∷ seen) (drop (r .used - 1) s) qs → Ran seen (b ∷ s) (got (r .val ∷ qs .val) (r .used + qs .used))
   unfolding flatAll
   ran-more F seen b s r qs h m e q =
-      let t : Took (flat (r .val)) (b ∷ s) (r .used) = F seen (b ∷ s) r h e in
+      let t : Took (flat (r .val)) (b ∷ s) (r .used) = F seen (b ∷ s) r h m e in
       let l : length (flat (r .val)) ≡ r .used = took-length _ _ _ t in
       let z : b ∷ s ≡ flat (r .val) ++ (flatAll flat (qs .val) ++ q .rest)
       = t .bytes ∙ ap (λ x. flat (r .val) ++ x) (drop-pred (r .used) b s (t .pos) ∙ q .bytes) in
@@ -181,16 +187,18 @@ module _ {X : Type 0} (more : List ℕ → Bool) (key : X → ℕ) (step : Step 
         each = along-all key flat P Q (λ seen x t g. g .1) [] xs t k;
       }
 
-  -- B is what the first asks, and every later one has
-  pub together-along : (B : List ℕ → ℕ → Type 0) → ((k : ℕ) (seen : List ℕ) (j : ℕ) → B (k ∷ seen) j)
-      → ((seen : List ℕ) (x : X) (t : List ℕ) → has (key x) seen ≡ false → B seen (key x) → Q x → ReadsAt more key step flat seen x t)
-      → (xs : List X) (t : List ℕ) → First key flat B [] xs → Together key Q xs → Along key flat (ReadsAt more key step flat) [] xs t
-  together-along B later reads xs t b h = along-from key flat _ Q B later reads [] xs t b (once-fresh (map key xs) (h .once)) (h .each)
+  -- B, T: as of `along-from`
+  pub together-along : (B : List ℕ → ℕ → Type 0) (T : List ℕ → Type 0) → ((k : ℕ) (seen : List ℕ) (j : ℕ) → B (k ∷ seen) j) → ((x : X) (t : List ℕ) → T (flat x ++ t))
+      → ((seen : List ℕ) (x : X) (t : List ℕ) → has (key x) seen ≡ false → B seen (key x) → T t → Q x → ReadsAt more key step flat seen x t)
+      → (xs : List X) (t : List ℕ) → First key flat B [] xs → T t → Together key Q xs → Along key flat (ReadsAt more key step flat) [] xs t
+  together-along B T later next reads xs t b z h = along-from key flat _ Q B T later next reads [] xs t b z (once-fresh (map key xs) (h .once)) (h .each)
 
   -- the same where nothing is asked of the first
-  pub free-along : ((seen : List ℕ) (x : X) (t : List ℕ) → has (key x) seen ≡ false → Q x → ReadsAt more key step flat seen x t)
-      → (xs : List X) (t : List ℕ) → Together key Q xs → Along key flat (ReadsAt more key step flat) [] xs t
-  free-along reads xs t h = together-along (λ seen k. Unit {0}) (λ k seen j. tt) (λ seen x t n _ q. reads seen x t n q) xs t (first xs) h
+  pub free-along : (T : List ℕ → Type 0) → ((x : X) (t : List ℕ) → T (flat x ++ t))
+      → ((seen : List ℕ) (x : X) (t : List ℕ) → has (key x) seen ≡ false → T t → Q x → ReadsAt more key step flat seen x t)
+      → (xs : List X) (t : List ℕ) → T t → Together key Q xs → Along key flat (ReadsAt more key step flat) [] xs t
+  free-along T next reads xs t z h =
+      together-along (λ seen k. Unit {0}) T (λ k seen j. tt) next (λ seen x t n _ z q. reads seen x t n z q) xs t (first xs) z h
     where
       first : (xs : List X) → First key flat (λ seen k. Unit {0}) [] xs
       first [] = tt

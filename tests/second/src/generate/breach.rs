@@ -31,7 +31,11 @@ pub(super) fn id_repeated(random: &mut Random, tree: &mut Tree) {
     let ids = tree.ids();
     let id = if ids.is_empty() { 5 } else { random.pick(&ids) };
     let again = match random.once_in(2) {
-        true => Node::Pack { width: 0, id, items: Vec::new() },
+        true => Node::Pack {
+            width: 0,
+            id,
+            items: Vec::new(),
+        },
         false => valid::pack(random, tree.form, id, 3, valid::NORMAL),
     };
     let packs = packs(random, tree);
@@ -41,9 +45,19 @@ pub(super) fn id_repeated(random: &mut Random, tree: &mut Tree) {
 /// A length just outside what the rule allows.
 fn wrong_length(random: &mut Random, rule: &Rule) -> usize {
     let (least, greatest) = (usize::from(rule.least), usize::from(rule.greatest));
-    let choices = [greatest + 1, greatest + 2, least.saturating_sub(1), least / 2, 11, 13, 17];
-    let wrong: Vec<usize> =
-        choices.into_iter().filter(|&length| length > 0 && !rule.allows(length)).collect();
+    let choices = [
+        greatest + 1,
+        greatest + 2,
+        least.saturating_sub(1),
+        least / 2,
+        11,
+        13,
+        17,
+    ];
+    let wrong: Vec<usize> = choices
+        .into_iter()
+        .filter(|&length| length > 0 && !rule.allows(length))
+        .collect();
     random.pick(&wrong)
 }
 
@@ -96,7 +110,8 @@ pub(super) fn missing(random: &mut Random, tree: &mut Tree) {
         }
         2 => {
             let other = valid::unlisted(random).max(2);
-            tree.set.insert(0, Node::item(if other == 101 { 3 } else { other }, &[7, 7]));
+            tree.set
+                .insert(0, Node::item(if other == 101 { 3 } else { other }, &[7, 7]));
         }
         _ => {
             let nodes = pack(random, tree);

@@ -45,7 +45,11 @@ pub(super) fn packs<'a>(random: &mut Random, tree: &'a mut Tree) -> &'a mut Vec<
 pub(super) fn pack<'a>(random: &mut Random, tree: &'a mut Tree) -> &'a mut Vec<Node> {
     let packs = packs(random, tree);
     if !packs.iter().any(|node| matches!(node, Node::Pack { .. })) {
-        packs.push(Node::Pack { width: 0, id: 5, items: Vec::new() });
+        packs.push(Node::Pack {
+            width: 0,
+            id: 5,
+            items: Vec::new(),
+        });
     }
     let mut choices: Vec<&mut Vec<Node>> = packs
         .iter_mut()
@@ -82,7 +86,11 @@ fn over_limit(random: &mut Random, tree: &mut Tree) {
 
 fn key(random: &mut Random, tree: &mut Tree) {
     if random.once_in(3) {
-        *tree = Tree { set: Vec::new(), outer: Outer::Raw(Vec::new()), ..tree.clone() };
+        *tree = Tree {
+            set: Vec::new(),
+            outer: Outer::Raw(Vec::new()),
+            ..tree.clone()
+        };
         tree.tail = Tail::Raw(Vec::new());
         tree.key.truncate(random.below(16));
     } else {
@@ -96,28 +104,47 @@ fn key(random: &mut Random, tree: &mut Tree) {
 fn cut(random: &mut Random, tree: &mut Tree) {
     let two_bytes = [0x81 + random.byte() % 0x7F, random.byte() & 0x7F];
     let tag = 24 + random.byte() % 70;
-    let item: &[u8] = random.pick(&[
-        &two_bytes[..1],
-        &[0x80],
-        &two_bytes[..],
-        &[tag],
-        &[tag, 0x81],
-        &[tag, 0x82, 0],
-        &[tag, 0x84, 0, 0, 0],
-        &[1, 0x81],
+    let item = random.pick(&[
+        two_bytes[..1].to_vec(),
+        vec![0x80],
+        two_bytes.to_vec(),
+        vec![tag],
+        vec![tag, 0x81],
+        vec![tag, 0x82, 0],
+        vec![tag, 0x84, 0, 0, 0],
+        vec![1, 0x81],
     ]);
-    let pack: &[u8] =
-        random.pick(&[&[0x81], &[0x83, 0], &[0], &[1, 0x80], &[2, 0x85, 0x80], &[8, 255, 255, 255, 255, 255, 255, 255, 255]]);
     match random.below(5) {
         0 if tree.form == Form::Standalone => {
-            *tree = Tree { set: Vec::new(), tail: Tail::Raw(Vec::new()), ..tree.clone() };
-            tree.outer = Outer::Raw(random.pick(&[vec![], vec![0x81], vec![0x82, 0], vec![0x84, 0, 0, 0]]));
+            *tree = Tree {
+                set: Vec::new(),
+                tail: Tail::Raw(Vec::new()),
+                ..tree.clone()
+            };
+            tree.outer =
+                Outer::Raw(random.pick(&[vec![], vec![0x81], vec![0x82, 0], vec![0x84, 0, 0, 0]]));
         }
-        0 | 1 if tree.form == Form::Standalone => tree.tail = Tail::Raw(item.to_vec()),
-        0 | 1 => tree.set.push(Node::Raw(item.to_vec())),
-        2 => packs(random, tree).push(Node::Raw(pack.to_vec())),
-        _ => self::pack(random, tree).push(Node::Raw(item.to_vec())),
+        0 | 1 if tree.form == Form::Standalone => tree.tail = Tail::Raw(item),
+        0 | 1 => tree.set.push(Node::Raw(item)),
+        2 => {
+            let pack = cut_pack(random);
+            packs(random, tree).push(Node::Raw(pack));
+        }
+        _ => pack(random, tree).push(Node::Raw(item)),
     }
+}
+
+/// A pack whose length or id is cut by its own end or the series'.
+fn cut_pack(random: &mut Random) -> Vec<u8> {
+    let eight = [vec![8], vec![0xFF; 8]].concat();
+    random.pick(&[
+        vec![0x81],
+        vec![0x83, 0],
+        vec![0],
+        vec![1, 0x80],
+        vec![2, 0x85, 0x80],
+        eight,
+    ])
 }
 
 fn tag(random: &mut Random, tree: &mut Tree) {
@@ -139,7 +166,11 @@ fn length(random: &mut Random, tree: &mut Tree) {
     match random.below(5) {
         0 if tree.form == Form::Standalone => tree.outer = Outer::Raw(vec![bad]),
         0 | 1 => {
-            let sum = random.pick(&[vec![1, 0x81, 2, 0, 0], vec![1, 0x82, 0, 2, 0, 0], vec![1, 0x81, 255]]);
+            let sum = random.pick(&[
+                vec![1, 0x81, 2, 0, 0],
+                vec![1, 0x82, 0, 2, 0, 0],
+                vec![1, 0x81, 255],
+            ]);
             match tree.form {
                 Form::Embedded => insert(random, &mut tree.set, Node::Raw(sum)),
                 Form::Standalone => tree.tail = Tail::Raw(sum),
@@ -160,16 +191,28 @@ fn length(random: &mut Random, tree: &mut Tree) {
 
 fn past_end(random: &mut Random, tree: &mut Tree) {
     let tag = 24 + random.byte() % 70;
-    let long = random.pick(&[vec![0x84, 255, 255, 255, 255], vec![0x83, 1, 0, 0], vec![0x82, 0x20, 0]]);
+    let long = random.pick(&[
+        vec![0x84, 255, 255, 255, 255],
+        vec![0x83, 1, 0, 0],
+        vec![0x82, 0x20, 0],
+    ]);
     match random.below(4) {
         0 if tree.form == Form::Standalone => tree.outer = Outer::Off(random.pick(&[-1, 1, 300])),
         0 | 1 => {
             let packs = packs(random, tree);
-            packs.push(Node::Raw(random.pick(&[vec![2, 7], long, vec![5, 7, 4, 1, 1]])));
+            packs.push(Node::Raw(random.pick(&[
+                vec![2, 7],
+                long,
+                vec![5, 7, 4, 1, 1],
+            ])));
         }
         2 => {
             let (_, nodes) = level(random, tree);
-            insert(random, nodes, Node::Raw([vec![tag], long, vec![1]].concat()));
+            insert(
+                random,
+                nodes,
+                Node::Raw([vec![tag], long, vec![1]].concat()),
+            );
         }
         _ => {
             let nodes = pack(random, tree);
@@ -186,7 +229,11 @@ fn empty(random: &mut Random, tree: &mut Tree) {
         1 => valid::unlisted(random),
         _ => random.pick(listed),
     };
-    let node = Node::Item { tag, width: random.pick(&[0, 0, 1, 2]), value: Vec::new() };
+    let node = Node::Item {
+        tag,
+        width: random.pick(&[0, 0, 1, 2]),
+        value: Vec::new(),
+    };
     insert(random, nodes, node);
 }
 

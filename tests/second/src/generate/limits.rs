@@ -44,7 +44,14 @@ pub fn pad(random: &mut Random, tree: &mut Tree, total: usize) {
     }
     let at = random.between(tree.set.len().min(1), tree.set.len());
     let width = random.pick(&[0, 0, 0, 2, 4]);
-    tree.set.insert(at, Node::Item { tag: 13, width, value: vec![0] });
+    tree.set.insert(
+        at,
+        Node::Item {
+            tag: 13,
+            width,
+            value: vec![0],
+        },
+    );
     stretch(tree, total);
 }
 
@@ -68,15 +75,24 @@ pub fn edges(random: &mut Random, form: Form) -> Tree {
         tree.set.push(valid::item(random, true, 2, NORMAL));
     }
     let count = random.between(1, 4);
-    let packs = (0..count as u64).map(|id| edge_pack(random, form, id, style)).collect();
-    tree.set.push(Node::Series { width: style.width(random), packs });
+    let packs = (0..count as u64)
+        .map(|id| edge_pack(random, form, id, style))
+        .collect();
+    tree.set.push(Node::Series {
+        width: style.width(random),
+        packs,
+    });
     for tag in [10, 13, 300] {
         let mut length = random.pick(&EDGES);
         if tag == 10 {
             length = length.min(128);
         }
         let value = random.bytes(length);
-        tree.set.push(Node::Item { tag, width: style.width(random), value });
+        tree.set.push(Node::Item {
+            tag,
+            width: style.width(random),
+            value,
+        });
     }
     tree
 }
@@ -92,7 +108,11 @@ pub fn edge_pack(random: &mut Random, form: Form, id: u64, style: Style) -> Node
     let length = total.saturating_sub(around + 2).max(1);
     items.push(Node::item(18, &random.bytes(length)));
     random.shuffle(&mut items);
-    Node::Pack { width: style.width(random), id, items }
+    Node::Pack {
+        width: style.width(random),
+        id,
+        items,
+    }
 }
 
 /// As many items as fit: one byte of tag, length and value each, in packs
@@ -106,7 +126,10 @@ pub fn most_items() -> Tree {
     };
     let mut tree = Tree::new(Form::Embedded);
     tree.set = small(true).map(|tag| Node::item(tag, &[1])).collect();
-    tree.set.push(Node::Series { width: 0, packs: Vec::new() });
+    tree.set.push(Node::Series {
+        width: 0,
+        packs: Vec::new(),
+    });
     let items: Vec<Node> = small(false).map(|tag| Node::item(tag, &[1])).collect();
     for id in 0.. {
         let have = tree.bytes().len();
@@ -115,7 +138,11 @@ pub fn most_items() -> Tree {
         if count == 0 {
             return tree;
         }
-        let pack = Node::Pack { width: 0, id, items: items[..count].to_vec() };
+        let pack = Node::Pack {
+            width: 0,
+            id,
+            items: items[..count].to_vec(),
+        };
         tree.packs().expect("a series stands there").push(pack);
     }
     tree
@@ -123,7 +150,11 @@ pub fn most_items() -> Tree {
 
 /// As many packs as fit: bare ones, their ids of one byte and then of two.
 pub fn most_packs() -> Tree {
-    let bare = |id| Node::Pack { width: 0, id, items: Vec::new() };
+    let bare = |id| Node::Pack {
+        width: 0,
+        id,
+        items: Vec::new(),
+    };
     let mut tree = Tree::new(Form::Embedded);
     let room = PACKET_LIMIT - 4 - 128 * 2;
     let packs = (0..128 + room as u64 / 3).map(bare).collect();

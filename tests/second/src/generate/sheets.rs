@@ -50,7 +50,11 @@ pub fn records(tree: &Tree) -> Vec<Vec<u8>> {
         match node {
             Node::Item { tag, value, .. } => {
                 let number = set_rule(*tag).is_number();
-                out.push(item(b"IT", *tag, if number { shortest(value) } else { value }));
+                out.push(item(
+                    b"IT",
+                    *tag,
+                    if number { shortest(value) } else { value },
+                ));
             }
             Node::Series { packs, .. } => {
                 out.push(b"TS".to_vec());
@@ -70,7 +74,11 @@ fn push_pack(node: &Node, out: &mut Vec<Vec<u8>>) {
     for node in items {
         if let Node::Item { tag, value, .. } = node {
             let number = pack_rule(*tag).is_number();
-            out.push(item(b"TI", *tag, if number { shortest(value) } else { value }));
+            out.push(item(
+                b"TI",
+                *tag,
+                if number { shortest(value) } else { value },
+            ));
         }
     }
 }
@@ -95,7 +103,10 @@ fn disordered(random: &mut Random) -> Vec<u8> {
         let at = random.below(records.len());
         let to = random.between(usize::from(records.len() > 1), records.len());
         match random.below(6) {
-            0 => records.swap(at, to.min(records.len() - 1)),
+            0 => {
+                let to = to.min(records.len() - 1);
+                records.swap(at, to);
+            }
             1 if records.len() > 1 => {
                 records.remove(at);
             }
@@ -123,7 +134,12 @@ fn one_by_chance(random: &mut Random) -> Vec<u8> {
         4..=6 => item(b"TI", tag, &value),
         7 => b"TS".to_vec(),
         8 => target(random.pick(&[0, 1, 2, (1 << 63) - 1, 1 << 63])),
-        _ => random.pick(&[b"PK\x00".to_vec(), b"T".to_vec(), b"XX".to_vec(), b"TSTG".to_vec()]),
+        _ => random.pick(&[
+            b"PK\x00".to_vec(),
+            b"T".to_vec(),
+            b"XX".to_vec(),
+            b"TSTG".to_vec(),
+        ]),
     }
 }
 

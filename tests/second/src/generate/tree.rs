@@ -10,9 +10,20 @@ pub type Width = u8;
 
 #[derive(Clone, Debug)]
 pub enum Node {
-    Item { tag: u16, width: Width, value: Vec<u8> },
-    Series { width: Width, packs: Vec<Node> },
-    Pack { width: Width, id: u64, items: Vec<Node> },
+    Item {
+        tag: u16,
+        width: Width,
+        value: Vec<u8>,
+    },
+    Series {
+        width: Width,
+        packs: Vec<Node>,
+    },
+    Pack {
+        width: Width,
+        id: u64,
+        items: Vec<Node>,
+    },
     /// Bytes in the place of an item or pack.
     Raw(Vec<u8>),
 }
@@ -110,7 +121,11 @@ impl Node {
 
     /// An item with its length written shortest.
     pub fn item(tag: u16, value: &[u8]) -> Node {
-        Node::Item { tag, width: 0, value: value.to_vec() }
+        Node::Item {
+            tag,
+            width: 0,
+            value: value.to_vec(),
+        }
     }
 
     /// The tag of an item or a series, 0 for anything else.
@@ -133,7 +148,13 @@ pub fn all(nodes: &[Node]) -> Vec<u8> {
 impl Tree {
     pub fn new(form: Form) -> Tree {
         let (key, outer, tail) = (KEY.to_vec(), Outer::Width(0), Tail::Sum(0));
-        Tree { form, key, outer, set: Vec::new(), tail }
+        Tree {
+            form,
+            key,
+            outer,
+            set: Vec::new(),
+            tail,
+        }
     }
 
     /// The packet.

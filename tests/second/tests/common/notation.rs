@@ -27,7 +27,7 @@ fn number_or_hex(word: &str, out: &mut Vec<u8>) {
         let byte = u8::from_str_radix(byte, 16).unwrap();
         out.extend(vec![byte; times.parse().unwrap()]);
     } else {
-        assert!(word.len() % 2 == 0, "half a byte in {word}");
+        assert!(word.len().is_multiple_of(2), "half a byte in {word}");
         for at in (0..word.len()).step_by(2) {
             out.push(u8::from_str_radix(&word[at..at + 2], 16).unwrap());
         }

@@ -1,0 +1,2 @@
+-- What is promised of the definitions, for all inputs, in the user's words. proofs/demands has the proofs, under the same names.
+pub mod Accepted

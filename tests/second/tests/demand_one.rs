@@ -1,0 +1,129 @@
+//! Demand 1: each call returns, a refusal changes nothing lent, success
+//! changes nothing beyond what it counts, and 16 names what is needed.
+
+mod common;
+
+use common::rooms::in_every_room;
+use second::generate;
+use second::{answer_number, edit, locate, normalise, read, show, write};
+use second::{edit_number, normalise_number, read_number, write_number};
+use second::{Form, Level, Row, Side, PACKET_LIMIT};
+
+const SEED: u64 = 21;
+const CASES: u64 = 8_000;
+
+#[test]
+fn packets() {
+    for index in 0..CASES {
+        let case = generate::packet(SEED, index);
+        let (form, packet) = (case.form, case.bytes.as_slice());
+        let sheet = in_every_room(|room: &mut [u8]| read(form, packet, room));
+        let normal = in_every_room(|room: &mut [u8]| normalise(form, packet, room));
+        let rows = in_every_room(|room: &mut [Row]| locate(form, packet, room));
+        assert_eq!(sheet.as_ref().err(), normal.as_ref().err(), "case {index}");
+        assert_eq!(sheet.as_ref().err(), rows.as_ref().err(), "case {index}");
+        if let Err(refusal) = sheet {
+            assert!(
+                (1..=15).contains(&refusal.number),
+                "case {index}: {refusal:?}"
+            );
+            assert!(refusal.place <= packet.len(), "case {index}: {refusal:?}");
+        }
+    }
+}
+
+#[test]
+fn sheets() {
+    for index in 0..CASES {
+        let sheet = generate::sheet(SEED, index).bytes;
+        let packet = in_every_room(|room: &mut [u8]| write(&sheet, room));
+        match packet {
+            Ok(packet) => assert!(packet.len() <= PACKET_LIMIT, "case {index}"),
+            Err(refusal) => assert!(refusal.place <= sheet.len(), "case {index}: {refusal:?}"),
+        }
+    }
+}
+
+#[test]
+fn edits() {
+    for index in 0..CASES {
+        let case = generate::edit(SEED, index);
+        let (form, packet) = (case.form, case.packet.as_slice());
+        let edited = in_every_room(|room: &mut [u8]| {
+            edit(form, packet, case.level, case.tag, case.change(), room)
+        });
+        match edited {
+            Ok(edited) => assert!(edited.len() <= PACKET_LIMIT, "case {index}"),
+            Err(refusal) => assert!(refusal.place <= packet.len(), "case {index}: {refusal:?}"),
+        }
+    }
+}
+
+#[test]
+fn shows() {
+    for index in 0..CASES {
+        let case = generate::show(SEED, index);
+        let shown = show(
+            case.form,
+            &case.reviewer,
+            &case.detector,
+            case.level,
+            case.tag,
+        );
+        let part = shown.part(&case.reviewer, &case.detector);
+        assert_eq!(part.len(), shown.length, "case {index}");
+        let nothing = (shown.side, shown.offset) == (Side::Detector, 0);
+        assert_eq!(shown.length == 0, nothing, "case {index}");
+    }
+}
+
+#[test]
+fn numbers_say_the_same() {
+    let (mut one, mut other) = (vec![7; PACKET_LIMIT], vec![7; PACKET_LIMIT]);
+    for index in 0..CASES / 4 {
+        let case = generate::edit(SEED, index);
+        let form = u64::from(case.form == Form::Standalone) * (1 + index);
+        let (level, id) = match case.level {
+            Level::Set => (0, index),
+            Level::Target(id) => (1 + index, id),
+        };
+        let removal = if case.value.is_none() { 1 + index } else { 0 };
+        let value = case.value.as_deref().unwrap_or(&[9]);
+        let number = edit_number(
+            form,
+            &case.packet,
+            level,
+            id,
+            case.tag,
+            removal,
+            value,
+            &mut one,
+        );
+        let change = case.change();
+        let answer = edit(
+            case.form,
+            &case.packet,
+            case.level,
+            case.tag,
+            change,
+            &mut other,
+        );
+        assert_eq!(number, answer_number(answer), "case {index}");
+        let number = read_number(form, &case.packet, &mut one);
+        assert_eq!(
+            number,
+            answer_number(read(case.form, &case.packet, &mut other))
+        );
+        let number = normalise_number(form, &case.packet, &mut one);
+        assert_eq!(
+            number,
+            answer_number(normalise(case.form, &case.packet, &mut other))
+        );
+        let sheet = generate::sheet(SEED, index).bytes;
+        assert_eq!(
+            write_number(&sheet, &mut one),
+            answer_number(write(&sheet, &mut other))
+        );
+        assert_eq!(one, other, "case {index}");
+    }
+}

@@ -3,4 +3,5 @@ pub mod words
 pub mod coding
 pub mod table
 pub mod reading
+pub mod sheets
 mod tables

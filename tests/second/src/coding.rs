@@ -33,19 +33,20 @@ pub fn tag(bytes: &[u8], at: usize) -> Result<(u16, usize), u8> {
 /// Reads a length; a bad first byte is 5 even as the last byte there is.
 #[inline]
 pub fn length(bytes: &[u8], at: usize) -> Result<(usize, usize), u8> {
-    let Some((&first, rest)) = from(bytes, at).split_first() else {
-        return Err(CUT);
-    };
-    match first {
-        0..=0x7F => Ok((usize::from(first), at + 1)),
-        0x81..=0x84 => {
-            let width = usize::from(first & 0x7F);
-            let digits = rest.get(..width).ok_or(CUT)?;
-            let value = digits.iter().fold(0, |sum, &b| sum << 8 | usize::from(b));
-            Ok((value, at + 1 + width))
-        }
+    match *from(bytes, at) {
+        [] => Err(CUT),
+        [short @ 0..=0x7F, ..] => Ok((usize::from(short), at + 1)),
+        [first @ 0x81..=0x84, ref rest @ ..] => long_length(rest, first & 0x7F, at + 1),
         _ => Err(BAD_LENGTH),
     }
+}
+
+#[inline(never)]
+fn long_length(rest: &[u8], width: u8, at: usize) -> Result<(usize, usize), u8> {
+    let width = usize::from(width);
+    let digits = rest.get(..width).ok_or(CUT)?;
+    let value = digits.iter().fold(0, |sum, &b| sum << 8 | usize::from(b));
+    Ok((value, at + width))
 }
 
 /// Reads a target id: 3 before 8, within its first nine bytes.

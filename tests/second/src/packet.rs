@@ -118,7 +118,10 @@ pub(crate) fn read_pack(bytes: &[u8], place: usize) -> Result<Pack, u8> {
         return Err(PAST_END);
     }
     let end = start + length;
-    let (id, items) = coding::id(&bytes[..end], start)?;
+    let (id, items) = match bytes[start..end] {
+        [only @ 0..=0x7F, ..] => (u64::from(only), start + 1),
+        _ => coding::id(&bytes[..end], start)?,
+    };
     Ok(Pack {
         id,
         place,

@@ -9,13 +9,15 @@ use second::{answer_number, edit, locate, normalise, read, show, write};
 use second::{edit_number, normalise_number, read_number, write_number};
 use second::{Form, Level, Row, Side, PACKET_LIMIT};
 
-const SEED: u64 = 21;
-const CASES: u64 = 8_000;
+fn run() -> (u64, u64) {
+    common::run(21, 8_000)
+}
 
 #[test]
 fn packets() {
-    for index in 0..CASES {
-        let case = generate::packet(SEED, index);
+    let (seed, cases) = run();
+    for index in 0..cases {
+        let case = generate::packet(seed, index);
         let (form, packet) = (case.form, case.bytes.as_slice());
         let sheet = in_every_room(|room: &mut [u8]| read(form, packet, room));
         let normal = in_every_room(|room: &mut [u8]| normalise(form, packet, room));
@@ -34,8 +36,9 @@ fn packets() {
 
 #[test]
 fn sheets() {
-    for index in 0..CASES {
-        let sheet = generate::sheet(SEED, index).bytes;
+    let (seed, cases) = run();
+    for index in 0..cases {
+        let sheet = generate::sheet(seed, index).bytes;
         let packet = in_every_room(|room: &mut [u8]| write(&sheet, room));
         match packet {
             Ok(packet) => assert!(packet.len() <= PACKET_LIMIT, "case {index}"),
@@ -46,8 +49,9 @@ fn sheets() {
 
 #[test]
 fn edits() {
-    for index in 0..CASES {
-        let case = generate::edit(SEED, index);
+    let (seed, cases) = run();
+    for index in 0..cases {
+        let case = generate::edit(seed, index);
         let (form, packet) = (case.form, case.packet.as_slice());
         let edited = in_every_room(|room: &mut [u8]| {
             edit(form, packet, case.level, case.tag, case.change(), room)
@@ -61,8 +65,9 @@ fn edits() {
 
 #[test]
 fn shows() {
-    for index in 0..CASES {
-        let case = generate::show(SEED, index);
+    let (seed, cases) = run();
+    for index in 0..cases {
+        let case = generate::show(seed, index);
         let shown = show(
             case.form,
             &case.reviewer,
@@ -79,9 +84,10 @@ fn shows() {
 
 #[test]
 fn numbers_say_the_same() {
+    let (seed, cases) = run();
     let (mut one, mut other) = (vec![7; PACKET_LIMIT], vec![7; PACKET_LIMIT]);
-    for index in 0..CASES / 4 {
-        let case = generate::edit(SEED, index);
+    for index in 0..cases / 4 {
+        let case = generate::edit(seed, index);
         let form = u64::from(case.form == Form::Standalone) * (1 + index);
         let (level, id) = match case.level {
             Level::Set => (0, index),
@@ -119,7 +125,7 @@ fn numbers_say_the_same() {
             number,
             answer_number(normalise(case.form, &case.packet, &mut other))
         );
-        let sheet = generate::sheet(SEED, index).bytes;
+        let sheet = generate::sheet(seed, index).bytes;
         assert_eq!(
             write_number(&sheet, &mut one),
             answer_number(write(&sheet, &mut other))

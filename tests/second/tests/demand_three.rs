@@ -9,8 +9,9 @@ use second::generate::{self, EditCase};
 use second::{edit, normalise, read, write};
 use second::{Form, Level, Refusal, PACKET_LIMIT, PACKET_SHEET_LIMIT};
 
-const SEED: u64 = 23;
-const CASES: u64 = 24_000;
+fn run() -> (u64, u64) {
+    common::run(23, 24_000)
+}
 
 /// The items of the level named, its own lengths made shortest.
 fn opened(tree: &mut Tree, level: Level) -> Option<&mut Vec<Node>> {
@@ -103,9 +104,10 @@ fn call(case: &EditCase) -> Result<Vec<u8>, Refusal> {
 /// outside the item, the lengths around it and the checksum are kept.
 #[test]
 fn edits_follow_the_rules() {
+    let (seed, cases) = run();
     let (mut accepted, mut loose) = (0, 0);
-    for index in 0..CASES {
-        let case = generate::edit(SEED, index);
+    for index in 0..cases {
+        let case = generate::edit(seed, index);
         let result = call(&case);
         assert_eq!(result, expected(&case), "case {index}");
         if result.is_ok() {
@@ -115,7 +117,7 @@ fn edits_follow_the_rules() {
             loose += u64::from(count < case.packet.len());
         }
     }
-    assert!(accepted > CASES / 3, "only {accepted} accepted");
+    assert!(accepted > cases / 3, "only {accepted} accepted");
     assert!(
         loose > accepted / 2,
         "only {loose} of {accepted} out of normal form"
@@ -125,8 +127,9 @@ fn edits_follow_the_rules() {
 /// The result is accepted and its sheet is the old one with the one change.
 #[test]
 fn edits_change_one_record() {
-    for index in 0..CASES {
-        let case = generate::edit(SEED + 1, index);
+    let (seed, cases) = run();
+    for index in 0..cases {
+        let case = generate::edit(seed + 1, index);
         let Ok(result) = call(&case) else {
             continue;
         };
@@ -141,9 +144,10 @@ fn edits_change_one_record() {
 /// From normal form an edit is the edited sheet written afresh.
 #[test]
 fn edits_of_normal_forms_are_writes() {
+    let (seed, cases) = run();
     let mut count = 0;
-    for index in 0..CASES {
-        let mut case = generate::edit(SEED + 2, index);
+    for index in 0..cases {
+        let mut case = generate::edit(seed + 2, index);
         let mut normal = vec![0; PACKET_LIMIT];
         let Ok(length) = normalise(case.form, &case.packet, &mut normal) else {
             continue;
@@ -159,5 +163,5 @@ fn edits_of_normal_forms_are_writes() {
         assert_eq!(written[..length], result, "case {index}");
         count += 1;
     }
-    assert!(count > CASES / 3, "only {count} accepted");
+    assert!(count > cases / 3, "only {count} accepted");
 }

@@ -9,8 +9,9 @@ use second::table::{pack_rule, set_rule, Kind};
 use second::{locate, normalise, read, show, write};
 use second::{Form, Level, Row, Side, PACKET_LIMIT, PACKET_SHEET_LIMIT, ROWS_LIMIT};
 
-const SEED: u64 = 22;
-const CASES: u64 = 16_000;
+fn run() -> (u64, u64) {
+    common::run(22, 16_000)
+}
 
 fn read_all(form: Form, packet: &[u8]) -> Option<Vec<u8>> {
     let mut sheet = vec![0; PACKET_SHEET_LIMIT];
@@ -39,25 +40,27 @@ fn rows_of(form: Form, packet: &[u8]) -> Vec<Row> {
 
 /// The accepted ones among the generated packets, and the named ones.
 fn accepted(mut each: impl FnMut(Form, &[u8], &[u8])) {
+    let (seed, cases) = run();
     let mut count = 0;
     let named = generate::named()
         .into_iter()
         .map(|named| (named.form, named.packet));
-    let cases = (0..CASES).map(|index| generate::packet(SEED, index));
-    let edits = (0..CASES / 4).map(|index| generate::edit(SEED, index));
-    let packets = cases.map(|case| (case.form, case.bytes));
-    let edited = edits.map(|case| (case.form, case.packet));
+    let packets = (0..cases).map(|index| generate::packet(seed, index));
+    let packets = packets.map(|case| (case.form, case.bytes));
+    let edited = (0..cases / 4).map(|index| generate::edit(seed, index));
+    let edited = edited.map(|case| (case.form, case.packet));
     for (form, packet) in named.chain(packets).chain(edited) {
         if let Some(sheet) = read_all(form, &packet) {
             each(form, &packet, &sheet);
             count += 1;
         }
     }
-    assert!(count > CASES / 4, "only {count} accepted");
+    assert!(count > cases / 4, "only {count} accepted");
 }
 
 #[test]
 fn normal_form_is_the_sheet_written() {
+    let (_, cases) = run();
     let mut loose = 0;
     accepted(|form, packet, sheet| {
         let normal = normalise_all(form, packet).expect("as read");
@@ -68,7 +71,7 @@ fn normal_form_is_the_sheet_written() {
         assert!(sheet.len() <= PACKET_SHEET_LIMIT);
         loose += u64::from(normal.len() < packet.len());
     });
-    assert!(loose > CASES / 10, "only {loose} out of normal form");
+    assert!(loose > cases / 10, "only {loose} out of normal form");
 }
 
 #[test]
@@ -80,9 +83,10 @@ fn sheet_is_what_the_model_says() {
 
 #[test]
 fn accepted_sheets_come_back() {
+    let (seed, cases) = run();
     let mut count = 0;
-    for index in 0..CASES {
-        let sheet = generate::sheet(SEED, index).bytes;
+    for index in 0..cases {
+        let sheet = generate::sheet(seed, index).bytes;
         if let Some(packet) = write_all(&sheet) {
             let form = Form::from_number(u64::from(sheet[2]));
             assert_eq!(
@@ -94,7 +98,7 @@ fn accepted_sheets_come_back() {
             count += 1;
         }
     }
-    assert!(count > CASES / 4, "only {count} accepted");
+    assert!(count > cases / 4, "only {count} accepted");
 }
 
 /// A row beside the record it belongs to.
@@ -163,8 +167,9 @@ fn by_rows(form: Form, packet: &[u8], level: Level, tag: u64) -> Option<(usize, 
 
 #[test]
 fn show_is_what_the_rows_say() {
-    for index in 0..CASES {
-        let case = generate::show(SEED, index);
+    let (seed, cases) = run();
+    for index in 0..cases {
+        let case = generate::show(seed, index);
         let (form, level, tag) = (case.form, case.level, case.tag);
         let shown = show(form, &case.reviewer, &case.detector, level, tag);
         let shown = (shown.side, shown.offset, shown.length);

@@ -105,7 +105,7 @@ pub(super) fn missing(random: &mut Random, tree: &mut Tree) {
     }
     match random.below(4) {
         0 => tree.tail = Tail::Raw(Vec::new()),
-        1 => {
+        1 if !tree.set.is_empty() => {
             tree.set.remove(0);
         }
         2 => {

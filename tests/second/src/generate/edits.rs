@@ -199,7 +199,7 @@ fn near_limit(random: &mut Random, form: Form) -> EditCase {
         true => random.pick(&[24, 300]),
         false => tag(random, level, &standing),
     };
-    let length = PACKET_LIMIT + 4 - tree.bytes().len() - random.below(4);
+    let length = (PACKET_LIMIT + 4 - random.below(4)).saturating_sub(tree.bytes().len());
     let value = match random.once_in(2) {
         true => random.bytes(length),
         false => value(random, level, tag),

@@ -2,3 +2,5 @@
 pub mod Values
 pub mod Targets
 pub mod Sheets
+pub mod Content
+pub mod Normal

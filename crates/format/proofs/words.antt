@@ -3,3 +3,4 @@ pub mod Answers
 pub mod Bytes
 pub mod Keys
 pub mod Flats
+pub mod Together

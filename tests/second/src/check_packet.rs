@@ -5,7 +5,7 @@ use crate::coding;
 use crate::packet::{read_item, read_pack, Form, Item, Visit, KEY};
 use crate::refusal::*;
 use crate::repeat::{first_id, first_tag, Rising};
-use crate::table::{pack_rule, quick_table, set_rule, Kind, QuickTable};
+use crate::table::{pack_rule, set_rule, Kind};
 use crate::walk::{Items, Packs};
 use crate::PACKET_LIMIT;
 
@@ -122,70 +122,23 @@ struct Level<'a, const SET: bool> {
     start: usize,
     standalone: bool,
     tags: Rising,
-    quick: &'static QuickTable,
 }
 
 impl<'a, const SET: bool> Level<'a, SET> {
     #[inline]
     fn new(bytes: &'a [u8], start: usize, standalone: bool) -> Self {
-        let (tags, quick) = (Rising::new(), quick_table(SET, standalone));
+        let tags = Rising::new();
         Level {
             bytes,
             start,
             standalone,
             tags,
-            quick,
         }
-    }
-
-    /// One item: nearly every one passes the quick questions, and for the
-    /// rest all are asked in their order.
-    #[inline(always)]
-    fn item(&mut self, at: usize) -> Result<Item, u8> {
-        let first = SET && at == self.start;
-        if !first {
-            if let Some(item) = self.quick_item(at) {
-                return Ok(item);
-            }
-        }
-        self.exact_item(at)
-    }
-
-    /// An item with no fault, or nothing: one byte each of tag and length, a
-    /// tag above all before, a length the table allows, no leading zero.
-    #[inline(always)]
-    fn quick_item(&mut self, place: usize) -> Option<Item> {
-        let [tag, length, value @ ..] = self.bytes.get(place..)? else {
-            return None;
-        };
-        let quick = self.quick.get(usize::from(*tag))?;
-        let allowed = *length < 32 && quick.lengths >> *length & 1 == 1;
-        let zero = quick.number && value.first() == Some(&0);
-        if !allowed || usize::from(*length) > value.len() || zero {
-            return None;
-        }
-        if !self.tags.rises(u64::from(*tag)) {
-            return None;
-        }
-        let (start, end) = (place + 2, place + 2 + usize::from(*length));
-        let kind = if !SET && *tag == 17 {
-            Kind::Location
-        } else {
-            Kind::Bytes
-        };
-        Some(Item {
-            tag: u16::from(*tag),
-            kind,
-            place,
-            start,
-            short: start,
-            end,
-        })
     }
 
     /// The one rule for both levels: 3, 4, 3, 5, 6, 7, 9, 13, 14, 11, 12.
-    #[inline(never)]
-    fn exact_item(&mut self, at: usize) -> Result<Item, u8> {
+    #[inline(always)]
+    fn item(&mut self, at: usize) -> Result<Item, u8> {
         let (bytes, start) = (self.bytes, self.start);
         let item = read_item::<SET>(bytes, at)?;
         if item.end == item.start {

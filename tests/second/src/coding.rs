@@ -50,9 +50,19 @@ fn long_length(rest: &[u8], width: u8, at: usize) -> Result<(usize, usize), u8> 
 }
 
 /// Reads a target id: 3 before 8, within its first nine bytes.
-#[inline]
+#[inline(always)]
 pub fn id(bytes: &[u8], at: usize) -> Result<(u64, usize), u8> {
-    let rest = from(bytes, at);
+    match *from(bytes, at) {
+        [only @ 0..=0x7F, ..] => Ok((u64::from(only), at + 1)),
+        [high @ 0x81..=0xFF, low @ 0..=0x7F, ..] => {
+            Ok((u64::from(high & 0x7F) << 7 | u64::from(low), at + 2))
+        }
+        ref rest => long_id(rest, at),
+    }
+}
+
+#[inline(never)]
+fn long_id(rest: &[u8], at: usize) -> Result<(u64, usize), u8> {
     let mut value = 0;
     for (index, &byte) in rest.iter().take(ID_WIDTH).enumerate() {
         value = value << 7 | u64::from(byte & 0x7F);

@@ -75,8 +75,13 @@ pub trait Visit {
 #[inline(always)]
 pub(crate) fn read_item<const SET: bool>(bytes: &[u8], place: usize) -> Result<Item, u8> {
     let (tag, length, start) = match *bytes.get(place..).unwrap_or(&[]) {
-        // Nearly every item: one byte each of tag and length.
+        // Nearly every item has one byte each of tag and length.
         [tag @ 1..=0x7F, length @ 0..=0x7F, ..] => (u16::from(tag), usize::from(length), place + 2),
+        [tag @ 1..=0x7F, 0x81, length, ..] => (u16::from(tag), usize::from(length), place + 3),
+        [high @ 0x81..=0xFF, low @ 0..=0x7F, length @ 0..=0x7F, ..] => {
+            let tag = u16::from(high & 0x7F) << 7 | u16::from(low);
+            (tag, usize::from(length), place + 3)
+        }
         _ => long_head(bytes, place)?,
     };
     let rule = if SET { set_rule(tag) } else { pack_rule(tag) };
@@ -111,17 +116,14 @@ fn long_head(bytes: &[u8], place: usize) -> Result<(u16, usize, usize), u8> {
 }
 
 /// A pack's length and id: 3, 5, 6, 3, 8.
-#[inline]
+#[inline(always)]
 pub(crate) fn read_pack(bytes: &[u8], place: usize) -> Result<Pack, u8> {
     let (length, start) = coding::length(bytes, place)?;
     if length > bytes.len() - start {
         return Err(PAST_END);
     }
     let end = start + length;
-    let (id, items) = match bytes[start..end] {
-        [only @ 0..=0x7F, ..] => (u64::from(only), start + 1),
-        _ => coding::id(&bytes[..end], start)?,
-    };
+    let (id, items) = coding::id(&bytes[..end], start)?;
     Ok(Pack {
         id,
         place,

@@ -4,4 +4,5 @@ pub mod coding
 pub mod table
 pub mod reading
 pub mod sheets
+pub mod edits
 mod tables

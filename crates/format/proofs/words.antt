@@ -4,3 +4,4 @@ pub mod Bytes
 pub mod Keys
 pub mod Flats
 pub mod Together
+pub mod Changes

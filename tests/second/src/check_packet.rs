@@ -2,10 +2,10 @@
 //! packs, a pack holds items, and the first fault is answered.
 
 use crate::coding;
-use crate::packet::{read_item, read_pack, Form, Item, Visit, KEY};
+use crate::packet::{quick_item, read_item, read_pack, Form, Item, Visit, KEY};
 use crate::refusal::*;
 use crate::repeat::{first_id, first_tag, Rising};
-use crate::table::{pack_rule, set_rule, Kind};
+use crate::table::{pack_rule, quick_table, set_rule, Kind, QuickTable};
 use crate::walk::{Items, Packs};
 use crate::PACKET_LIMIT;
 
@@ -18,6 +18,11 @@ pub fn check(form: Form, packet: &[u8], visit: &mut impl Visit) -> Result<usize,
     let mut checksum = None;
     let mut at = start;
     while at < packet.len() {
+        if let Some(item) = level.quick_item(at) {
+            visit.set_item(&item);
+            at = item.end;
+            continue;
+        }
         let item = level.item(at).or_else(|number| refuse(number, at))?;
         match item.kind {
             Kind::Series => {
@@ -107,6 +112,12 @@ fn check_pack(
     let mut located = false;
     let mut at = start;
     while at < bytes.len() {
+        if let Some(item) = level.quick_item(at) {
+            located |= item.kind == Kind::Location;
+            visit.pack_item(&item);
+            at = item.end;
+            continue;
+        }
         let item = level.item(at).or_else(|number| refuse(number, at))?;
         located |= item.kind == Kind::Location;
         visit.pack_item(&item);
@@ -122,18 +133,29 @@ struct Level<'a, const SET: bool> {
     start: usize,
     standalone: bool,
     tags: Rising,
+    quick: &'static QuickTable,
 }
 
 impl<'a, const SET: bool> Level<'a, SET> {
     #[inline]
     fn new(bytes: &'a [u8], start: usize, standalone: bool) -> Self {
-        let tags = Rising::new();
+        let (tags, quick) = (Rising::new(), quick_table(SET, standalone));
         Level {
             bytes,
             start,
             standalone,
             tags,
+            quick,
         }
+    }
+
+    /// An item that rises above those before and asks nothing else of the
+    /// rules, or nothing.
+    #[inline(always)]
+    fn quick_item(&mut self, at: usize) -> Option<Item> {
+        let first = SET && at == self.start;
+        let item = quick_item::<SET>(self.bytes, at, self.quick)?;
+        (!first && self.tags.rises(u64::from(item.tag))).then_some(item)
     }
 
     /// The one rule for both levels: 3, 4, 3, 5, 6, 7, 9, 13, 14, 11, 12.

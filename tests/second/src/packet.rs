@@ -2,7 +2,7 @@
 
 use crate::coding;
 use crate::refusal::{BAD_LENGTH, PAST_END};
-use crate::table::{pack_rule, set_rule, Kind};
+use crate::table::{pack_rule, set_rule, Kind, QuickTable};
 
 /// Which of the two forms a packet has.
 #[derive(Clone, Copy, Debug, PartialEq, Eq)]
@@ -69,6 +69,40 @@ pub trait Visit {
     fn pack_end(&mut self, _pack: &Pack) {}
     #[inline]
     fn series_end(&mut self, _item: &Item) {}
+}
+
+/// An item of one byte each of tag and length, of a length the table allows,
+/// its number without leading zero; nothing if it is any other.
+#[inline(always)]
+pub(crate) fn quick_item<const SET: bool>(
+    bytes: &[u8],
+    place: usize,
+    quick: &QuickTable,
+) -> Option<Item> {
+    let [tag, length, value @ ..] = bytes.get(place..)? else {
+        return None;
+    };
+    let quick = quick.get(usize::from(*tag))?;
+    if *length >= 32 || quick.lengths >> *length & 1 == 0 || usize::from(*length) > value.len() {
+        return None;
+    }
+    if quick.number && value[0] == 0 {
+        return None;
+    }
+    let (start, end) = (place + 2, place + 2 + usize::from(*length));
+    let kind = if !SET && *tag == 17 {
+        Kind::Location
+    } else {
+        Kind::Bytes
+    };
+    Some(Item {
+        tag: u16::from(*tag),
+        kind,
+        place,
+        start,
+        short: start,
+        end,
+    })
 }
 
 /// An item's tag and length, and its value's part: 3, 4, 3, 5, 6.

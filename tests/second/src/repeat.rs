@@ -24,11 +24,20 @@ impl Rising {
         }
     }
 
+    /// Whether the number is above all before, and so no repeat.
+    #[inline(always)]
+    pub fn rises(&mut self, number: u64) -> bool {
+        let rises = number > self.greatest;
+        if rises {
+            self.greatest = number;
+        }
+        rises
+    }
+
     /// Whether the number at this place stood before; `number` is above 0.
     #[inline(always)]
     pub fn repeats(&mut self, number: u64, place: usize, first: impl FnOnce() -> usize) -> bool {
-        if number > self.greatest {
-            self.greatest = number;
+        if self.rises(number) {
             return false;
         }
         *self.repeat.get_or_insert_with(first) == place

@@ -30,15 +30,15 @@ pub struct Rule {
 impl Rule {
     /// Whether a value of this kind may have this length.
     #[inline]
-    pub fn allows(&self, length: usize) -> bool {
-        length >= usize::from(self.least)
-            && length <= usize::from(self.greatest)
-            && (self.kind != Kind::Location || matches!(length, 10 | 16 | 22))
+    pub const fn allows(&self, length: usize) -> bool {
+        length >= self.least as usize
+            && length <= self.greatest as usize
+            && (!matches!(self.kind, Kind::Location) || matches!(length, 10 | 16 | 22))
     }
 
     /// Whether the value is a number and so has a shortest form.
     #[inline]
-    pub fn is_number(&self) -> bool {
+    pub const fn is_number(&self) -> bool {
         matches!(self.kind, Kind::Number | Kind::Pixel)
     }
 }
@@ -129,17 +129,64 @@ const fn fill(listed: &[(usize, Rule)]) -> [Rule; 128] {
     table
 }
 
-static SET: [Rule; 128] = fill(SET_ITEMS);
-static PACK: [Rule; 128] = fill(PACK_ITEMS);
+const SET: [Rule; 128] = fill(SET_ITEMS);
+const PACK: [Rule; 128] = fill(PACK_ITEMS);
+static SET_RULES: [Rule; 128] = SET;
+static PACK_RULES: [Rule; 128] = PACK;
 
 /// The rule of a set's tag.
 #[inline]
 pub fn set_rule(tag: u16) -> &'static Rule {
-    SET.get(usize::from(tag)).unwrap_or(&UNLISTED)
+    SET_RULES.get(usize::from(tag)).unwrap_or(&UNLISTED)
 }
 
 /// The rule of a pack's tag.
 #[inline]
 pub fn pack_rule(tag: u16) -> &'static Rule {
-    PACK.get(usize::from(tag)).unwrap_or(&UNLISTED)
+    PACK_RULES.get(usize::from(tag)).unwrap_or(&UNLISTED)
+}
+
+/// The table in the shape of one quick question, for items of one-byte tags
+/// and short lengths that ask nothing else.
+#[derive(Clone, Copy)]
+pub(crate) struct Quick {
+    /// A bit for each length allowed below 32; none where the tag asks more.
+    pub lengths: u32,
+    pub number: bool,
+}
+
+pub(crate) type QuickTable = [Quick; 128];
+
+const fn quick(rules: &[Rule; 128], standalone: bool) -> QuickTable {
+    let mut table = [Quick {
+        lengths: 0,
+        number: false,
+    }; 128];
+    let mut tag = 1;
+    while tag < 128 {
+        let rule = &rules[tag];
+        let asks = matches!(rule.kind, Kind::Checksum | Kind::Series) || standalone && rule.offset;
+        let mut length = if asks { 32 } else { 1 };
+        while length < 32 {
+            table[tag].lengths |= (rule.allows(length) as u32) << length;
+            length += 1;
+        }
+        table[tag].number = rule.is_number();
+        tag += 1;
+    }
+    table
+}
+
+static QUICK_SET: QuickTable = quick(&SET, false);
+static QUICK_EMBEDDED: QuickTable = quick(&PACK, false);
+static QUICK_STANDALONE: QuickTable = quick(&PACK, true);
+
+/// The quick table of a set, or of a pack in one of the forms.
+#[inline]
+pub(crate) fn quick_table(set: bool, standalone: bool) -> &'static QuickTable {
+    match (set, standalone) {
+        (true, _) => &QUICK_SET,
+        (_, false) => &QUICK_EMBEDDED,
+        (_, true) => &QUICK_STANDALONE,
+    }
 }

@@ -1,10 +1,11 @@
 //! The second pass: over a packet already checked, without questions.
 //! Where the bytes cannot be read on, it just ends.
 
-use crate::packet::{read_item, read_pack, Item, Pack, Visit};
-use crate::table::Kind;
+use crate::packet::{quick_item, read_item, read_pack, Item, Pack, Visit};
+use crate::table::{quick_table, Kind};
 
-/// The items of a set or a pack, which ends where `bytes` do.
+/// The items of a set or a pack, which ends where `bytes` do, for looking
+/// back.
 #[derive(Clone)]
 pub(crate) struct Items<'a, const SET: bool> {
     bytes: &'a [u8],
@@ -60,7 +61,11 @@ pub(crate) fn walk(packet: &[u8], start: usize, visit: &mut impl Visit) {
         match item.kind {
             Kind::Series => {
                 visit.series(&item);
-                walk_series(&packet[..item.end], item.start, visit);
+                for pack in Packs::new(&packet[..item.end], item.start) {
+                    visit.pack(&pack);
+                    walk_pack(&packet[..pack.end], pack.items, visit);
+                    visit.pack_end(&pack);
+                }
                 visit.series_end(&item);
             }
             Kind::Checksum => visit.checksum(&item),
@@ -69,13 +74,20 @@ pub(crate) fn walk(packet: &[u8], start: usize, visit: &mut impl Visit) {
     }
 }
 
-#[inline]
-fn walk_series(bytes: &[u8], start: usize, visit: &mut impl Visit) {
-    for pack in Packs::new(bytes, start) {
-        visit.pack(&pack);
-        for item in Items::<false>::new(&bytes[..pack.end], pack.items) {
+#[inline(always)]
+fn walk_pack(bytes: &[u8], start: usize, visit: &mut impl Visit) {
+    let quick = quick_table(false, false);
+    let mut at = start;
+    while at < bytes.len() {
+        if let Some(item) = quick_item::<false>(bytes, at, quick) {
             visit.pack_item(&item);
+            at = item.end;
+            continue;
         }
-        visit.pack_end(&pack);
+        let Ok(item) = read_item::<false>(bytes, at) else {
+            return;
+        };
+        visit.pack_item(&item);
+        at = item.end;
     }
 }

@@ -85,7 +85,7 @@ pub pack-with-items : (i : ℕ) (is : List Item) → packWith i is .items ≡ is
 unfolding packWith
 pack-with-items i is = refl
 
-items-less : (i : ℕ) (is : List Item) → length (flatAll flatItem is) ≤ length (flatPack (packWith i is))
+pub items-less : (i : ℕ) (is : List Item) → length (flatAll flatItem is) ≤ length (flatPack (packWith i is))
 unfolding packWith packBody
 items-less i is = rw (length-pack (packWith i is), length-append) (omega arith)
 
@@ -131,7 +131,7 @@ entry-tag (targets ts) = refl
 
 -- ---- the packet of a valid sheet
 
-entries-less : (f : Form) (es : List Entry) → length (flatAll flatEntry es) ≤ length (flat (closed f es))
+pub entries-less : (f : Form) (es : List Entry) → length (flatAll flatEntry es) ≤ length (flat (closed f es))
 entries-less f es = subst (λ x. length (flatAll flatEntry x) ≤ length (flat (closed f es))) (closed-entries f es) (body-less (closed f es))
 
 pub packet-valid : (t : Sheet) → SheetValid t → length (flat (packetOf t)) ≤ 8192 → Valid (packetOf t)

@@ -71,3 +71,7 @@ or-neither false b e = (refl, e)
 pub or-right : (b : Bool) → b || true ≡ true
 or-right true = refl
 or-right false = refl
+
+pub or-mono : (a b b′ : Bool) → (b ≡ true → b′ ≡ true) → a || b ≡ true → a || b′ ≡ true
+or-mono true b b′ k e = refl
+or-mono false b b′ k e = k e

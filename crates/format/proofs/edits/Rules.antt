@@ -1,0 +1,36 @@
+-- What the edit's rules say of a change that they let through.
+use mathlib.Core.Path.{_≡_, refl}
+use Prim.Native.Nat.{ℕ, _≤_, _<_}
+use mathlib.Core.Bool.{Bool, true, false, not, _&&_}
+use mathlib.Core.List.{List}
+use lib.ListN.{length}
+use lib.Dec.{ltb, eqb}
+use borrow.Author.Tests.{ltb-true, not-true}
+use Rattle.format.specs.Answer.{Ans, ok, _>>=_, need}
+use Rattle.format.specs.Table.{Form, Level, isAlone, ruleOf, nameable, mayStand, valued}
+use Rattle.format.specs.Sheet.{Sheet}
+use Rattle.format.specs.Edit.{Holder, Change, put, remove, levelOf, mustStay, tagsAt, changeRules, editRules}
+use Rattle.format.specs.Valid.{Meets}
+use Rattle.format.proofs.words.Answers.{bind-then, need-then, need-last}
+use Rattle.format.proofs.table.Values.{valued-says}
+
+-- a value to put that its level takes, or a removal of what need not stay
+abbrev pub ChangeOk : Form → Level → ℕ → Change → Type 0
+ChangeOk f l tag (put v) = Meets l f tag v
+ChangeOk f l tag remove = isAlone f && eqb tag (mustStay l) ≡ false
+
+change-says : (f : Form) (l : Level) (tag : ℕ) (tags : List ℕ) (c : Change) (u : Unit {0}) → nameable l tag ≡ true → changeRules f l tag tags c ≡ ok u → ChangeOk f l tag c
+unfolding changeRules
+change-says f l tag tags (put v) u n e =
+    need-then _ _ _ _ e λ some e₁.
+    need-then _ _ _ _ e₁ λ st e₂.
+    record { named = n; not-empty = ltb-true 0 (length v) some; may-stand = st; valued = valued-says l tag v u e₂ }
+change-says f l tag tags remove u n e = need-then _ _ _ _ e λ _ e₁. not-true _ (need-last _ _ _ e₁)
+
+pub rules-then : {X : Type 0} (h : Holder) (tag : ℕ) (c : Change) (s : Sheet) (u : Unit {0}) → editRules h tag c s ≡ ok u
+    → (nameable (levelOf h) tag ≡ true → ChangeOk (s .form) (levelOf h) tag c → (tags : List ℕ) → tagsAt h (s .parts) ≡ ok tags → X) → X
+unfolding editRules
+rules-then h tag c s u e k =
+    need-then _ _ _ _ e λ n e₁.
+    bind-then _ _ _ e₁ λ tags et e₂.
+    k n (change-says _ _ _ _ _ _ n e₂) tags et

@@ -1,2 +1,3 @@
 -- What is promised of the definitions, for all inputs, in the user's words. proofs/demands has the proofs, under the same names.
 pub mod Accepted
+pub mod Kept

@@ -5,8 +5,9 @@ use crate::normal::Sizes;
 use crate::packet::Form;
 use crate::refusal::*;
 use crate::repeat::{first_id, first_tag, Rising};
-use crate::sheet::{record, Record, Records, OPENING, TG, TI};
-use crate::table::{pack_rule, set_rule, Kind, Rule};
+use crate::sheet::{mark, quick_tagged, tagged, target_id, Marks, Tagged};
+use crate::sheet::{IT, OPENING, TARGET, TG, TI, TS};
+use crate::table::{pack_rule, quick_table, set_rule, Kind, Rule};
 use crate::{PACKET_LIMIT, SHEET_LIMIT};
 
 /// Checks a sheet: its form and the sizes of its packet, without 16.
@@ -22,9 +23,14 @@ pub(crate) fn check(sheet: &[u8]) -> Result<(Form, Sizes), Refusal> {
     let mut check = Check::new(sheet, form);
     let mut at = OPENING;
     while at < sheet.len() {
-        at = check.record(at)?;
+        at = match mark(sheet, at) {
+            Some(TG) => check.target(at)?,
+            Some(IT) => check.set_item(at).or_else(|number| refuse(number, at))?,
+            Some(TS) => check.series(at).or_else(|number| refuse(number, at))?,
+            _ => return refuse(BAD_RECORD, at),
+        };
     }
-    check.finish()
+    check.finish(form)
 }
 
 /// Where the series is, seen from the record to come.
@@ -40,12 +46,7 @@ struct Check<'a> {
     standalone: bool,
     sizes: Sizes,
     series: Series,
-    /// The place of the target to which a `TI` would belong.
-    target: Option<usize>,
-    /// Whether that target has tag 17.
-    located: bool,
-    set_tags: Rising,
-    pack_tags: Rising,
+    tags: Rising,
     ids: Rising,
 }
 
@@ -56,87 +57,38 @@ impl<'a> Check<'a> {
             standalone: form == Form::Standalone,
             sizes: Sizes::default(),
             series: Series::Before,
-            target: None,
-            located: false,
-            set_tags: Rising::new(),
-            pack_tags: Rising::new(),
+            tags: Rising::new(),
             ids: Rising::new(),
         }
     }
 
-    /// One record: where the next begins.
-    #[inline(always)]
-    fn record(&mut self, at: usize) -> Result<usize, Refusal> {
-        let more = self.sheet[at..].starts_with(&TI);
-        if !more {
-            self.close_target()?;
-        }
-        let Some((record, next)) = record(self.sheet, at) else {
-            return refuse(BAD_RECORD, at);
-        };
-        let checked = match record {
-            Record::TargetItem { tag, value } => self.target_item(at, tag, value),
-            Record::SetItem { tag, value } => self.set_item(at, tag, value),
-            Record::Target { id } => self.open_target(at, id),
-            Record::Series => self.open_series(at),
-        };
-        checked.or_else(|number| refuse(number, at))?;
-        Ok(next)
-    }
-
-    /// An item of the set: 17, 7, 9, 14, 11, 17.
-    fn set_item(&mut self, at: usize, tag: u16, value: &[u8]) -> Result<(), u8> {
-        if tag == 1 || tag == 101 {
+    /// An `IT`: 17, 7, 9, 14, 11, 17. It closes a series.
+    fn set_item(&mut self, at: usize) -> Result<usize, u8> {
+        let item = tagged(self.sheet, at).ok_or(BAD_RECORD)?;
+        if item.tag == 1 || item.tag == 101 {
             return Err(BAD_RECORD);
         }
         self.close_series();
+        let value = &self.sheet[item.start..item.end];
         if value.is_empty() {
             return Err(EMPTY);
         }
-        let records = Records::new(self.sheet, OPENING);
-        if self
-            .set_tags
-            .repeats(u64::from(tag), at, || first_tag(set_tags(records)))
-        {
+        let first = || first_tag(set_tags(self.sheet));
+        if self.tags.repeats(u64::from(item.tag), at, first) {
             return Err(TAG_REPEATED);
         }
-        if self.standalone && at == OPENING && tag != 2 {
+        if self.standalone && at == OPENING && item.tag != 2 {
             return Err(MISSING);
         }
-        check_value(set_rule(tag), value)?;
-        self.sizes.set += Sizes::item(tag, value.len());
-        Ok(())
-    }
-
-    /// An item of a target: 17, 7, 9, 13, 11, 12, 17.
-    #[inline(always)]
-    fn target_item(&mut self, at: usize, tag: u16, value: &[u8]) -> Result<(), u8> {
-        let Some(target) = self.target else {
-            return Err(BAD_RECORD);
-        };
-        if value.is_empty() {
-            return Err(EMPTY);
-        }
-        let records = Records::new(self.sheet, target + 10);
-        if self
-            .pack_tags
-            .repeats(u64::from(tag), at, || first_tag(pack_tags(records)))
-        {
-            return Err(TAG_REPEATED);
-        }
-        let rule = pack_rule(tag);
-        if rule.offset && self.standalone {
-            return Err(MAY_NOT_STAND);
-        }
-        check_value(rule, value)?;
-        self.located |= rule.kind == Kind::Location;
-        self.sizes.pack += Sizes::item(tag, value.len());
-        Ok(())
+        check_value(set_rule(item.tag), value)?;
+        self.sizes.set += Sizes::item(item.tag, value.len());
+        Ok(item.end)
     }
 
     /// A `TS`: 17, 9, 14.
-    fn open_series(&mut self, at: usize) -> Result<(), u8> {
-        if !self.sheet[at + 2..].starts_with(&TG) {
+    fn series(&mut self, at: usize) -> Result<usize, u8> {
+        let next = at + TS.len();
+        if mark(self.sheet, next) != Some(TG) {
             return Err(BAD_RECORD);
         }
         if self.series != Series::Before {
@@ -146,34 +98,27 @@ impl<'a> Check<'a> {
             return Err(MISSING);
         }
         self.series = Series::Open;
-        Ok(())
+        Ok(next)
     }
 
-    /// A `TG`: 17, 10.
-    fn open_target(&mut self, at: usize, id: u64) -> Result<(), u8> {
-        if self.series != Series::Open {
-            return Err(BAD_RECORD);
+    /// A `TG`: 17, 10, then its items, then its 14.
+    #[inline]
+    fn target(&mut self, at: usize) -> Result<usize, Refusal> {
+        let id = match target_id(self.sheet, at) {
+            Some(id) if self.series == Series::Open => id,
+            _ => return refuse(BAD_RECORD, at),
+        };
+        let first = || first_id(ids(self.sheet));
+        if self.ids.repeats(id + 1, at, first) {
+            return refuse(ID_REPEATED, at);
         }
-        let records = Records::new(self.sheet, OPENING);
-        if self.ids.repeats(id + 1, at, || first_id(ids(records))) {
-            return Err(ID_REPEATED);
+        let items = check_target(self.sheet, at + TARGET, self.standalone)?;
+        if self.standalone && !items.located {
+            return refuse(MISSING, at);
         }
-        self.target = Some(at);
-        self.located = false;
-        self.pack_tags = Rising::new();
-        self.sizes.pack = id_width(id);
-        Ok(())
-    }
-
-    /// The end of the target before a record other than `TI`: its 14.
-    fn close_target(&mut self) -> Result<(), Refusal> {
-        if let Some(place) = self.target.take() {
-            if self.standalone && !self.located {
-                return refuse(MISSING, place);
-            }
-            self.sizes.close_pack();
-        }
-        Ok(())
+        self.sizes.pack = id_width(id) + items.size;
+        self.sizes.close_pack();
+        Ok(items.end)
     }
 
     fn close_series(&mut self) {
@@ -184,10 +129,8 @@ impl<'a> Check<'a> {
     }
 
     /// The sheet's end: 14, then the 1 of the packet it would be.
-    fn finish(mut self) -> Result<(Form, Sizes), Refusal> {
-        self.close_target()?;
+    fn finish(mut self, form: Form) -> Result<(Form, Sizes), Refusal> {
         self.close_series();
-        let form = Form::from_number(u64::from(self.standalone));
         if self.standalone {
             if self.sheet.len() == OPENING {
                 return refuse(MISSING, OPENING);
@@ -199,6 +142,82 @@ impl<'a> Check<'a> {
         }
         Ok((form, self.sizes))
     }
+}
+
+/// What the items of a target come to.
+struct TargetItems {
+    end: usize,
+    /// Their bytes in a packet.
+    size: usize,
+    /// Whether tag 17 is among them.
+    located: bool,
+}
+
+/// The `TI` records of a target, up to the first other record.
+#[inline(always)]
+fn check_target(sheet: &[u8], start: usize, standalone: bool) -> Result<TargetItems, Refusal> {
+    let mut tags = Rising::new();
+    let (mut at, mut size, mut located) = (start, 0, false);
+    loop {
+        if let Some(item) = quick_item(sheet, at, standalone, &mut tags) {
+            located |= item.tag == 17;
+            size += 2 + item.end - item.start;
+            at = item.end;
+            continue;
+        }
+        if mark(sheet, at) != Some(TI) {
+            return Ok(TargetItems {
+                end: at,
+                size,
+                located,
+            });
+        }
+        let item = target_item(sheet, start, at, standalone, &mut tags)
+            .or_else(|number| refuse(number, at))?;
+        located |= item.tag == 17;
+        size += Sizes::item(item.tag, item.end - item.start);
+        at = item.end;
+    }
+}
+
+/// A `TI` with no fault whose tag rises above those before, or nothing.
+#[inline(always)]
+fn quick_item(sheet: &[u8], at: usize, standalone: bool, tags: &mut Rising) -> Option<Tagged> {
+    let item = quick_tagged(sheet, at)?;
+    let quick = quick_table(false, standalone).get(usize::from(item.tag))?;
+    let length = item.end - item.start;
+    if length >= 32 || quick.lengths >> length & 1 == 0 {
+        return None;
+    }
+    if quick.number && sheet[item.start] == 0 {
+        return None;
+    }
+    tags.rises(u64::from(item.tag)).then_some(item)
+}
+
+/// A `TI`: 17, 7, 9, 13, 11, 12, 17.
+fn target_item(
+    sheet: &[u8],
+    start: usize,
+    at: usize,
+    standalone: bool,
+    tags: &mut Rising,
+) -> Result<Tagged, u8> {
+    let item = tagged(sheet, at).ok_or(BAD_RECORD)?;
+    let value = &sheet[item.start..item.end];
+    if value.is_empty() {
+        return Err(EMPTY);
+    }
+    let first = || first_tag(target_tags(sheet, start));
+    if tags.repeats(u64::from(item.tag), at, first) {
+        return Err(TAG_REPEATED);
+    }
+    let rule = pack_rule(item.tag);
+    if rule.offset && standalone {
+        return Err(MAY_NOT_STAND);
+    }
+    check_value(rule, value)?;
+    Ok(item)
 }
 
 /// 11, 12, and last the 17 of a number not shortest.
@@ -220,25 +239,19 @@ fn check_value(rule: &Rule, value: &[u8]) -> Result<(), u8> {
 }
 
 /// The set's tags, for looking back.
-fn set_tags<'a>(records: Records<'a>) -> impl Iterator<Item = (usize, u16)> + 'a {
-    records.filter_map(|(place, record)| match record {
-        Record::SetItem { tag, .. } => Some((place, tag)),
-        _ => None,
-    })
+fn set_tags(sheet: &[u8]) -> impl Iterator<Item = (usize, u16)> + '_ {
+    let items = Marks::new(sheet, OPENING).filter(|&(_, mark)| mark == IT);
+    items.filter_map(|(place, _)| Some((place, tagged(sheet, place)?.tag)))
 }
 
 /// One target's tags, for looking back.
-fn pack_tags<'a>(records: Records<'a>) -> impl Iterator<Item = (usize, u16)> + 'a {
-    records.map_while(|(place, record)| match record {
-        Record::TargetItem { tag, .. } => Some((place, tag)),
-        _ => None,
-    })
+fn target_tags(sheet: &[u8], start: usize) -> impl Iterator<Item = (usize, u16)> + '_ {
+    let items = Marks::new(sheet, start).take_while(|&(_, mark)| mark == TI);
+    items.filter_map(|(place, _)| Some((place, tagged(sheet, place)?.tag)))
 }
 
 /// The ids of the series, for looking back.
-fn ids<'a>(records: Records<'a>) -> impl Iterator<Item = (usize, u64)> + Clone + 'a {
-    records.filter_map(|(place, record)| match record {
-        Record::Target { id } => Some((place, id)),
-        _ => None,
-    })
+fn ids(sheet: &[u8]) -> impl Iterator<Item = (usize, u64)> + Clone + '_ {
+    let targets = Marks::new(sheet, OPENING).filter(|&(_, mark)| mark == TG);
+    targets.filter_map(|(place, _)| Some((place, target_id(sheet, place)?)))
 }

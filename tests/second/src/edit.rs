@@ -181,7 +181,7 @@ impl<'a> Splice<'a> {
         }
         out.copy(&self.packet[from..self.gap.0]);
         if let Some((tag, value)) = self.item {
-            out.item(tag, value);
+            out.item(tag, value, value.len());
         }
         out.copy(&self.packet[self.gap.1..self.end]);
         if self.outer.is_some() {

@@ -134,7 +134,7 @@ impl Runs<'_> {
             return;
         }
         self.flush(item.place);
-        self.out.item(item.tag, &self.packet[item.short..item.end]);
+        self.out.item(item.tag, &self.packet[item.short..], length);
         self.from = item.end;
     }
 }

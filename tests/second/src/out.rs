@@ -46,19 +46,24 @@ impl<'a> Out<'a> {
         self.byte((id & 0x7F) as u8);
     }
 
-    /// Tag, length and value.
+    /// Tag, length and value, the first `count` bytes of `from`.
     #[inline]
-    pub fn item(&mut self, tag: u16, value: &[u8]) {
-        if tag > 0x7F || value.len() > 0x7F {
+    pub fn item(&mut self, tag: u16, from: &[u8], count: usize) {
+        if tag > 0x7F || count > 0x7F {
             self.tag(tag);
-            self.length(value.len());
-            return self.copy(value);
+            self.length(count);
+            return self.copy(&from[..count]);
         }
-        let room = &mut self.bytes[self.at..self.at + 2 + value.len()];
-        room[0] = tag as u8;
-        room[1] = value.len() as u8;
-        room[2..].copy_from_slice(value);
-        self.at += 2 + value.len();
+        self.short_item(tag as u8, from, count);
+    }
+
+    /// The same with one byte each of tag and length.
+    #[inline(always)]
+    pub fn short_item(&mut self, tag: u8, from: &[u8], count: usize) {
+        let to = &mut self.bytes[self.at..];
+        to[..2].copy_from_slice(&[tag, count as u8]);
+        copy_front(&mut to[2..], from, count);
+        self.at += 2 + count;
     }
 
     /// Opens a pack: leaves one byte for its length, as nearly all need.
@@ -100,4 +105,18 @@ fn write_length(room: &mut [u8], length: usize) -> usize {
         _ => room[..3].copy_from_slice(&[0x82, (length >> 8) as u8, low]),
     }
     length_width(length)
+}
+
+/// Copies the first `count` bytes. What lies after them in `to` is written
+/// later, so where there is room a short part is copied as one chunk.
+#[inline(always)]
+pub(crate) fn copy_front(to: &mut [u8], from: &[u8], count: usize) {
+    const CHUNK: usize = 16;
+    if count <= CHUNK {
+        if let (Some(to), Some(from)) = (to.first_chunk_mut::<CHUNK>(), from.first_chunk()) {
+            *to = *from;
+            return;
+        }
+    }
+    to[..count].copy_from_slice(&from[..count]);
 }

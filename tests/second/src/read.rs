@@ -1,6 +1,7 @@
 //! Read a packet to a sheet.
 
 use crate::check_packet::check;
+use crate::out::copy_front;
 use crate::packet::{Form, Item, Pack, Visit};
 use crate::refusal::{room, Answer};
 use crate::sheet::{IT, PK, TG, TI, TS};
@@ -65,14 +66,14 @@ impl Records<'_> {
 
     #[inline(always)]
     fn item(&mut self, mark: [u8; 2], item: &Item) {
-        let value = &self.packet[item.short..item.end];
+        let count = item.end - item.short;
         let tag = item.tag.to_be_bytes();
-        let length = (value.len() as u16).to_be_bytes();
-        let record = &mut self.sheet[self.at..self.at + 6 + value.len()];
-        let (head, rest) = record.split_at_mut(6);
-        head.copy_from_slice(&[mark[0], mark[1], tag[0], tag[1], length[0], length[1]]);
-        rest.copy_from_slice(value);
-        self.at += 6 + value.len();
+        let length = (count as u16).to_be_bytes();
+        let head = [mark[0], mark[1], tag[0], tag[1], length[0], length[1]];
+        let (to, from) = (&mut self.sheet[self.at..], &self.packet[item.short..]);
+        to[..6].copy_from_slice(&head);
+        copy_front(&mut to[6..], from, count);
+        self.at += 6 + count;
     }
 }
 

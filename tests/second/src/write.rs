@@ -1,11 +1,10 @@
 //! Write a sheet to a packet.
 
 use crate::check_sheet::check;
-use crate::normal::Sizes;
 use crate::out::Out;
 use crate::packet::Form;
 use crate::refusal::{room, Answer};
-use crate::sheet::{Record, Records, OPENING};
+use crate::sheet::{mark, quick_tagged, tagged, target_id, IT, OPENING, TARGET, TG, TI, TS};
 
 /// Writes a sheet's packet: the count of bytes written.
 pub fn write(sheet: &[u8], packet: &mut [u8]) -> Answer {
@@ -14,39 +13,57 @@ pub fn write(sheet: &[u8], packet: &mut [u8]) -> Answer {
     room(needed, packet.len())?;
     let mut out = Out::new(&mut packet[..needed]);
     sizes.open(form, &mut out);
-    records(sheet, &sizes, &mut out);
+    records(sheet, sizes.series, &mut out);
     if form == Form::Standalone {
         out.checksum();
     }
     Ok(needed)
 }
 
-/// Writes the items of a checked sheet, each pack straight after the other.
-fn records(sheet: &[u8], sizes: &Sizes, out: &mut Out) {
-    let mut pack = None;
-    for (_, record) in Records::new(sheet, OPENING) {
-        if let Record::TargetItem { tag, value } = record {
-            out.item(tag, value);
+/// Writes the records of a checked sheet.
+fn records(sheet: &[u8], series: usize, out: &mut Out) {
+    let mut at = OPENING;
+    loop {
+        at = match mark(sheet, at) {
+            Some(IT) => match tagged(sheet, at) {
+                Some(item) => {
+                    out.item(item.tag, &sheet[item.start..], item.end - item.start);
+                    item.end
+                }
+                None => return,
+            },
+            Some(TS) => {
+                out.tag(101);
+                out.length(series);
+                at + TS.len()
+            }
+            Some(TG) => target(sheet, at, out),
+            _ => return,
+        };
+    }
+}
+
+/// Writes a target straight into the rest of the output: where the next
+/// record begins.
+#[inline(always)]
+fn target(sheet: &[u8], at: usize, out: &mut Out) -> usize {
+    let pack = out.open_pack();
+    out.id(target_id(sheet, at).unwrap_or(0));
+    let mut at = at + TARGET;
+    loop {
+        if let Some(item) = quick_tagged(sheet, at) {
+            out.short_item(item.tag as u8, &sheet[item.start..], item.end - item.start);
+            at = item.end;
             continue;
         }
-        if let Some(place) = pack.take() {
-            out.close_pack(place);
-        }
-        match record {
-            Record::Series => {
-                out.tag(101);
-                out.length(sizes.series);
+        match tagged(sheet, at) {
+            Some(item) if mark(sheet, at) == Some(TI) => {
+                out.item(item.tag, &sheet[item.start..], item.end - item.start);
+                at = item.end;
             }
-            Record::Target { id } => {
-                pack = Some(out.open_pack());
-                out.id(id);
-            }
-            Record::SetItem { tag, value } | Record::TargetItem { tag, value } => {
-                out.item(tag, value);
-            }
+            _ => break,
         }
     }
-    if let Some(place) = pack {
-        out.close_pack(place);
-    }
+    out.close_pack(pack);
+    at
 }

@@ -175,7 +175,7 @@ pub edited-valid : (h : Holder) (tag : ℕ) (c : Change) (p : Packet) (u : Unit 
     → Valid (editPacket h tag c p)
 unfolding editPacket
 edited-valid h tag c p u v e b =
-    rules-then h tag c (content p) u e λ n k tags et.
+    rules-then h tag c (content p) u e λ n k tags et _.
     let k′ : ChangeOk (p .form) (levelOf h) tag c = rw (content-form p) at k in
     let es : List Entry = editEntries h tag c (p .entries) in
     closed-valid (p .form) es (entries-changed (p .form) h tag c k′ (p .entries) (v .entries-valid) (omega (arith, b, entries-less (p .form) es)))

@@ -7,6 +7,7 @@ use lib.ListN.{length}
 use lib.Dec.{ltb, eqb}
 use borrow.Author.Tests.{ltb-true, not-true}
 use Rattle.format.specs.Answer.{Ans, ok, _>>=_, need}
+use Rattle.format.specs.Lists.{has}
 use Rattle.format.specs.Table.{Form, Level, isAlone, ruleOf, nameable, mayStand, valued}
 use Rattle.format.specs.Sheet.{Sheet}
 use Rattle.format.specs.Edit.{Holder, Change, put, remove, levelOf, mustStay, tagsAt, changeRules, editRules}
@@ -19,6 +20,16 @@ abbrev pub ChangeOk : Form → Level → ℕ → Change → Type 0
 ChangeOk f l tag (put v) = Meets l f tag v
 ChangeOk f l tag remove = isAlone f && eqb tag (mustStay l) ≡ false
 
+-- a removal's item is there
+abbrev pub Present : ℕ → Change → List ℕ → Type 0
+Present tag (put v) tags = Unit {0}
+Present tag remove tags = has tag tags ≡ true
+
+change-present : (f : Form) (l : Level) (tag : ℕ) (tags : List ℕ) (c : Change) (u : Unit {0}) → changeRules f l tag tags c ≡ ok u → Present tag c tags
+unfolding changeRules
+change-present f l tag tags (put v) u e = tt
+change-present f l tag tags remove u e = need-then _ _ _ _ e λ p e₁. p
+
 change-says : (f : Form) (l : Level) (tag : ℕ) (tags : List ℕ) (c : Change) (u : Unit {0}) → nameable l tag ≡ true → changeRules f l tag tags c ≡ ok u → ChangeOk f l tag c
 unfolding changeRules
 change-says f l tag tags (put v) u n e =
@@ -28,9 +39,9 @@ change-says f l tag tags (put v) u n e =
 change-says f l tag tags remove u n e = need-then _ _ _ _ e λ _ e₁. not-true _ (need-last _ _ _ e₁)
 
 pub rules-then : {X : Type 0} (h : Holder) (tag : ℕ) (c : Change) (s : Sheet) (u : Unit {0}) → editRules h tag c s ≡ ok u
-    → (nameable (levelOf h) tag ≡ true → ChangeOk (s .form) (levelOf h) tag c → (tags : List ℕ) → tagsAt h (s .parts) ≡ ok tags → X) → X
+    → (nameable (levelOf h) tag ≡ true → ChangeOk (s .form) (levelOf h) tag c → (tags : List ℕ) → tagsAt h (s .parts) ≡ ok tags → Present tag c tags → X) → X
 unfolding editRules
 rules-then h tag c s u e k =
     need-then _ _ _ _ e λ n e₁.
     bind-then _ _ _ e₁ λ tags et e₂.
-    k n (change-says _ _ _ _ _ _ n e₂) tags et
+    k n (change-says _ _ _ _ _ _ n e₂) tags et (change-present _ _ _ _ _ _ e₂)

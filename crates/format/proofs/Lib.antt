@@ -5,4 +5,5 @@ pub mod table
 pub mod reading
 pub mod sheets
 pub mod edits
+pub mod rows
 mod tables

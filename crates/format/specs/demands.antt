@@ -1,3 +1,6 @@
 -- What is promised of the definitions, for all inputs, in the user's words. proofs/demands has the proofs, under the same names.
 pub mod Accepted
 pub mod Kept
+pub mod Rows
+pub mod Shows
+pub mod Sizes

@@ -6,7 +6,7 @@ use crate::packet::{quick_item, read_item, read_pack, Form, Item, Visit, KEY};
 use crate::refusal::*;
 use crate::repeat::{first_id, first_tag, Rising};
 use crate::table::{pack_rule, quick_table, set_rule, Kind, QuickTable};
-use crate::walk::{Items, Packs};
+use crate::walk::{Ids, Tags};
 use crate::PACKET_LIMIT;
 
 /// Checks a packet and gives where its set begins. A visitor hears of items
@@ -85,7 +85,7 @@ fn check_series(
     let mut at = start;
     while at < bytes.len() {
         let pack = read_pack(bytes, at).or_else(|number| refuse(number, at))?;
-        let first = || first_id(Packs::new(bytes, start).map(|pack| (pack.place, pack.id)));
+        let first = || first_id(Ids { bytes, at: start });
         if ids.repeats(pack.id + 1, at, first) {
             return refuse(ID_REPEATED, at);
         }
@@ -166,8 +166,7 @@ impl<'a, const SET: bool> Level<'a, SET> {
         if item.end == item.start {
             return Err(EMPTY);
         }
-        let first =
-            || first_tag(Items::<SET>::new(bytes, start).map(|item| (item.place, item.tag)));
+        let first = || first_tag(Tags::<SET> { bytes, at: start });
         if self.tags.repeats(u64::from(item.tag), at, first) {
             return Err(TAG_REPEATED);
         }

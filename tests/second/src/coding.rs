@@ -99,7 +99,11 @@ pub fn length_width(length: usize) -> usize {
 /// Bytes of a target id as written.
 #[inline]
 pub fn id_width(id: u64) -> usize {
-    (64 - (id | 1).leading_zeros() as usize).div_ceil(7)
+    match id {
+        0..=0x7F => 1,
+        0x80..=0x3FFF => 2,
+        _ => (64 - id.leading_zeros() as usize).div_ceil(7),
+    }
 }
 
 /// A number without its leading zero bytes; 0 keeps one.

@@ -1,4 +1,8 @@
 //! Writing a packet's pieces into lent room, each in its one shortest coding.
+//!
+//! What is common is written in line; what is rare goes through functions of
+//! their own, which take the room and an offset and give the next offset, so
+//! that the state of a pass stays in registers.
 
 use crate::coding::{checksum, id_width, length_width};
 
@@ -13,48 +17,40 @@ impl<'a> Out<'a> {
         Out { bytes, at: 0 }
     }
 
-    #[inline]
+    #[inline(always)]
     pub fn copy(&mut self, part: &[u8]) {
         self.bytes[self.at..self.at + part.len()].copy_from_slice(part);
         self.at += part.len();
     }
 
-    #[inline]
-    pub fn byte(&mut self, byte: u8) {
-        self.bytes[self.at] = byte;
-        self.at += 1;
-    }
-
-    #[inline]
+    #[inline(always)]
     pub fn tag(&mut self, tag: u16) {
-        if tag > 0x7F {
-            self.byte(0x80 | (tag >> 7) as u8);
-        }
-        self.byte((tag & 0x7F) as u8);
+        self.at = write_tag(self.bytes, self.at, tag);
     }
 
-    #[inline]
+    #[inline(always)]
     pub fn length(&mut self, length: usize) {
-        self.at += write_length(&mut self.bytes[self.at..], length);
+        self.at = write_length(self.bytes, self.at, length);
     }
 
-    #[inline]
+    #[inline(always)]
     pub fn id(&mut self, id: u64) {
-        for left in (1..id_width(id)).rev() {
-            self.byte(0x80 | (id >> (7 * left)) as u8);
+        if id < 0x80 {
+            self.bytes[self.at] = id as u8;
+            self.at += 1;
+        } else {
+            self.at = write_id(self.bytes, self.at, id);
         }
-        self.byte((id & 0x7F) as u8);
     }
 
     /// Tag, length and value, the first `count` bytes of `from`.
-    #[inline]
+    #[inline(always)]
     pub fn item(&mut self, tag: u16, from: &[u8], count: usize) {
         if tag > 0x7F || count > 0x7F {
-            self.tag(tag);
-            self.length(count);
-            return self.copy(&from[..count]);
+            self.at = write_item(self.bytes, self.at, tag, &from[..count]);
+        } else {
+            self.short_item(tag as u8, from, count);
         }
-        self.short_item(tag as u8, from, count);
     }
 
     /// The same with one byte each of tag and length.
@@ -67,44 +63,77 @@ impl<'a> Out<'a> {
     }
 
     /// Opens a pack: leaves one byte for its length, as nearly all need.
-    #[inline]
+    #[inline(always)]
     pub fn open_pack(&mut self) -> usize {
         self.at += 1;
         self.at - 1
     }
 
-    /// Closes the pack opened at `place`, moving it on if its length is long.
-    #[inline]
+    /// Closes the pack opened at `place`.
+    #[inline(always)]
     pub fn close_pack(&mut self, place: usize) {
-        let start = place + 1;
-        let length = self.at - start;
-        let further = length_width(length) - 1;
-        if further > 0 {
-            self.bytes.copy_within(start..self.at, start + further);
-            self.at += further;
+        let length = self.at - place - 1;
+        if length < 0x80 {
+            self.bytes[place] = length as u8;
+        } else {
+            self.at = move_pack(self.bytes, place, length);
         }
-        write_length(&mut self.bytes[place..], length);
     }
 
     /// Set tag 1 with the sum of all that was written before its value.
     pub fn checksum(&mut self) {
-        self.tag(1);
-        self.length(2);
+        self.copy(&[1, 2]);
         let sum = checksum(&self.bytes[..self.at]);
         self.copy(&sum.to_be_bytes());
     }
 }
 
-/// Writes a shortest length, never above the packet limit: its width.
-#[inline]
-fn write_length(room: &mut [u8], length: usize) -> usize {
-    let low = length as u8;
-    match length_width(length) {
-        1 => room[0] = low,
-        2 => room[..2].copy_from_slice(&[0x81, low]),
-        _ => room[..3].copy_from_slice(&[0x82, (length >> 8) as u8, low]),
+fn write_tag(bytes: &mut [u8], at: usize, tag: u16) -> usize {
+    if tag < 0x80 {
+        bytes[at] = tag as u8;
+        return at + 1;
     }
-    length_width(length)
+    bytes[at] = 0x80 | (tag >> 7) as u8;
+    bytes[at + 1] = (tag & 0x7F) as u8;
+    at + 2
+}
+
+/// A length is never above the packet limit here.
+fn write_length(bytes: &mut [u8], at: usize, length: usize) -> usize {
+    let (width, low) = (length_width(length), length as u8);
+    match width {
+        1 => bytes[at] = low,
+        2 => bytes[at..at + 2].copy_from_slice(&[0x81, low]),
+        _ => bytes[at..at + 3].copy_from_slice(&[0x82, (length >> 8) as u8, low]),
+    }
+    at + width
+}
+
+fn write_id(bytes: &mut [u8], at: usize, id: u64) -> usize {
+    let width = id_width(id);
+    let mut rest = id;
+    for byte in bytes[at..at + width].iter_mut().rev() {
+        *byte = 0x80 | rest as u8;
+        rest >>= 7;
+    }
+    bytes[at + width - 1] &= 0x7F;
+    at + width
+}
+
+#[inline(never)]
+fn write_item(bytes: &mut [u8], at: usize, tag: u16, value: &[u8]) -> usize {
+    let at = write_tag(bytes, at, tag);
+    let at = write_length(bytes, at, value.len());
+    bytes[at..at + value.len()].copy_from_slice(value);
+    at + value.len()
+}
+
+/// Moves a pack of so many bytes on, as its length needs more than one.
+#[inline(never)]
+fn move_pack(bytes: &mut [u8], place: usize, length: usize) -> usize {
+    let from = place + 1;
+    bytes.copy_within(from..from + length, place + length_width(length));
+    write_length(bytes, place, length) + length
 }
 
 /// Copies the first `count` bytes. What lies after them in `to` is written
@@ -118,5 +147,11 @@ pub(crate) fn copy_front(to: &mut [u8], from: &[u8], count: usize) {
             return;
         }
     }
-    to[..count].copy_from_slice(&from[..count]);
+    copy_exactly(&mut to[..count], &from[..count]);
+}
+
+/// Apart from the chunk above, or the two would be made one call.
+#[inline(never)]
+fn copy_exactly(to: &mut [u8], from: &[u8]) {
+    to.copy_from_slice(from);
 }

@@ -7,7 +7,7 @@
 use crate::coding::TAG_LIMIT;
 
 /// The numbers of one level so far.
-pub struct Rising {
+pub(crate) struct Rising {
     greatest: u64,
     repeat: Option<usize>,
 }
@@ -16,7 +16,7 @@ pub struct Rising {
 const NOWHERE: usize = usize::MAX;
 
 impl Rising {
-    #[inline]
+    #[inline(always)]
     pub fn new() -> Rising {
         Rising {
             greatest: 0,
@@ -37,57 +37,71 @@ impl Rising {
     /// Whether the number at this place stood before; `number` is above 0.
     #[inline(always)]
     pub fn repeats(&mut self, number: u64, place: usize, first: impl FnOnce() -> usize) -> bool {
-        if self.rises(number) {
-            return false;
-        }
-        *self.repeat.get_or_insert_with(first) == place
+        !self.rises(number) && *self.repeat.get_or_insert_with(first) == place
+    }
+}
+
+/// Which of the numbers up to the greatest tag stood before.
+struct Small([u64; (TAG_LIMIT as usize + 1) / 64]);
+
+impl Small {
+    fn new() -> Small {
+        Small([0; (TAG_LIMIT as usize + 1) / 64])
+    }
+
+    /// Notes the number: did it stand before?
+    #[inline]
+    fn again(&mut self, number: usize) -> bool {
+        let word = &mut self.0[number / 64];
+        let before = *word;
+        *word |= 1 << (number % 64);
+        *word == before
     }
 }
 
 /// The place of the first tag that stood before.
 #[cold]
 #[inline(never)]
-pub fn first_tag(mut tags: impl Iterator<Item = (usize, u16)>) -> usize {
-    let mut seen = [0u64; (TAG_LIMIT as usize + 1) / 64];
-    let found = tags.find(|&(_, tag)| {
-        let word = &mut seen[usize::from(tag) / 64];
-        let before = *word;
-        *word |= 1 << (tag % 64);
-        *word == before
-    });
+pub(crate) fn first_tag(mut tags: impl Iterator<Item = (usize, u16)>) -> usize {
+    let mut seen = Small::new();
+    let found = tags.find(|&(_, tag)| seen.again(usize::from(tag)));
     found.map_or(NOWHERE, |(place, _)| place)
 }
 
 /// The place of the first id that stood before.
 #[cold]
 #[inline(never)]
-pub fn first_id(ids: impl Iterator<Item = (usize, u64)> + Clone) -> usize {
+pub(crate) fn first_id(ids: impl Iterator<Item = (usize, u64)> + Clone) -> usize {
     // A sheet holds fewer than 8,192 targets, half the larger table.
     first_in::<1_024>(ids.clone())
         .or_else(|| first_in::<16_384>(ids))
         .unwrap_or(NOWHERE)
 }
 
-/// The same by a table of `SLOTS`, or nothing once it is half full.
+/// The same with room for half of `SLOTS` ids of more than two bytes, or
+/// nothing if there are more.
 #[inline(never)]
 fn first_in<const SLOTS: usize>(ids: impl Iterator<Item = (usize, u64)>) -> Option<usize> {
+    let mut seen = Small::new();
     let mut slots = [0u64; SLOTS];
     let mut room = SLOTS / 2;
     for (place, id) in ids {
-        let key = id.wrapping_add(1);
-        let spread = key.wrapping_mul(0x9E37_79B9_7F4A_7C15);
+        if id <= TAG_LIMIT {
+            if seen.again(id as usize) {
+                return Some(place);
+            }
+            continue;
+        }
+        let spread = id.wrapping_mul(0x9E37_79B9_7F4A_7C15);
         let mut slot = (spread >> (64 - SLOTS.trailing_zeros())) as usize % SLOTS;
-        while slots[slot] != 0 && slots[slot] != key {
+        while slots[slot] != 0 && slots[slot] != id {
             slot = (slot + 1) % SLOTS;
         }
-        if slots[slot] == key {
+        if slots[slot] == id {
             return Some(place);
         }
-        if room == 0 {
-            return None;
-        }
-        room -= 1;
-        slots[slot] = key;
+        room = room.checked_sub(1)?;
+        slots[slot] = id;
     }
     Some(NOWHERE)
 }

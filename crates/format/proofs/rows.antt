@@ -1,3 +1,4 @@
 -- Rows point at values, and show goes by the rows.
 pub mod Point
 pub mod Find
+pub mod Shown

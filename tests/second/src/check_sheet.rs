@@ -239,13 +239,13 @@ fn check_value(rule: &Rule, value: &[u8]) -> Result<(), u8> {
 }
 
 /// The set's tags, for looking back.
-fn set_tags(sheet: &[u8]) -> impl Iterator<Item = (usize, u16)> + '_ {
+fn set_tags(sheet: &[u8]) -> impl Iterator<Item = (usize, u16)> + Clone + '_ {
     let items = Marks::new(sheet, OPENING).filter(|&(_, mark)| mark == IT);
     items.filter_map(|(place, _)| Some((place, tagged(sheet, place)?.tag)))
 }
 
 /// One target's tags, for looking back.
-fn target_tags(sheet: &[u8], start: usize) -> impl Iterator<Item = (usize, u16)> + '_ {
+fn target_tags(sheet: &[u8], start: usize) -> impl Iterator<Item = (usize, u16)> + Clone + '_ {
     let items = Marks::new(sheet, start).take_while(|&(_, mark)| mark == TI);
     items.filter_map(|(place, _)| Some((place, tagged(sheet, place)?.tag)))
 }

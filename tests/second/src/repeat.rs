@@ -62,7 +62,26 @@ impl Small {
 /// The place of the first tag that stood before.
 #[cold]
 #[inline(never)]
-pub(crate) fn first_tag(mut tags: impl Iterator<Item = (usize, u16)>) -> usize {
+pub(crate) fn first_tag(tags: impl Iterator<Item = (usize, u16)> + Clone) -> usize {
+    first_short(tags.clone()).unwrap_or_else(|| first_long(tags))
+}
+
+/// The same among tags of one byte, or nothing at the first of two.
+#[inline(always)]
+fn first_short(tags: impl Iterator<Item = (usize, u16)>) -> Option<usize> {
+    let mut seen = 0u128;
+    for (place, tag) in tags {
+        let bit = 1u128.checked_shl(u32::from(tag))?;
+        if seen & bit != 0 {
+            return Some(place);
+        }
+        seen |= bit;
+    }
+    Some(NOWHERE)
+}
+
+#[inline(never)]
+fn first_long(mut tags: impl Iterator<Item = (usize, u16)>) -> usize {
     let mut seen = Small::new();
     let found = tags.find(|&(_, tag)| seen.again(usize::from(tag)));
     found.map_or(NOWHERE, |(place, _)| place)

@@ -6,6 +6,7 @@ use crate::table::{quick_table, Kind};
 
 /// The tags of a set or a pack, which ends where `bytes` do, and their
 /// places; for looking back.
+#[derive(Clone)]
 pub(crate) struct Tags<'a, const SET: bool> {
     pub bytes: &'a [u8],
     pub at: usize,

@@ -22,6 +22,7 @@ pub struct Named {
 /// - `targets-240-long`: the same out of normal form, each length in two
 ///   bytes and each pixel number with a leading zero;
 /// - `ids-falling`: `targets-290` from its last target to its first;
+/// - `items-falling`: `targets-290` with each pack's items from last to first;
 /// - `packs-falling`: `most-packs` from its last to its first;
 /// - `tags-falling`: two-byte tags from 16,383 down, as many as fit;
 /// - `most-items`, `most-packs`: the most that fit in 8,192 bytes.
@@ -41,6 +42,7 @@ pub fn named() -> Vec<Named> {
         ),
         ("targets-240-long", targets(embedded, 240, true)),
         ("ids-falling", falling(targets(embedded, 290, false))),
+        ("items-falling", items_falling()),
         ("packs-falling", falling(most_packs())),
         ("tags-falling", tags_falling()),
         ("most-items", most_items()),
@@ -124,6 +126,16 @@ fn target(form: Form, id: u16, long: bool) -> Node {
         id: u64::from(id),
         items,
     }
+}
+
+fn items_falling() -> Tree {
+    let mut tree = targets(Form::Embedded, 290, false);
+    for node in tree.packs().into_iter().flatten() {
+        if let Node::Pack { items, .. } = node {
+            items.reverse();
+        }
+    }
+    tree
 }
 
 fn tags_falling() -> Tree {

@@ -6,4 +6,6 @@ pub mod reading
 pub mod sheets
 pub mod edits
 pub mod rows
+pub mod bounds
+pub mod demands
 mod tables

@@ -26,10 +26,7 @@ fn main() {
     let mut sheet = vec![0; PACKET_SHEET_LIMIT];
     let mut out = vec![0; PACKET_LIMIT];
     let mut rows = vec![Row::default(); ROWS_LIMIT];
-    println!(
-        "{:24}{:>6}  read write normalise locate edit show",
-        "packet", "bytes"
-    );
+    println!("{:24}{:>6}  read write normalise locate edit show", "packet", "bytes");
     for named in named() {
         let (form, packet): (Form, &[u8]) = (named.form, &named.packet);
         let length = read(form, packet, &mut sheet).expect("named packets are accepted");

@@ -140,13 +140,7 @@ impl<'a, const SET: bool> Level<'a, SET> {
     #[inline]
     fn new(bytes: &'a [u8], start: usize, standalone: bool) -> Self {
         let (tags, quick) = (Rising::new(), quick_table(SET, standalone));
-        Level {
-            bytes,
-            start,
-            standalone,
-            tags,
-            quick,
-        }
+        Level { bytes, start, standalone, tags, quick }
     }
 
     /// An item that rises above those before and asks nothing else of the
@@ -170,11 +164,7 @@ impl<'a, const SET: bool> Level<'a, SET> {
         if self.tags.repeats(u64::from(item.tag), at, first) {
             return Err(TAG_REPEATED);
         }
-        let rule = if SET {
-            set_rule(item.tag)
-        } else {
-            pack_rule(item.tag)
-        };
+        let rule = if SET { set_rule(item.tag) } else { pack_rule(item.tag) };
         if SET && item.kind == Kind::Checksum && !(self.standalone && item.end == bytes.len()) {
             return Err(MAY_NOT_STAND);
         }

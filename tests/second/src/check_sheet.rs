@@ -166,11 +166,7 @@ fn check_target(sheet: &[u8], start: usize, standalone: bool) -> Result<TargetIt
             continue;
         }
         if mark(sheet, at) != Some(TI) {
-            return Ok(TargetItems {
-                end: at,
-                size,
-                located,
-            });
+            return Ok(TargetItems { end: at, size, located });
         }
         let item = target_item(sheet, start, at, standalone, &mut tags)
             .or_else(|number| refuse(number, at))?;

@@ -68,11 +68,7 @@ fn long_id(rest: &[u8], at: usize) -> Result<(u64, usize), u8> {
         value = value << 7 | u64::from(byte & 0x7F);
         if byte < 0x80 {
             let padded = rest[0] == 0x80;
-            return if padded {
-                Err(BAD_ID)
-            } else {
-                Ok((value, at + index + 1))
-            };
+            return if padded { Err(BAD_ID) } else { Ok((value, at + index + 1)) };
         }
     }
     Err(if rest.len() < ID_WIDTH { CUT } else { BAD_ID })

@@ -1,8 +1,9 @@
 //! Edit one item of a packet, keeping all that stands elsewhere.
 
 use crate::check_packet::check;
-use crate::coding::{length_width, shortest, tag_width, TAG_LIMIT};
+use crate::coding::{length_width, shortest, TAG_LIMIT};
 use crate::find::{Find, Level};
+use crate::normal::Sizes;
 use crate::out::Out;
 use crate::packet::{Form, Item, Pack, KEY};
 use crate::refusal::*;
@@ -112,6 +113,16 @@ struct Around {
     pack_length: usize,
 }
 
+impl Around {
+    /// The lengths once `gone` bytes of the pack have made room for `put`.
+    fn new(series: Item, pack: Pack, gone: usize, put: usize) -> Around {
+        let pack_length = pack.end - pack.start - gone + put;
+        let kept = series.end - series.start - (pack.end - pack.place);
+        let series_length = kept + length_width(pack_length) + pack_length;
+        Around { series, pack, series_length, pack_length }
+    }
+}
+
 impl<'a> Splice<'a> {
     fn new(
         form: Form,
@@ -122,47 +133,21 @@ impl<'a> Splice<'a> {
     ) -> Splice<'a> {
         let end = found.checksum.map_or(packet.len(), |item| item.place);
         let level_end = found.pack.map_or(end, |pack| pack.end);
-        let gap = found
-            .item
-            .map_or((level_end, level_end), |item| (item.place, item.end));
-        let put = item.map_or(0, |(tag, value)| {
-            tag_width(tag) + length_width(value.len()) + value.len()
-        });
-        let around = found.series.zip(found.pack).map(|(series, pack)| {
-            let pack_length = pack.end - pack.start - (gap.1 - gap.0) + put;
-            let kept = series.end - series.start - (pack.end - pack.place);
-            let series_length = kept + length_width(pack_length) + pack_length;
-            Around {
-                series,
-                pack,
-                series_length,
-                pack_length,
-            }
-        });
-        let set = packet.len() - start;
-        let set = match &around {
-            None => set - (gap.1 - gap.0) + put,
-            Some(Around {
-                series,
-                series_length,
-                ..
-            }) => {
-                let kept = set - (series.end - series.place);
-                kept + tag_width(series.tag) + length_width(*series_length) + series_length
+        let gap = found.item.map_or((level_end, level_end), |item| (item.place, item.end));
+        let gone = gap.1 - gap.0;
+        let put = item.map_or(0, |(tag, value)| Sizes::item(tag, value.len()));
+        let around = found.series.zip(found.pack);
+        let around = around.map(|(series, pack)| Around::new(series, pack, gone, put));
+        let (gone, put) = match &around {
+            None => (gone, put),
+            Some(Around { series, series_length, .. }) => {
+                (series.end - series.place, Sizes::item(series.tag, *series_length))
             }
         };
+        let set = packet.len() - start - gone + put;
         let outer = (form == Form::Standalone).then_some(set);
         let total = outer.map_or(0, |set| KEY.len() + length_width(set)) + set;
-        Splice {
-            packet,
-            start,
-            end,
-            gap,
-            item,
-            around,
-            outer,
-            total,
-        }
+        Splice { packet, start, end, gap, item, around, outer, total }
     }
 
     fn write(&self, mut out: Out) {

@@ -25,15 +25,7 @@ pub(crate) struct Find {
 impl Find {
     pub fn new(level: Level, tag: u64) -> Find {
         let (item, pack, series, checksum) = (None, None, None, None);
-        Find {
-            level,
-            tag,
-            inside: false,
-            item,
-            pack,
-            series,
-            checksum,
-        }
+        Find { level, tag, inside: false, item, pack, series, checksum }
     }
 }
 

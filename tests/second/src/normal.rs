@@ -22,13 +22,7 @@ pub fn normalise(form: Form, packet: &[u8], out: &mut [u8]) -> Answer {
     let mut out = Out::new(out);
     sizes.open(form, &mut out);
     let (series, from) = (sizes.series, start);
-    let mut runs = Runs {
-        packet,
-        out,
-        series,
-        from,
-        pack: 0,
-    };
+    let mut runs = Runs { packet, out, series, from, pack: 0 };
     walk(packet, start, &mut runs);
     runs.flush(packet.len());
     Ok(needed)
@@ -121,9 +115,10 @@ struct Runs<'a> {
 }
 
 impl Runs<'_> {
-    #[inline]
+    #[inline(always)]
     fn flush(&mut self, end: usize) {
-        self.out.copy(&self.packet[self.from..end]);
+        let run = &self.packet[self.from..];
+        self.out.copy_front(run, end - self.from);
         self.from = end;
     }
 

@@ -31,22 +31,7 @@ pub fn edit_number(
     value: &[u8],
     out: &mut [u8],
 ) -> u64 {
-    let level = if level == 0 {
-        Level::Set
-    } else {
-        Level::Target(id)
-    };
-    let change = if removal == 0 {
-        Change::Put(value)
-    } else {
-        Change::Remove
-    };
-    answer_number(edit(
-        Form::from_number(form),
-        packet,
-        level,
-        tag,
-        change,
-        out,
-    ))
+    let level = if level == 0 { Level::Set } else { Level::Target(id) };
+    let change = if removal == 0 { Change::Put(value) } else { Change::Remove };
+    answer_number(edit(Form::from_number(form), packet, level, tag, change, out))
 }

@@ -23,6 +23,13 @@ impl<'a> Out<'a> {
         self.at += part.len();
     }
 
+    /// Copies the first `count` bytes of `from`.
+    #[inline(always)]
+    pub fn copy_front(&mut self, from: &[u8], count: usize) {
+        copy_front(&mut self.bytes[self.at..], from, count);
+        self.at += count;
+    }
+
     #[inline(always)]
     pub fn tag(&mut self, tag: u16) {
         self.at = write_tag(self.bytes, self.at, tag);

@@ -30,6 +30,7 @@ pub const KEY: [u8; 16] = [
 #[derive(Clone, Copy, Debug)]
 pub struct Item {
     pub tag: u16,
+    /// `Bytes` also for a number that is shortest as it stands.
     pub kind: Kind,
     /// Where its tag begins.
     pub place: usize,
@@ -90,19 +91,8 @@ pub(crate) fn quick_item<const SET: bool>(
         return None;
     }
     let (start, end) = (place + 2, place + 2 + usize::from(*length));
-    let kind = if !SET && *tag == 17 {
-        Kind::Location
-    } else {
-        Kind::Bytes
-    };
-    Some(Item {
-        tag: u16::from(*tag),
-        kind,
-        place,
-        start,
-        short: start,
-        end,
-    })
+    let kind = if !SET && *tag == 17 { Kind::Location } else { Kind::Bytes };
+    Some(Item { tag: u16::from(*tag), kind, place, start, short: start, end })
 }
 
 /// An item's tag and length, and its value's part: 3, 4, 3, 5, 6.
@@ -132,14 +122,7 @@ pub(crate) fn read_item<const SET: bool>(bytes: &[u8], place: usize) -> Result<I
             short += 1;
         }
     }
-    Ok(Item {
-        tag,
-        kind: rule.kind,
-        place,
-        start,
-        short,
-        end,
-    })
+    Ok(Item { tag, kind: rule.kind, place, start, short, end })
 }
 
 #[inline(never)]
@@ -158,11 +141,5 @@ pub(crate) fn read_pack(bytes: &[u8], place: usize) -> Result<Pack, u8> {
     }
     let end = start + length;
     let (id, items) = coding::id(&bytes[..end], start)?;
-    Ok(Pack {
-        id,
-        place,
-        start,
-        items,
-        end,
-    })
+    Ok(Pack { id, place, start, items, end })
 }

@@ -12,11 +12,7 @@ pub fn read(form: Form, packet: &[u8], sheet: &mut [u8]) -> Answer {
     let mut size = Size { bytes: 3 };
     let start = check(form, packet, &mut size)?;
     room(size.bytes, sheet.len())?;
-    let mut out = Records {
-        packet,
-        sheet: &mut sheet[..size.bytes],
-        at: 0,
-    };
+    let mut out = Records { packet, sheet: &mut sheet[..size.bytes], at: 0 };
     let form = u8::from(form == Form::Standalone);
     out.put(&[PK[0], PK[1], form]);
     walk(packet, start, &mut out);

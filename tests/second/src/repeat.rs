@@ -18,10 +18,7 @@ const NOWHERE: usize = usize::MAX;
 impl Rising {
     #[inline(always)]
     pub fn new() -> Rising {
-        Rising {
-            greatest: 0,
-            repeat: None,
-        }
+        Rising { greatest: 0, repeat: None }
     }
 
     /// Whether the number is above all before, and so no repeat.
@@ -92,9 +89,7 @@ fn first_long(mut tags: impl Iterator<Item = (usize, u16)>) -> usize {
 #[inline(never)]
 pub(crate) fn first_id(ids: impl Iterator<Item = (usize, u64)> + Clone) -> usize {
     // A sheet holds fewer than 8,192 targets, half the larger table.
-    first_in::<1_024>(ids.clone())
-        .or_else(|| first_in::<16_384>(ids))
-        .unwrap_or(NOWHERE)
+    first_in::<1_024>(ids.clone()).or_else(|| first_in::<16_384>(ids)).unwrap_or(NOWHERE)
 }
 
 /// The same with room for half of `SLOTS` ids of more than two bytes, or

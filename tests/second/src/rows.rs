@@ -23,15 +23,7 @@ pub fn locate(form: Form, packet: &[u8], rows: &mut [Row]) -> Answer {
     let start = check(form, packet, &mut count)?;
     room(count.rows, rows.len())?;
     let rows = &mut rows[..count.rows];
-    walk(
-        packet,
-        start,
-        &mut Fill {
-            rows,
-            at: 0,
-            target: 0,
-        },
-    );
+    walk(packet, start, &mut Fill { rows, at: 0, target: 0 });
     Ok(count.rows)
 }
 
@@ -76,12 +68,7 @@ impl Fill<'_> {
     #[inline(always)]
     fn row(&mut self, target: u32, tag: u16, start: usize, end: usize) {
         let (offset, length) = (start as u32, (end - start) as u32);
-        self.rows[self.at] = Row {
-            target,
-            tag: u32::from(tag),
-            offset,
-            length,
-        };
+        self.rows[self.at] = Row { target, tag: u32::from(tag), offset, length };
         self.at += 1;
     }
 }

@@ -44,11 +44,7 @@ pub(crate) fn tagged(sheet: &[u8], at: usize) -> Option<Tagged> {
     let start = at + HEAD;
     let whole = length <= sheet.len() - start;
     let named = tag > 0 && u64::from(tag) <= TAG_LIMIT;
-    (whole && named).then_some(Tagged {
-        tag,
-        start,
-        end: start + length,
-    })
+    (whole && named).then_some(Tagged { tag, start, end: start + length })
 }
 
 /// A whole `TI` record of a one-byte tag and a value below 128 bytes, as
@@ -61,11 +57,7 @@ pub(crate) fn quick_tagged(sheet: &[u8], at: usize) -> Option<Tagged> {
     let length = usize::from(u16::from_be_bytes([head[4], head[5]]));
     let start = at + HEAD;
     let quick = tag < 128 && length < 128 && length <= sheet.len() - start;
-    quick.then_some(Tagged {
-        tag: tag as u16,
-        start,
-        end: start + length,
-    })
+    quick.then_some(Tagged { tag: tag as u16, start, end: start + length })
 }
 
 /// The id of a `TG` record, unless it is cut or has an id that none may have.

@@ -21,11 +21,7 @@ pub struct Shown {
 }
 
 /// The empty part at the start of the detector's: the one way to say no.
-const NOTHING: Shown = Shown {
-    side: Side::Detector,
-    offset: 0,
-    length: 0,
-};
+const NOTHING: Shown = Shown { side: Side::Detector, offset: 0, length: 0 };
 
 impl Shown {
     /// The part itself, from the packets that were shown.
@@ -48,16 +44,9 @@ pub fn show(form: Form, reviewer: &[u8], detector: &[u8], level: Level, tag: u64
         return NOTHING;
     };
     let part = |side: Side| {
-        move |item: Item| Shown {
-            side,
-            offset: item.start,
-            length: item.end - item.start,
-        }
+        move |item: Item| Shown { side, offset: item.start, length: item.end - item.start }
     };
-    reviewed
-        .map(part(Side::Reviewer))
-        .or(detected.map(part(Side::Detector)))
-        .unwrap_or(NOTHING)
+    reviewed.map(part(Side::Reviewer)).or(detected.map(part(Side::Detector))).unwrap_or(NOTHING)
 }
 
 /// The series of a set is no item to this pass, so tag 101 is not found.

@@ -23,16 +23,16 @@ pub struct Rule {
     pub kind: Kind,
     /// An offset item of a pack, which standalone may not have.
     pub offset: bool,
-    pub least: u16,
-    pub greatest: u16,
+    pub least: usize,
+    pub greatest: usize,
 }
 
 impl Rule {
     /// Whether a value of this kind may have this length.
     #[inline]
     pub const fn allows(&self, length: usize) -> bool {
-        length >= self.least as usize
-            && length <= self.greatest as usize
+        length >= self.least
+            && length <= self.greatest
             && (!matches!(self.kind, Kind::Location) || matches!(length, 10 | 16 | 22))
     }
 
@@ -43,42 +43,32 @@ impl Rule {
     }
 }
 
-const fn rule(kind: Kind, least: u16, greatest: u16) -> Rule {
-    Rule {
-        kind,
-        offset: false,
-        least,
-        greatest,
-    }
+const fn rule(kind: Kind, least: usize, greatest: usize) -> Rule {
+    Rule { kind, offset: false, least, greatest }
 }
 
-const fn number(width: u16) -> Rule {
+const fn number(width: usize) -> Rule {
     rule(Kind::Number, 1, width)
 }
 
-const fn pixel(width: u16) -> Rule {
+const fn pixel(width: usize) -> Rule {
     rule(Kind::Pixel, 1, width)
 }
 
-const fn bytes(length: u16) -> Rule {
+const fn bytes(length: usize) -> Rule {
     rule(Kind::Bytes, length, length)
 }
 
-const fn text(greatest: u16) -> Rule {
+const fn text(greatest: usize) -> Rule {
     rule(Kind::Bytes, 1, greatest)
 }
 
 const fn offset() -> Rule {
-    Rule {
-        kind: Kind::Bytes,
-        offset: true,
-        least: 3,
-        greatest: 3,
-    }
+    Rule { kind: Kind::Bytes, offset: true, least: 3, greatest: 3 }
 }
 
-/// One or more bytes; no packet holds more than this.
-static UNLISTED: Rule = rule(Kind::Bytes, 1, u16::MAX);
+/// One or more bytes.
+static UNLISTED: Rule = rule(Kind::Bytes, 1, usize::MAX);
 
 const SET_ITEMS: &[(usize, Rule)] = &[
     (1, rule(Kind::Checksum, 2, 2)),
@@ -92,7 +82,7 @@ const SET_ITEMS: &[(usize, Rule)] = &[
     (10, text(128)), // source sensor
     (11, bytes(2)),  // horizontal field of view
     (12, bytes(2)),  // vertical field of view
-    (101, rule(Kind::Series, 1, u16::MAX)),
+    (101, rule(Kind::Series, 1, usize::MAX)),
 ];
 
 const PACK_ITEMS: &[(usize, Rule)] = &[
@@ -120,7 +110,7 @@ const PACK_ITEMS: &[(usize, Rule)] = &[
 ];
 
 const fn fill(listed: &[(usize, Rule)]) -> [Rule; 128] {
-    let mut table = [rule(Kind::Bytes, 1, u16::MAX); 128];
+    let mut table = [rule(Kind::Bytes, 1, usize::MAX); 128];
     let mut next = 0;
     while next < listed.len() {
         table[listed[next].0] = listed[next].1;
@@ -158,10 +148,7 @@ pub(crate) struct Quick {
 pub(crate) type QuickTable = [Quick; 128];
 
 const fn quick(rules: &[Rule; 128], standalone: bool) -> QuickTable {
-    let mut table = [Quick {
-        lengths: 0,
-        number: false,
-    }; 128];
+    let mut table = [Quick { lengths: 0, number: false }; 128];
     let mut tag = 1;
     while tag < 128 {
         let rule = &rules[tag];

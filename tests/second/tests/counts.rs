@@ -25,15 +25,8 @@ impl Counts {
         for number in 0..20 {
             let count = self.0[number];
             let expected = numbers.contains(&number);
-            assert_eq!(
-                count >= 10,
-                expected,
-                "{call}: {number} came up {count} times"
-            );
-            assert!(
-                expected || count == 0,
-                "{call}: {number} came up {count} times"
-            );
+            assert_eq!(count >= 10, expected, "{call}: {number} came up {count} times");
+            assert!(expected || count == 0, "{call}: {number} came up {count} times");
         }
     }
 }
@@ -57,16 +50,8 @@ fn read_normalise_and_locate() {
     for index in 0..CASES {
         let case = generate::packet(SEED, index);
         let (form, bytes) = (case.form, case.bytes.as_slice());
-        counts[0].add(read(
-            form,
-            bytes,
-            &mut sheet[..room(index, PACKET_SHEET_LIMIT)],
-        ));
-        counts[1].add(normalise(
-            form,
-            bytes,
-            &mut out[..room(index, PACKET_LIMIT)],
-        ));
+        counts[0].add(read(form, bytes, &mut sheet[..room(index, PACKET_SHEET_LIMIT)]));
+        counts[1].add(normalise(form, bytes, &mut out[..room(index, PACKET_LIMIT)]));
         counts[2].add(locate(form, bytes, &mut rows[..room(index, ROWS_LIMIT)]));
     }
     counts[0].assert_all("read", &PACKET_NUMBERS);
@@ -93,14 +78,7 @@ fn edit_has_all_but_17() {
         let case = generate::edit(SEED, index);
         let room = &mut out[..room(index, PACKET_LIMIT)];
         let change = case.change();
-        counts.add(edit(
-            case.form,
-            &case.packet,
-            case.level,
-            case.tag,
-            change,
-            room,
-        ));
+        counts.add(edit(case.form, &case.packet, case.level, case.tag, change, room));
     }
     let mut numbers = PACKET_NUMBERS.to_vec();
     numbers.extend([18, 19]);
@@ -112,13 +90,7 @@ fn show_finds_on_either_side_and_nowhere() {
     let mut counts = [0; 3];
     for index in 0..CASES {
         let case = generate::show(SEED, index);
-        let shown = show(
-            case.form,
-            &case.reviewer,
-            &case.detector,
-            case.level,
-            case.tag,
-        );
+        let shown = show(case.form, &case.reviewer, &case.detector, case.level, case.tag);
         let found = match shown.side {
             _ if shown.length == 0 => 0,
             second::Side::Reviewer => 1,
@@ -127,17 +99,18 @@ fn show_finds_on_either_side_and_nowhere() {
         counts[found] += 1;
     }
     println!("show: {counts:?}");
-    assert!(
-        counts.iter().all(|&count| count >= CASES / 20),
-        "{counts:?}"
-    );
+    assert!(counts.iter().all(|&count| count >= CASES / 20), "{counts:?}");
 }
 
+/// The cases are the same on every machine. Where the generator is changed
+/// on purpose, so is this number.
 #[test]
 fn the_same_seed_gives_the_same_cases() {
-    for index in 0..400 {
-        assert_eq!(generate::case(7, index), generate::case(7, index));
+    let mut digest = 0xCBF2_9CE4_8422_2325u64;
+    for index in 0..1_000 {
+        for byte in format!("{:?}", generate::case(7, index)).bytes() {
+            digest = (digest ^ u64::from(byte)).wrapping_mul(0x0100_0000_01B3);
+        }
     }
-    let differ = (0..400).filter(|&index| generate::case(7, index) != generate::case(8, index));
-    assert!(differ.count() > 350);
+    assert_eq!(digest, 0, "{digest:#018X}");
 }

@@ -25,10 +25,7 @@ fn packets() {
         assert_eq!(sheet.as_ref().err(), normal.as_ref().err(), "case {index}");
         assert_eq!(sheet.as_ref().err(), rows.as_ref().err(), "case {index}");
         if let Err(refusal) = sheet {
-            assert!(
-                (1..=15).contains(&refusal.number),
-                "case {index}: {refusal:?}"
-            );
+            assert!((1..=15).contains(&refusal.number), "case {index}: {refusal:?}");
             assert!(refusal.place <= packet.len(), "case {index}: {refusal:?}");
         }
     }
@@ -68,13 +65,7 @@ fn shows() {
     let (seed, cases) = run();
     for index in 0..cases {
         let case = generate::show(seed, index);
-        let shown = show(
-            case.form,
-            &case.reviewer,
-            &case.detector,
-            case.level,
-            case.tag,
-        );
+        let shown = show(case.form, &case.reviewer, &case.detector, case.level, case.tag);
         let part = shown.part(&case.reviewer, &case.detector);
         assert_eq!(part.len(), shown.length, "case {index}");
         let nothing = (shown.side, shown.offset) == (Side::Detector, 0);
@@ -95,41 +86,16 @@ fn numbers_say_the_same() {
         };
         let removal = if case.value.is_none() { 1 + index } else { 0 };
         let value = case.value.as_deref().unwrap_or(&[9]);
-        let number = edit_number(
-            form,
-            &case.packet,
-            level,
-            id,
-            case.tag,
-            removal,
-            value,
-            &mut one,
-        );
+        let number = edit_number(form, &case.packet, level, id, case.tag, removal, value, &mut one);
         let change = case.change();
-        let answer = edit(
-            case.form,
-            &case.packet,
-            case.level,
-            case.tag,
-            change,
-            &mut other,
-        );
+        let answer = edit(case.form, &case.packet, case.level, case.tag, change, &mut other);
         assert_eq!(number, answer_number(answer), "case {index}");
         let number = read_number(form, &case.packet, &mut one);
-        assert_eq!(
-            number,
-            answer_number(read(case.form, &case.packet, &mut other))
-        );
+        assert_eq!(number, answer_number(read(case.form, &case.packet, &mut other)));
         let number = normalise_number(form, &case.packet, &mut one);
-        assert_eq!(
-            number,
-            answer_number(normalise(case.form, &case.packet, &mut other))
-        );
+        assert_eq!(number, answer_number(normalise(case.form, &case.packet, &mut other)));
         let sheet = generate::sheet(seed, index).bytes;
-        assert_eq!(
-            write_number(&sheet, &mut one),
-            answer_number(write(&sheet, &mut other))
-        );
+        assert_eq!(write_number(&sheet, &mut one), answer_number(write(&sheet, &mut other)));
         assert_eq!(one, other, "case {index}");
     }
 }

@@ -20,11 +20,7 @@ fn opened(tree: &mut Tree, level: Level) -> Option<&mut Vec<Node>> {
         return Some(&mut tree.set);
     };
     let series = tree.set.iter_mut().find(|node| node.tag() == 101)?;
-    let Node::Series {
-        width: series_width,
-        packs,
-    } = series
-    else {
+    let Node::Series { width: series_width, packs } = series else {
         return None;
     };
     packs.iter_mut().find_map(|pack| match pack {
@@ -79,24 +75,14 @@ fn expected(case: &EditCase) -> Result<Vec<u8>, Refusal> {
     let tree = parse(case.form, &case.packet);
     match edited(tree, case).map(|tree| tree.bytes()) {
         Ok(bytes) if bytes.len() <= PACKET_LIMIT => Ok(bytes),
-        Ok(_) => Err(Refusal {
-            number: 1,
-            place: 0,
-        }),
+        Ok(_) => Err(Refusal { number: 1, place: 0 }),
         Err(number) => Err(Refusal { number, place: 0 }),
     }
 }
 
 fn call(case: &EditCase) -> Result<Vec<u8>, Refusal> {
     let mut out = vec![0; PACKET_LIMIT];
-    let count = edit(
-        case.form,
-        &case.packet,
-        case.level,
-        case.tag,
-        case.change(),
-        &mut out,
-    )?;
+    let count = edit(case.form, &case.packet, case.level, case.tag, case.change(), &mut out)?;
     Ok(out[..count].to_vec())
 }
 
@@ -118,10 +104,7 @@ fn edits_follow_the_rules() {
         }
     }
     assert!(accepted > cases / 3, "only {accepted} accepted");
-    assert!(
-        loose > accepted / 2,
-        "only {loose} of {accepted} out of normal form"
-    );
+    assert!(loose > accepted / 2, "only {loose} of {accepted} out of normal form");
 }
 
 /// The result is accepted and its sheet is the old one with the one change.

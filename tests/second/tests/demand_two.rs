@@ -42,9 +42,7 @@ fn rows_of(form: Form, packet: &[u8]) -> Vec<Row> {
 fn accepted(mut each: impl FnMut(Form, &[u8], &[u8])) {
     let (seed, cases) = run();
     let mut count = 0;
-    let named = generate::named()
-        .into_iter()
-        .map(|named| (named.form, named.packet));
+    let named = generate::named().into_iter().map(|named| (named.form, named.packet));
     let packets = (0..cases).map(|index| generate::packet(seed, index));
     let packets = packets.map(|case| (case.form, case.bytes));
     let edited = (0..cases / 4).map(|index| generate::edit(seed, index));
@@ -89,11 +87,7 @@ fn accepted_sheets_come_back() {
         let sheet = generate::sheet(seed, index).bytes;
         if let Some(packet) = write_all(&sheet) {
             let form = Form::from_number(u64::from(sheet[2]));
-            assert_eq!(
-                read_all(form, &packet).as_ref(),
-                Some(&sheet),
-                "case {index}"
-            );
+            assert_eq!(read_all(form, &packet).as_ref(), Some(&sheet), "case {index}");
             assert_eq!(normalise_all(form, &packet), Some(packet), "case {index}");
             count += 1;
         }
@@ -152,10 +146,7 @@ fn by_rows(form: Form, packet: &[u8], level: Level, tag: u64) -> Option<(usize, 
     let target = match level {
         Level::Set => 0,
         Level::Target(id) => {
-            let at = parse(form, packet)
-                .ids()
-                .into_iter()
-                .position(|other| other == id)?;
+            let at = parse(form, packet).ids().into_iter().position(|other| other == id)?;
             at as u32 + 1
         }
     };
@@ -178,10 +169,7 @@ fn show_is_what_the_rows_say() {
         if both.iter().all(|packet| read_all(form, packet).is_some()) {
             let sides = [Side::Reviewer, Side::Detector];
             let parts = both.map(|packet| by_rows(form, packet, level, tag));
-            let found = sides
-                .into_iter()
-                .zip(parts)
-                .find_map(|(side, part)| Some((side, part?)));
+            let found = sides.into_iter().zip(parts).find_map(|(side, part)| Some((side, part?)));
             if let Some((side, (offset, length))) = found {
                 expected = (side, offset, length);
             }
@@ -201,12 +189,8 @@ fn the_table_is_the_models() {
             assert_eq!(rule.is_number(), is_number(set, tag), "{set} {tag}");
             assert_eq!(rule.kind == Kind::Pixel, is_pixel(set, tag), "{set} {tag}");
             assert_eq!(rule.offset, is_offset(set, tag), "{set} {tag}");
-            for length in (1..200).chain([8_192]) {
-                assert_eq!(
-                    rule.allows(length),
-                    allows(set, tag, length),
-                    "{set} {tag} {length}"
-                );
+            for length in (1..200).chain([8_192, 65_535, 65_536, usize::MAX]) {
+                assert_eq!(rule.allows(length), allows(set, tag, length), "{set} {tag} {length}");
             }
         }
     }

@@ -91,13 +91,7 @@ fn edits() {
     let a_put = "E: 05 01 02 65 09 08 01 13 01 05 14 02 04 71";
     let table = [
         (A, Level::Target(1), 19, put.as_slice(), a_put), // I
-        (
-            "E: 05 81 01 02",
-            Level::Set,
-            6,
-            &[3],
-            "E: 05 81 01 02 06 01 03",
-        ), // J
+        ("E: 05 81 01 02", Level::Set, 6, &[3], "E: 05 81 01 02 06 01 03"), // J
     ];
     for (given, level, tag, value, expected) in table {
         let (form, given) = packet(given);
@@ -116,12 +110,6 @@ fn a_has_these_rows() {
     assert_eq!(form, Form::Embedded);
     assert_eq!(locate(form, &packet, &mut rows), Ok(5));
     let lines = rows.map(|row| [row.target, row.tag, row.offset, row.length]);
-    let expected = [
-        [0, 5, 2, 1],
-        [0, 101, 5, 10],
-        [1, 0, 6, 9],
-        [1, 19, 9, 2],
-        [1, 20, 13, 2],
-    ];
+    let expected = [[0, 5, 2, 1], [0, 101, 5, 10], [1, 0, 6, 9], [1, 19, 9, 2], [1, 20, 13, 2]];
     assert_eq!(lines, expected);
 }

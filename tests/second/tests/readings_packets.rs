@@ -17,11 +17,7 @@ fn check(table: &[(&str, &str)]) {
         let mut rows = vec![Row::default(); ROWS_LIMIT];
         assert_answer(text, locate(form, &packet, &mut rows), answer);
         let nothing = edit(form, &packet, Level::Set, 0, Change::Remove, &mut []);
-        let answer = if answer == "accepted" {
-            "19 at 0"
-        } else {
-            answer
-        };
+        let answer = if answer == "accepted" { "19 at 0" } else { answer };
         assert_answer(text, nothing, answer);
     }
 }
@@ -131,23 +127,11 @@ fn limit_key_and_outer_length() {
         ("S: 0D T 01 02 63 55", "6 at 0"),
     ]);
     let mut out = [0; 8];
-    assert_answer(
-        "no key",
-        read(Form::Standalone, &[0; 8193], &mut out),
-        "1 at 0",
-    );
-    assert_answer(
-        "no key",
-        read(Form::Standalone, &[0; 8192], &mut out),
-        "2 at 0",
-    );
+    assert_answer("no key", read(Form::Standalone, &[0; 8193], &mut out), "1 at 0");
+    assert_answer("no key", read(Form::Standalone, &[0; 8192], &mut out), "2 at 0");
     assert_answer("nothing", read(Form::Standalone, &[], &mut out), "2 at 0");
     let key = second::packet::KEY;
-    assert_answer(
-        "under 16 bytes",
-        read(Form::Standalone, &key[..15], &mut out),
-        "2 at 0",
-    );
+    assert_answer("under 16 bytes", read(Form::Standalone, &key[..15], &mut out), "2 at 0");
 }
 
 #[test]
@@ -163,10 +147,7 @@ fn tag_1_and_tag_101_have_rows() {
 fn shows() {
     let (form, h) = packet("S: 0E T 01 02 63 55");
     let shown = show(form, &h, &h, Level::Set, 1);
-    assert_eq!(
-        (shown.side, shown.offset, shown.length),
-        (Side::Reviewer, 29, 2)
-    );
+    assert_eq!((shown.side, shown.offset, shown.length), (Side::Reviewer, 29, 2));
     assert_eq!(shown.part(&h, &h), [0x63, 0x55]);
 
     let (form, a) = packet("E: 05 01 02 65 0A 09 01 13 02 03 68 14 02 04 71");

@@ -36,14 +36,8 @@ fn a_target_without_tag_17() {
         ("PK 01 IT 0002 0008 00*8 TS TG #1", "14 at 19"),
         ("PK 01 IT 0002 0008 00*8 TS TG #1 TG #1", "14 at 19"),
         ("PK 01 IT 0002 0008 00*8 TS TG #1 PK 01", "14 at 19"),
-        (
-            "PK 01 IT 0002 0008 00*8 TS TG #1 TI 0011 000A 00*10",
-            "accepted",
-        ),
-        (
-            "PK 01 IT 0002 0008 00*8 TS TG #1 TI 000A 0003 00*3",
-            "13 at 29",
-        ),
+        ("PK 01 IT 0002 0008 00*8 TS TG #1 TI 0011 000A 00*10", "accepted"),
+        ("PK 01 IT 0002 0008 00*8 TS TG #1 TI 000A 0003 00*3", "13 at 29"),
         ("PK 01 IT 0002 0008 00*8 TS TG #1 TI 000A 0000", "7 at 29"),
     ]);
 }
@@ -107,17 +101,10 @@ fn the_limits_of_a_sheet() {
         ("PK 00 IT 000D 1FFD 00*8189", "1 at 0"),
         // Every 14 comes before the last 1.
         ("PK 01 IT 0002 0008 00*8 IT 000D FFF0 00*65520", "1 at 0"),
-        (
-            "PK 01 IT 0002 0008 00*8 IT 000D F000 00*61440 TS TG #1",
-            "14 at 61465",
-        ),
+        ("PK 01 IT 0002 0008 00*8 IT 000D F000 00*61440 TS TG #1", "14 at 61465"),
     ]);
     let mut out = [0; 1];
-    assert_answer(
-        "over the limit",
-        write(&vec![0; SHEET_LIMIT + 1], &mut out),
-        "1 at 0",
-    );
+    assert_answer("over the limit", write(&vec![0; SHEET_LIMIT + 1], &mut out), "1 at 0");
     let long = bytes("PK 00 IT 000D 1FFD 00*8189");
     assert_answer("1 before 16", write(&long, &mut out), "1 at 0");
     let sheet = bytes("PK 00 IT 0005 0001 01");
@@ -153,28 +140,10 @@ fn the_order_of_an_edit() {
         ("E: 65 02 01 07", T9, 0, Some("01"), "19 at 0"),
         ("E: 65 02 01 07", T9, 4, Some(""), "18 at 0"),
         ("E: 65 02 01 07", T7, 4, Some(""), "7 at 0"),
-        (
-            "E: 65 02 01 07",
-            Level::Target(1 << 63),
-            4,
-            Some("01"),
-            "18 at 0",
-        ),
+        ("E: 65 02 01 07", Level::Target(1 << 63), 4, Some("01"), "18 at 0"),
         ("E: 65 02 01 07", T7, 16_384, Some("01"), "19 at 0"),
-        (
-            "E: 65 02 01 07",
-            T7,
-            1,
-            Some("01"),
-            "E: 65 05 04 07 01 01 01",
-        ),
-        (
-            "E: 65 02 01 07",
-            T7,
-            101,
-            Some("01"),
-            "E: 65 05 04 07 65 01 01",
-        ),
+        ("E: 65 02 01 07", T7, 1, Some("01"), "E: 65 05 04 07 01 01 01"),
+        ("E: 65 02 01 07", T7, 101, Some("01"), "E: 65 05 04 07 65 01 01"),
         ("E: 65 02 01 07", T7, 4, None, "18 at 0"),
         ("E: 65 02 01 07", Level::Set, 1, None, "19 at 0"),
         ("E: 65 02 01 07", Level::Set, 101, None, "19 at 0"),
@@ -188,35 +157,11 @@ fn the_order_of_an_edit() {
 #[test]
 fn lengths_around_an_edit_are_written_shortest() {
     check_edits(&[
-        (
-            "E: 65 81 06 81 04 07 04 01 01",
-            T7,
-            4,
-            None,
-            "E: 65 02 01 07",
-        ),
+        ("E: 65 81 06 81 04 07 04 01 01", T7, 4, None, "E: 65 02 01 07"),
         ("E: 05 81 01 02", Level::Set, 5, Some("02"), "E: 05 01 02"),
-        (
-            "E: 65 81 03 81 01 07",
-            Level::Set,
-            5,
-            Some("02"),
-            "E: 65 81 03 81 01 07 05 01 02",
-        ),
-        (
-            "E: 05 02 00 02 06 01 01",
-            Level::Set,
-            6,
-            None,
-            "E: 05 02 00 02",
-        ),
-        (
-            "S: 81 0E T 01 02 CF 6A",
-            Level::Set,
-            2,
-            Some("00*8"),
-            "S: 0E T 01 02 63 55",
-        ),
+        ("E: 65 81 03 81 01 07", Level::Set, 5, Some("02"), "E: 65 81 03 81 01 07 05 01 02"),
+        ("E: 05 02 00 02 06 01 01", Level::Set, 6, None, "E: 05 02 00 02"),
+        ("S: 81 0E T 01 02 CF 6A", Level::Set, 2, Some("00*8"), "S: 0E T 01 02 63 55"),
     ]);
 }
 
@@ -243,11 +188,7 @@ fn removals_and_offset_tags_in_standalone() {
     ];
     for (level, tag, change, number) in cases {
         let answer = edit(form, &given, level, tag, change, &mut [0; 64]);
-        assert_answer(
-            &format!("{tag} {change:?}"),
-            answer,
-            &format!("{number} at 0"),
-        );
+        assert_answer(&format!("{tag} {change:?}"), answer, &format!("{number} at 0"));
     }
 }
 
@@ -260,14 +201,7 @@ fn an_edit_measures_the_packet_that_results() {
     assert_answer("1 before 16", answer, "1 at 0");
     let mut normal = [0; PACKET_LIMIT];
     let count = normalise(form, &given, &mut normal).unwrap();
-    let answer = edit(
-        form,
-        &normal[..count],
-        Level::Set,
-        6,
-        Change::Put(&[3]),
-        &mut [],
-    );
+    let answer = edit(form, &normal[..count], Level::Set, 6, Change::Put(&[3]), &mut []);
     assert_answer("16", answer, "16 at 8191");
 }
 

@@ -138,7 +138,7 @@ valid-part f seen (targets ts) n m h = (record { new = n; may-stand = set-stands
 
 -- ---- the whole sheet
 
-form-back : (f : Form) (s : List ℕ) → formOf (formByte f ∷ s) ≡ ok f
+pub form-back : (f : Form) (s : List ℕ) → formOf (formByte f ∷ s) ≡ ok f
 form-back embedded s = refl
 form-back standalone s = refl
 

@@ -31,11 +31,7 @@ pub(super) fn id_repeated(random: &mut Random, tree: &mut Tree) {
     let ids = tree.ids();
     let id = if ids.is_empty() { 5 } else { random.pick(&ids) };
     let again = match random.once_in(2) {
-        true => Node::Pack {
-            width: 0,
-            id,
-            items: Vec::new(),
-        },
+        true => Node::Pack { width: 0, id, items: Vec::new() },
         false => valid::pack(random, tree.form, id, 3, valid::NORMAL),
     };
     let packs = packs(random, tree);
@@ -44,20 +40,10 @@ pub(super) fn id_repeated(random: &mut Random, tree: &mut Tree) {
 
 /// A length just outside what the rule allows.
 fn wrong_length(random: &mut Random, rule: &Rule) -> usize {
-    let (least, greatest) = (usize::from(rule.least), usize::from(rule.greatest));
-    let choices = [
-        greatest + 1,
-        greatest + 2,
-        least.saturating_sub(1),
-        least / 2,
-        11,
-        13,
-        17,
-    ];
-    let wrong: Vec<usize> = choices
-        .into_iter()
-        .filter(|&length| length > 0 && !rule.allows(length))
-        .collect();
+    let (least, greatest) = (rule.least, rule.greatest);
+    let choices = [greatest + 1, greatest + 2, least.saturating_sub(1), least / 2, 11, 13, 17];
+    let wrong: Vec<usize> =
+        choices.into_iter().filter(|&length| length > 0 && !rule.allows(length)).collect();
     random.pick(&wrong)
 }
 
@@ -72,7 +58,7 @@ pub(super) fn length_not_allowed(random: &mut Random, tree: &mut Tree) {
 
 pub(super) fn pixel_zero(random: &mut Random, tree: &mut Tree) {
     let tag = random.pick(&[1, 2, 3, 19, 20]);
-    let greatest = usize::from(pack_rule(tag).greatest);
+    let greatest = pack_rule(tag).greatest;
     let value = vec![0; random.between(1, greatest)];
     let nodes = pack(random, tree);
     replace(random, nodes, Node::item(tag, &value));
@@ -110,8 +96,7 @@ pub(super) fn missing(random: &mut Random, tree: &mut Tree) {
         }
         2 => {
             let other = valid::unlisted(random).max(2);
-            tree.set
-                .insert(0, Node::item(if other == 101 { 3 } else { other }, &[7, 7]));
+            tree.set.insert(0, Node::item(if other == 101 { 3 } else { other }, &[7, 7]));
         }
         _ => {
             let nodes = pack(random, tree);

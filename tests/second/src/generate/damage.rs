@@ -45,11 +45,7 @@ pub(super) fn packs<'a>(random: &mut Random, tree: &'a mut Tree) -> &'a mut Vec<
 pub(super) fn pack<'a>(random: &mut Random, tree: &'a mut Tree) -> &'a mut Vec<Node> {
     let packs = packs(random, tree);
     if !packs.iter().any(|node| matches!(node, Node::Pack { .. })) {
-        packs.push(Node::Pack {
-            width: 0,
-            id: 5,
-            items: Vec::new(),
-        });
+        packs.push(Node::Pack { width: 0, id: 5, items: Vec::new() });
     }
     let mut choices: Vec<&mut Vec<Node>> = packs
         .iter_mut()
@@ -86,11 +82,7 @@ fn over_limit(random: &mut Random, tree: &mut Tree) {
 
 fn key(random: &mut Random, tree: &mut Tree) {
     if random.once_in(3) {
-        *tree = Tree {
-            set: Vec::new(),
-            outer: Outer::Raw(Vec::new()),
-            ..tree.clone()
-        };
+        *tree = Tree { set: Vec::new(), outer: Outer::Raw(Vec::new()), ..tree.clone() };
         tree.tail = Tail::Raw(Vec::new());
         tree.key.truncate(random.below(16));
     } else {
@@ -116,11 +108,7 @@ fn cut(random: &mut Random, tree: &mut Tree) {
     ]);
     match random.below(5) {
         0 if tree.form == Form::Standalone => {
-            *tree = Tree {
-                set: Vec::new(),
-                tail: Tail::Raw(Vec::new()),
-                ..tree.clone()
-            };
+            *tree = Tree { set: Vec::new(), tail: Tail::Raw(Vec::new()), ..tree.clone() };
             tree.outer =
                 Outer::Raw(random.pick(&[vec![], vec![0x81], vec![0x82, 0], vec![0x84, 0, 0, 0]]));
         }
@@ -137,14 +125,7 @@ fn cut(random: &mut Random, tree: &mut Tree) {
 /// A pack whose length or id is cut by its own end or the series'.
 fn cut_pack(random: &mut Random) -> Vec<u8> {
     let eight = [vec![8], vec![0xFF; 8]].concat();
-    random.pick(&[
-        vec![0x81],
-        vec![0x83, 0],
-        vec![0],
-        vec![1, 0x80],
-        vec![2, 0x85, 0x80],
-        eight,
-    ])
+    random.pick(&[vec![0x81], vec![0x83, 0], vec![0], vec![1, 0x80], vec![2, 0x85, 0x80], eight])
 }
 
 fn tag(random: &mut Random, tree: &mut Tree) {
@@ -191,28 +172,17 @@ fn length(random: &mut Random, tree: &mut Tree) {
 
 fn past_end(random: &mut Random, tree: &mut Tree) {
     let tag = 24 + random.byte() % 70;
-    let long = random.pick(&[
-        vec![0x84, 255, 255, 255, 255],
-        vec![0x83, 1, 0, 0],
-        vec![0x82, 0x20, 0],
-    ]);
+    let long =
+        random.pick(&[vec![0x84, 255, 255, 255, 255], vec![0x83, 1, 0, 0], vec![0x82, 0x20, 0]]);
     match random.below(4) {
         0 if tree.form == Form::Standalone => tree.outer = Outer::Off(random.pick(&[-1, 1, 300])),
         0 | 1 => {
             let packs = packs(random, tree);
-            packs.push(Node::Raw(random.pick(&[
-                vec![2, 7],
-                long,
-                vec![5, 7, 4, 1, 1],
-            ])));
+            packs.push(Node::Raw(random.pick(&[vec![2, 7], long, vec![5, 7, 4, 1, 1]])));
         }
         2 => {
             let (_, nodes) = level(random, tree);
-            insert(
-                random,
-                nodes,
-                Node::Raw([vec![tag], long, vec![1]].concat()),
-            );
+            insert(random, nodes, Node::Raw([vec![tag], long, vec![1]].concat()));
         }
         _ => {
             let nodes = pack(random, tree);
@@ -229,11 +199,7 @@ fn empty(random: &mut Random, tree: &mut Tree) {
         1 => valid::unlisted(random),
         _ => random.pick(listed),
     };
-    let node = Node::Item {
-        tag,
-        width: random.pick(&[0, 0, 1, 2]),
-        value: Vec::new(),
-    };
+    let node = Node::Item { tag, width: random.pick(&[0, 0, 1, 2]), value: Vec::new() };
     insert(random, nodes, node);
 }
 

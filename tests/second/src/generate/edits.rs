@@ -1,7 +1,7 @@
 //! Edits, most of them of accepted packets that are not in normal form.
 
 use super::packets::{mutated, refused};
-use super::random::Random;
+use super::random::{self, Random};
 use super::tree::{Node, Outer, Tree};
 use super::valid::{self, Style, EDGES, NORMAL, OFFSET_TAGS, PACK_TAGS, SET_TAGS};
 use super::{limits, EditCase};
@@ -22,7 +22,7 @@ pub fn edit(seed: u64, index: u64) -> EditCase {
         9 => series_edge(random, form),
         10 => outer_edge(random),
         11 | 12 => near_limit(random, form),
-        13 | 14 => own_refusal(random, form, NUMBERS[(index / 16) as usize % NUMBERS.len()]),
+        13 | 14 => own_refusal(random, form, random::turn(&NUMBERS, index / 16)),
         _ => packet_refused(random, form, index / 16),
     }
 }
@@ -36,22 +36,12 @@ pub fn rule(level: Level, tag: u16) -> &'static Rule {
 }
 
 fn tree(random: &mut Random, form: Form) -> Tree {
-    let style = if random.once_in(4) {
-        NORMAL
-    } else {
-        Style::loose(random)
-    };
+    let style = if random.once_in(4) { NORMAL } else { Style::loose(random) };
     valid::tree(random, form, style)
 }
 
 fn case(tree: &Tree, level: Level, tag: u64, value: Option<Vec<u8>>) -> EditCase {
-    EditCase {
-        form: tree.form,
-        packet: tree.bytes(),
-        level,
-        tag,
-        value,
-    }
+    EditCase { form: tree.form, packet: tree.bytes(), level, tag, value }
 }
 
 /// The set or one of the targets, the first and last often.
@@ -79,11 +69,7 @@ pub fn standing(tree: &mut Tree, level: Level) -> Vec<u16> {
 
 /// A tag that stands there (its first and last often), or some other.
 pub fn tag(random: &mut Random, level: Level, standing: &[u16]) -> u16 {
-    let listed: &[u16] = if level == Level::Set {
-        &SET_TAGS
-    } else {
-        &PACK_TAGS
-    };
+    let listed: &[u16] = if level == Level::Set { &SET_TAGS } else { &PACK_TAGS };
     match random.below(12) {
         0 if !standing.is_empty() => standing[0],
         1 if !standing.is_empty() => standing[standing.len() - 1],
@@ -157,16 +143,9 @@ fn series_edge(random: &mut Random, form: Form) -> EditCase {
         tree.set.push(valid::item(random, true, 2, style));
     }
     let total = random.pick(&EDGES) + random.below(4);
-    let packs = (1..4)
-        .map(|id| valid::pack(random, form, id, 1, style))
-        .collect();
-    tree.set.push(Node::Series {
-        width: style.width(random),
-        packs,
-    });
-    let have = tree
-        .packs()
-        .map_or(0, |packs| super::tree::all(packs).len());
+    let packs = (1..4).map(|id| valid::pack(random, form, id, 1, style)).collect();
+    tree.set.push(Node::Series { width: style.width(random), packs });
+    let have = tree.packs().map_or(0, |packs| super::tree::all(packs).len());
     let length = total.saturating_sub(have + 4);
     if length > 0 {
         let value = random.bytes(length);
@@ -209,11 +188,7 @@ fn near_limit(random: &mut Random, form: Form) -> EditCase {
 
 /// An edit that its own rules refuse, by number.
 fn own_refusal(random: &mut Random, form: Form, number: u8) -> EditCase {
-    let form = if matches!(number, 13 | 14) {
-        Form::Standalone
-    } else {
-        form
-    };
+    let form = if matches!(number, 13 | 14) { Form::Standalone } else { form };
     let mut tree = tree(random, form);
     if tree.packs().is_none() {
         let series = valid::series(random, form, NORMAL);
@@ -222,30 +197,14 @@ fn own_refusal(random: &mut Random, form: Form, number: u8) -> EditCase {
     let ids = tree.ids();
     let target = Level::Target(random.pick(&ids));
     let level = level(random, &tree);
-    let listed = if level == Level::Set {
-        &SET_TAGS[..]
-    } else {
-        &PACK_TAGS[..]
-    };
+    let listed = if level == Level::Set { &SET_TAGS[..] } else { &PACK_TAGS[..] };
     let tag = random.pick(listed);
     let (level, tag, value) = match number {
-        1 => (level, 300, Some(vec![0; PACKET_LIMIT])),
+        1 => (level, 300, Some(vec![0; random.pick(&[PACKET_LIMIT, 65_535, 65_536, 70_000])])),
         7 => (level, u64::from(tag), Some(Vec::new())),
-        11 => (
-            level,
-            u64::from(tag),
-            Some(vec![0; random.pick(&[7, 11, 129])]),
-        ),
-        12 => (
-            target,
-            random.pick(&[1, 2, 3, 19, 20]),
-            Some(vec![0; random.between(1, 4)]),
-        ),
-        13 => (
-            target,
-            u64::from(random.pick(&OFFSET_TAGS)),
-            Some(vec![1; random.between(1, 3)]),
-        ),
+        11 => (level, u64::from(tag), Some(vec![0; random.pick(&[7, 11, 129])])),
+        12 => (target, random.pick(&[1, 2, 3, 19, 20]), Some(vec![0; random.between(1, 4)])),
+        13 => (target, u64::from(random.pick(&OFFSET_TAGS)), Some(vec![1; random.between(1, 3)])),
         14 => random.pick(&[(Level::Set, 2, None), (target, 17, None)]),
         18 => absent(random, level, target),
         _ => not_editable(random, level),
@@ -270,11 +229,7 @@ fn not_editable(random: &mut Random, level: Level) -> Named {
     let value = random.pick(&[None, Some(vec![1, 2]), Some(Vec::new())]);
     match random.once_in(2) {
         true => (Level::Set, random.pick(&[1, 101]), value),
-        false => (
-            level,
-            random.pick(&[0, 16_384, 65_537, 1 << 40, u64::MAX]),
-            value,
-        ),
+        false => (level, random.pick(&[0, 16_384, 65_537, 1 << 40, u64::MAX]), value),
     }
 }
 
@@ -287,11 +242,5 @@ fn packet_refused(random: &mut Random, form: Form, turn: u64) -> EditCase {
     let level = random.pick(&[Level::Set, Level::Target(1), Level::Target(u64::MAX)]);
     let tag = random.pick(&[0, 2, 4, 5, 17, 19, 20_000]);
     let value = random.pick(&[None, Some(vec![1]), Some(Vec::new())]);
-    EditCase {
-        form: packet.form,
-        packet: packet.bytes,
-        level,
-        tag,
-        value,
-    }
+    EditCase { form: packet.form, packet: packet.bytes, level, tag, value }
 }

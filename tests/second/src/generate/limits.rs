@@ -10,11 +10,13 @@ use crate::PACKET_LIMIT;
 
 /// A tree near one of the limits, on either side of it.
 pub fn tree(random: &mut Random, form: Form) -> Tree {
-    match random.below(12) {
+    match random.below(14) {
         0 => most_items(),
         1 => most_packs(),
         2 => falling(most_packs()),
-        3..=7 => {
+        3 => many_packs(random),
+        4 => many_tags(random),
+        5..=9 => {
             let total = PACKET_LIMIT + 2 - random.below(5);
             of_size(random, form, total)
         }
@@ -44,14 +46,7 @@ pub fn pad(random: &mut Random, tree: &mut Tree, total: usize) {
     }
     let at = random.between(tree.set.len().min(1), tree.set.len());
     let width = random.pick(&[0, 0, 0, 2, 4]);
-    tree.set.insert(
-        at,
-        Node::Item {
-            tag: 13,
-            width,
-            value: vec![0],
-        },
-    );
+    tree.set.insert(at, Node::Item { tag: 13, width, value: vec![0] });
     stretch(tree, total);
 }
 
@@ -75,24 +70,15 @@ pub fn edges(random: &mut Random, form: Form) -> Tree {
         tree.set.push(valid::item(random, true, 2, NORMAL));
     }
     let count = random.between(1, 4);
-    let packs = (0..count as u64)
-        .map(|id| edge_pack(random, form, id, style))
-        .collect();
-    tree.set.push(Node::Series {
-        width: style.width(random),
-        packs,
-    });
+    let packs = (0..count as u64).map(|id| edge_pack(random, form, id, style)).collect();
+    tree.set.push(Node::Series { width: style.width(random), packs });
     for tag in [10, 13, 300] {
         let mut length = random.pick(&EDGES);
         if tag == 10 {
             length = length.min(128);
         }
         let value = random.bytes(length);
-        tree.set.push(Node::Item {
-            tag,
-            width: style.width(random),
-            value,
-        });
+        tree.set.push(Node::Item { tag, width: style.width(random), value });
     }
     tree
 }
@@ -108,11 +94,7 @@ pub fn edge_pack(random: &mut Random, form: Form, id: u64, style: Style) -> Node
     let length = total.saturating_sub(around + 2).max(1);
     items.push(Node::item(18, &random.bytes(length)));
     random.shuffle(&mut items);
-    Node::Pack {
-        width: style.width(random),
-        id,
-        items,
-    }
+    Node::Pack { width: style.width(random), id, items }
 }
 
 /// As many items as fit: one byte of tag, length and value each, in packs
@@ -126,35 +108,23 @@ pub fn most_items() -> Tree {
     };
     let mut tree = Tree::new(Form::Embedded);
     tree.set = small(true).map(|tag| Node::item(tag, &[1])).collect();
-    tree.set.push(Node::Series {
-        width: 0,
-        packs: Vec::new(),
-    });
+    tree.set.push(Node::Series { width: 0, packs: Vec::new() });
     let items: Vec<Node> = small(false).map(|tag| Node::item(tag, &[1])).collect();
-    for id in 0.. {
+    loop {
         let have = tree.bytes().len();
         // Length and id of a pack take four bytes, three for a small one.
         let count = items.len().min((PACKET_LIMIT - have).saturating_sub(4) / 3);
-        if count == 0 {
+        let Some(packs) = tree.packs().filter(|_| count > 0) else {
             return tree;
-        }
-        let pack = Node::Pack {
-            width: 0,
-            id,
-            items: items[..count].to_vec(),
         };
-        tree.packs().expect("a series stands there").push(pack);
+        let id = packs.len() as u64;
+        packs.push(Node::Pack { width: 0, id, items: items[..count].to_vec() });
     }
-    tree
 }
 
 /// As many packs as fit: bare ones, their ids of one byte and then of two.
 pub fn most_packs() -> Tree {
-    let bare = |id| Node::Pack {
-        width: 0,
-        id,
-        items: Vec::new(),
-    };
+    let bare = |id| Node::Pack { width: 0, id, items: Vec::new() };
     let mut tree = Tree::new(Form::Embedded);
     let room = PACKET_LIMIT - 4 - 128 * 2;
     let packs = (0..128 + room as u64 / 3).map(bare).collect();
@@ -167,5 +137,40 @@ pub fn falling(mut tree: Tree) -> Tree {
     if let Some(packs) = tree.packs() {
         packs.reverse();
     }
+    tree
+}
+
+/// Many bare packs, their ids of three bytes in one of the orders, and
+/// sometimes one id twice.
+pub fn many_packs(random: &mut Random) -> Tree {
+    let count = random.between(500, 2_040);
+    let mut ids: Vec<u64> = (0..count).map(|_| valid::id_of_width(random, 3)).collect();
+    ids.sort_unstable();
+    ids.dedup();
+    random.order(&mut ids);
+    if random.once_in(3) {
+        let again = random.pick(&ids);
+        ids.insert(random.below(ids.len()), again);
+    }
+    let bare = |id| Node::Pack { width: 0, id, items: Vec::new() };
+    let mut tree = Tree::new(Form::Embedded);
+    let packs = ids.into_iter().map(bare).collect();
+    tree.set.push(Node::Series { width: 0, packs });
+    tree
+}
+
+/// Many items of two-byte tags in one of the orders, sometimes one twice.
+pub fn many_tags(random: &mut Random) -> Tree {
+    let count = random.between(300, 2_040);
+    let mut tags: Vec<u16> = (0..count).map(|_| random.between(128, 16_383) as u16).collect();
+    tags.sort_unstable();
+    tags.dedup();
+    random.order(&mut tags);
+    if random.once_in(3) {
+        let again = random.pick(&tags);
+        tags.insert(random.below(tags.len()), again);
+    }
+    let mut tree = Tree::new(Form::Embedded);
+    tree.set = tags.into_iter().map(|tag| Node::item(tag, &[1])).collect();
     tree
 }

@@ -32,14 +32,8 @@ pub fn named() -> Vec<Named> {
         ("example-a", example_a()),
         ("targets-12", targets(embedded, 12, false)),
         ("targets-290", targets(embedded, 290, false)),
-        (
-            "targets-12-standalone",
-            targets(Form::Standalone, 12, false),
-        ),
-        (
-            "targets-290-standalone",
-            targets(Form::Standalone, 290, false),
-        ),
+        ("targets-12-standalone", targets(Form::Standalone, 12, false)),
+        ("targets-290-standalone", targets(Form::Standalone, 290, false)),
         ("targets-240-long", targets(embedded, 240, true)),
         ("ids-falling", falling(targets(embedded, 290, false))),
         ("items-falling", items_falling()),
@@ -48,26 +42,15 @@ pub fn named() -> Vec<Named> {
         ("most-items", most_items()),
         ("most-packs", most_packs()),
     ];
-    let named = |(name, tree): (_, Tree)| Named {
-        name,
-        form: tree.form,
-        packet: tree.bytes(),
-    };
+    let named = |(name, tree): (_, Tree)| Named { name, form: tree.form, packet: tree.bytes() };
     list.map(named).into()
 }
 
 fn example_a() -> Tree {
     let mut tree = Tree::new(Form::Embedded);
     let items = vec![Node::item(19, &[3, 0x68]), Node::item(20, &[4, 0x71])];
-    let pack = Node::Pack {
-        width: 0,
-        id: 1,
-        items,
-    };
-    let series = Node::Series {
-        width: 0,
-        packs: vec![pack],
-    };
+    let pack = Node::Pack { width: 0, id: 1, items };
+    let series = Node::Series { width: 0, packs: vec![pack] };
     tree.set = vec![Node::item(5, &[2]), series];
     tree
 }
@@ -99,33 +82,22 @@ fn target(form: Form, id: u16, long: bool) -> Node {
     let (row, column) = (1 + id * 37 % 1_080, 1 + id * 53 % 1_920);
     let centroid = u32::from(row - 1) * 1_920 + u32::from(column);
     let width = u8::from(long);
-    let item = |tag, value: &[u8]| Node::Item {
-        tag,
-        width,
-        value: value.to_vec(),
-    };
+    let item = |tag, value: &[u8]| Node::Item { tag, width, value: value.to_vec() };
     let pixel = |tag, number: u32| {
         let bytes = number.to_be_bytes();
         let short = shortest(&bytes);
         let padded = [&[0], short].concat();
         item(tag, if long { &padded } else { short })
     };
-    let mut items = vec![
-        pixel(1, centroid),
-        item(4, &[1 + (id % 9) as u8]),
-        item(5, &[(id % 101) as u8]),
-    ];
+    let mut items =
+        vec![pixel(1, centroid), item(4, &[1 + (id % 9) as u8]), item(5, &[(id % 101) as u8])];
     if form == Form::Standalone {
         items.push(item(17, &[0x42, 1, 2, 3, 0x21, 4, 5, 6, 0x0B, id as u8]));
     } else {
         items.push(pixel(19, u32::from(row)));
         items.push(pixel(20, u32::from(column)));
     }
-    Node::Pack {
-        width,
-        id: u64::from(id),
-        items,
-    }
+    Node::Pack { width, id: u64::from(id), items }
 }
 
 fn items_falling() -> Tree {

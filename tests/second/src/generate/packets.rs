@@ -2,7 +2,7 @@
 
 use super::damage::{damage, NUMBERS};
 use super::mutate::{mutate, repair, telling};
-use super::random::Random;
+use super::random::{self, Random};
 use super::tree::Tree;
 use super::valid::{self, Style};
 use super::{limits, PacketCase};
@@ -14,19 +14,12 @@ pub fn packet(seed: u64, index: u64) -> PacketCase {
     let form = valid::form(random);
     match index % 16 {
         0..=4 => case(&accepted(random, form)),
-        5..=8 => refused(
-            random,
-            form,
-            NUMBERS[(index / 16 + index) as usize % NUMBERS.len()],
-        ),
+        5..=8 => refused(random, form, random::turn(&NUMBERS, index / 16 + index)),
         9..=11 => mutated(random, form),
         12 => case(&limits::tree(random, form)),
         13 => twice_refused(random, form),
         14 => short(random, form),
-        _ => PacketCase {
-            form,
-            bytes: bytes_by_chance(random),
-        },
+        _ => PacketCase { form, bytes: bytes_by_chance(random) },
     }
 }
 
@@ -37,19 +30,12 @@ pub fn accepted(random: &mut Random, form: Form) -> Tree {
 }
 
 fn case(tree: &Tree) -> PacketCase {
-    PacketCase {
-        form: tree.form,
-        bytes: tree.bytes(),
-    }
+    PacketCase { form: tree.form, bytes: tree.bytes() }
 }
 
 /// A packet with a fault put in on purpose.
 pub fn refused(random: &mut Random, form: Form, number: u8) -> PacketCase {
-    let form = if matches!(number, 2 | 14 | 15) {
-        Form::Standalone
-    } else {
-        form
-    };
+    let form = if matches!(number, 2 | 14 | 15) { Form::Standalone } else { form };
     let mut tree = accepted(random, form);
     damage(random, &mut tree, number);
     case(&tree)
@@ -90,10 +76,7 @@ fn short(random: &mut Random, form: Form) -> PacketCase {
         set.extend([1, 2, 0, 0]);
     }
     let bytes = [KEY.to_vec(), vec![0], set].concat();
-    PacketCase {
-        form,
-        bytes: repair(form, &bytes),
-    }
+    PacketCase { form, bytes: repair(form, &bytes) }
 }
 
 fn bytes_by_chance(random: &mut Random) -> Vec<u8> {

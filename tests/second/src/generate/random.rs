@@ -73,3 +73,8 @@ impl Random {
         }
     }
 }
+
+/// One of some choices in its turn.
+pub fn turn<T: Copy>(choices: &[T], index: u64) -> T {
+    choices[(index % choices.len() as u64) as usize]
+}

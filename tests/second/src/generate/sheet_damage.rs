@@ -39,10 +39,7 @@ fn in_target(random: &mut Random, records: &mut Records) -> usize {
     let after = |records: &Records| -> Vec<usize> {
         let targets = records.iter().enumerate();
         let in_target = |record: &[u8]| record.starts_with(b"TG") || record.starts_with(b"TI");
-        targets
-            .filter(|(_, record)| in_target(record))
-            .map(|(at, _)| at + 1)
-            .collect()
+        targets.filter(|(_, record)| in_target(record)).map(|(at, _)| at + 1).collect()
     };
     if after(records).is_empty() {
         records.extend([b"TS".to_vec(), target(9), item(b"TI", 17, &[3; 10])]);
@@ -52,10 +49,7 @@ fn in_target(random: &mut Random, records: &mut Records) -> usize {
 
 /// Where an `IT` may stand without closing a series early.
 fn in_set(random: &mut Random, records: &mut Records) -> usize {
-    let series = records
-        .iter()
-        .position(|record| record == b"TS")
-        .unwrap_or(records.len());
+    let series = records.iter().position(|record| record == b"TS").unwrap_or(records.len());
     match random.once_in(2) {
         true => random.between(1, series),
         false => records.len(),
@@ -64,11 +58,7 @@ fn in_set(random: &mut Random, records: &mut Records) -> usize {
 
 /// Puts an item of the set or of a target somewhere.
 fn insert(random: &mut Random, records: &mut Records, set: bool, tag: u16, value: &[u8]) {
-    let at = if set {
-        in_set(random, records)
-    } else {
-        in_target(random, records)
-    };
+    let at = if set { in_set(random, records) } else { in_target(random, records) };
     records.insert(at, item(if set { b"IT" } else { b"TI" }, tag, value));
 }
 
@@ -106,11 +96,7 @@ fn repeated(random: &mut Random, records: &mut Records, number: u8) {
         return records.extend([b"TS".to_vec(), target(77)]);
     }
     let at = in_target(random, records);
-    let marks: &[&[u8; 2]] = if number == 9 {
-        &[b"IT", b"TI"]
-    } else {
-        &[b"TG"]
-    };
+    let marks: &[&[u8; 2]] = if number == 9 { &[b"IT", b"TI"] } else { &[b"TG"] };
     let again: Records = records
         .iter()
         .filter(|record| marks.iter().any(|mark| record.starts_with(&mark[..])))
@@ -120,11 +106,7 @@ fn repeated(random: &mut Random, records: &mut Records, number: u8) {
         return;
     }
     let record = random.pick(&again);
-    let at = if record.starts_with(b"IT") {
-        in_set(random, records)
-    } else {
-        at
-    };
+    let at = if record.starts_with(b"IT") { in_set(random, records) } else { at };
     records.insert(at, record);
 }
 
@@ -133,16 +115,9 @@ fn length_not_allowed(random: &mut Random, records: &mut Records) {
     let tag = random.pick(if set { &SET_TAGS[..] } else { &PACK_TAGS[..] });
     let rule = if set { set_rule(tag) } else { pack_rule(tag) };
     let lengths = [1, 2, 4, 7, 9, 11, 13, 23, 33, 129];
-    let wrong: Vec<usize> = lengths
-        .into_iter()
-        .filter(|&length| !rule.allows(length))
-        .collect();
+    let wrong: Vec<usize> = lengths.into_iter().filter(|&length| !rule.allows(length)).collect();
     let length = random.pick(&wrong);
-    let value = if random.once_in(2) {
-        vec![0; length]
-    } else {
-        random.bytes(length)
-    };
+    let value = if random.once_in(2) { vec![0; length] } else { random.bytes(length) };
     remove(records, set, tag);
     insert(random, records, set, tag, &value);
 }
@@ -185,12 +160,7 @@ fn bad_record(random: &mut Random, records: &mut Records) {
             let last = records.pop().unwrap_or_default();
             records.push(last[..random.below(last.len())].to_vec());
         }
-        2 => records.push(random.pick(&[
-            b"X".to_vec(),
-            b"XX".to_vec(),
-            b"IX\x00\x05".to_vec(),
-            b"it".to_vec(),
-        ])),
+        2 => records.push(random.pick(&[&b"X"[..], b"XX", b"IX\x00\x05", b"it"]).to_vec()),
         3 => {
             let tag = random.pick(&[0, 16_384, 16_385, 32_768, 65_535]);
             insert(random, records, set, tag, &[1]);
@@ -205,21 +175,15 @@ fn bad_record(random: &mut Random, records: &mut Records) {
             let id = random.pick(&[1 << 63, u64::MAX]);
             records.insert(at, target(id));
         }
-        _ => {
-            let tag = random.pick(if set {
-                &[4, 5, 6, 8, 9][..]
-            } else {
-                &[1, 3, 6, 9, 19, 22][..]
-            });
-            let value = if random.once_in(2) {
-                vec![0, 1]
-            } else {
-                vec![0, 0]
-            };
-            remove(records, set, tag);
-            insert(random, records, set, tag, &value);
-        }
+        _ => not_shortest(random, records, set),
     }
+}
+
+fn not_shortest(random: &mut Random, records: &mut Records, set: bool) {
+    let tag = random.pick(if set { &[4, 5, 6, 8, 9][..] } else { &[1, 3, 6, 9, 19, 22][..] });
+    let value = [0, random.pick(&[0, 1])];
+    remove(records, set, tag);
+    insert(random, records, set, tag, &value);
 }
 
 /// 17: a good record where it may not stand.

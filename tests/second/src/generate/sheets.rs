@@ -1,7 +1,7 @@
 //! Sheets to write.
 
 use super::mutate::{mutate, telling};
-use super::random::Random;
+use super::random::{self, Random};
 use super::sheet_damage::{self, NUMBERS};
 use super::tree::{Node, Tree};
 use super::valid::{self, NORMAL};
@@ -17,7 +17,7 @@ pub fn sheet(seed: u64, index: u64) -> SheetCase {
     let bytes = match index % 16 {
         0..=4 => accepted(random).concat(),
         5..=8 => {
-            let number = NUMBERS[(index / 16 + index) as usize % NUMBERS.len()];
+            let number = random::turn(&NUMBERS, index / 16 + index);
             sheet_damage::refused(random, number)
         }
         9 | 10 => mutated(random),
@@ -50,11 +50,7 @@ pub fn records(tree: &Tree) -> Vec<Vec<u8>> {
         match node {
             Node::Item { tag, value, .. } => {
                 let number = set_rule(*tag).is_number();
-                out.push(item(
-                    b"IT",
-                    *tag,
-                    if number { shortest(value) } else { value },
-                ));
+                out.push(item(b"IT", *tag, if number { shortest(value) } else { value }));
             }
             Node::Series { packs, .. } => {
                 out.push(b"TS".to_vec());
@@ -74,11 +70,7 @@ fn push_pack(node: &Node, out: &mut Vec<Vec<u8>>) {
     for node in items {
         if let Node::Item { tag, value, .. } = node {
             let number = pack_rule(*tag).is_number();
-            out.push(item(
-                b"TI",
-                *tag,
-                if number { shortest(value) } else { value },
-            ));
+            out.push(item(b"TI", *tag, if number { shortest(value) } else { value }));
         }
     }
 }
@@ -134,12 +126,7 @@ fn one_by_chance(random: &mut Random) -> Vec<u8> {
         4..=6 => item(b"TI", tag, &value),
         7 => b"TS".to_vec(),
         8 => target(random.pick(&[0, 1, 2, (1 << 63) - 1, 1 << 63])),
-        _ => random.pick(&[
-            b"PK\x00".to_vec(),
-            b"T".to_vec(),
-            b"XX".to_vec(),
-            b"TSTG".to_vec(),
-        ]),
+        _ => random.pick(&[b"PK\x00".to_vec(), b"T".to_vec(), b"XX".to_vec(), b"TSTG".to_vec()]),
     }
 }
 
@@ -183,23 +170,34 @@ fn near_packet_limit(random: &mut Random) -> Vec<u8> {
     records(&tree).concat()
 }
 
-/// Sheets of about 65,536 bytes: of one value, or of many small records.
+/// Sheets of about 65,536 bytes: of one value, of many items or of many
+/// targets.
 fn near_sheet_limit(random: &mut Random) -> Vec<u8> {
     let total = SHEET_LIMIT + 2 - random.below(5);
     let mut records = accepted(random);
-    let many = random.below(3);
-    let mut have = records.concat().len();
-    let mut next = 200;
-    while many > 0 && have + 2_000 < total && next < 16_383 {
-        let record = item(b"IT", next, &[1]);
-        have += record.len();
-        records.push(record);
-        next += 1;
+    match random.below(4) {
+        0 => many_targets(random, &mut records),
+        1 => many_items(random, &mut records),
+        _ => {}
     }
-    if many == 2 {
-        records[1..].reverse();
-    }
+    let have = records.concat().len();
     let length = total.saturating_sub(have + 6).min(65_535);
     records.push(item(b"IT", 16_383, &vec![0; length]));
     records.concat()
+}
+
+fn many_items(random: &mut Random, records: &mut Vec<Vec<u8>>) {
+    let first = random.between(128, 1_000) as u16;
+    let mut tags: Vec<u16> = (first..first + 6_000).collect();
+    random.order(&mut tags);
+    records.extend(tags.into_iter().map(|tag| item(b"IT", tag, &[1])));
+}
+
+fn many_targets(random: &mut Random, records: &mut Vec<Vec<u8>>) {
+    let mut ids = valid::ids(random, 6_400);
+    if random.once_in(3) {
+        ids.push(ids[0]);
+    }
+    *records = vec![opening(Form::Embedded), b"TS".to_vec()];
+    records.extend(ids.into_iter().map(target));
 }

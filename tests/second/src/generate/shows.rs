@@ -1,7 +1,8 @@
 //! Shows: pairs of packets so related that the named item is often there.
 
+use super::damage::{damage, NUMBERS};
 use super::edits::{level, standing, tag};
-use super::packets::{accepted, mutated, refused};
+use super::packets::accepted;
 use super::random::Random;
 use super::tree::{Node, Tree};
 use super::valid::{self, NORMAL};
@@ -22,13 +23,7 @@ pub fn show(seed: u64, index: u64) -> ShowCase {
     }
     let reviewer = version(random, &base, index % 16 == 14);
     let detector = version(random, &base, index % 16 == 15);
-    ShowCase {
-        form,
-        reviewer,
-        detector,
-        level,
-        tag,
-    }
+    ShowCase { form, reviewer, detector, level, tag }
 }
 
 /// An item of a tree, or one that could be.
@@ -46,26 +41,22 @@ fn name(random: &mut Random, tree: &mut Tree) -> (Level, u64) {
 
 /// The tree with some items gone, changed or new, or else refused.
 fn version(random: &mut Random, tree: &Tree, bad: bool) -> Vec<u8> {
-    if bad {
-        let number = random.between(1, 15) as u8;
-        return match random.once_in(3) {
-            true => mutated(random, tree.form).bytes,
-            false => refused(random, tree.form, number).bytes,
-        };
-    }
     let mut tree = tree.clone();
+    if bad {
+        let number = random.pick(&NUMBERS);
+        damage(random, &mut tree, number);
+        return tree.bytes();
+    }
     let standalone = tree.form == Form::Standalone;
     for node in &mut tree.set {
         if let Node::Series { packs, .. } = node {
-            packs
-                .iter_mut()
-                .for_each(|pack| thin_pack(random, pack, standalone));
+            packs.iter_mut().for_each(|pack| vary_pack(random, pack, standalone));
             if packs.len() > 1 && random.once_in(3) {
                 packs.remove(random.below(packs.len()));
             }
         }
     }
-    thin(random, &mut tree.set, if standalone { 2 } else { 0 });
+    vary(random, &mut tree.set, true, if standalone { 2 } else { 0 });
     if random.once_in(8) {
         tree.set.retain(|node| node.tag() != 9_000);
         tree.set.push(valid::item(random, true, 9_000, NORMAL));
@@ -73,14 +64,20 @@ fn version(random: &mut Random, tree: &Tree, bad: bool) -> Vec<u8> {
     tree.bytes()
 }
 
-fn thin_pack(random: &mut Random, node: &mut Node, standalone: bool) {
+fn vary_pack(random: &mut Random, node: &mut Node, standalone: bool) {
     if let Node::Pack { items, .. } = node {
-        thin(random, items, if standalone { 17 } else { 0 });
+        vary(random, items, false, if standalone { 17 } else { 0 });
     }
 }
 
-/// Takes some items away, but never the one with a tag that must stand.
-fn thin(random: &mut Random, nodes: &mut Vec<Node>, must: u16) {
+/// Takes some items away, but never the one with a tag that must stand, and
+/// gives some others new values.
+fn vary(random: &mut Random, nodes: &mut Vec<Node>, set: bool, must: u16) {
     let times = random.pick(&[2, 4, 100]);
     nodes.retain(|node| node.tag() == must || !random.once_in(times));
+    for node in nodes {
+        if matches!(node, Node::Item { .. }) && random.once_in(4) {
+            *node = valid::item(random, set, node.tag(), NORMAL);
+        }
+    }
 }

@@ -121,11 +121,7 @@ impl Node {
 
     /// An item with its length written shortest.
     pub fn item(tag: u16, value: &[u8]) -> Node {
-        Node::Item {
-            tag,
-            width: 0,
-            value: value.to_vec(),
-        }
+        Node::Item { tag, width: 0, value: value.to_vec() }
     }
 
     /// The tag of an item or a series, 0 for anything else.
@@ -148,13 +144,7 @@ pub fn all(nodes: &[Node]) -> Vec<u8> {
 impl Tree {
     pub fn new(form: Form) -> Tree {
         let (key, outer, tail) = (KEY.to_vec(), Outer::Width(0), Tail::Sum(0));
-        Tree {
-            form,
-            key,
-            outer,
-            set: Vec::new(),
-            tail,
-        }
+        Tree { form, key, outer, set: Vec::new(), tail }
     }
 
     /// The packet.

@@ -29,18 +29,12 @@ pub const NORMAL: Style = Style { long: 0, padded: 0 };
 impl Style {
     pub fn any(random: &mut Random) -> Style {
         let choices = [0, 1, 2, 2, 6, 6];
-        Style {
-            long: random.pick(&choices),
-            padded: random.pick(&choices),
-        }
+        Style { long: random.pick(&choices), padded: random.pick(&choices) }
     }
 
     /// Never in normal form, if there is but one length and number.
     pub fn loose(random: &mut Random) -> Style {
-        Style {
-            long: random.between(1, 3),
-            padded: random.between(1, 3),
-        }
+        Style { long: random.between(1, 3), padded: random.between(1, 3) }
     }
 
     pub fn width(&self, random: &mut Random) -> Width {
@@ -67,11 +61,11 @@ pub fn unlisted(random: &mut Random) -> u16 {
 
 /// A value that its rule allows.
 pub fn value(random: &mut Random, rule: &Rule, style: Style) -> Vec<u8> {
-    let greatest = usize::from(rule.greatest);
+    let greatest = rule.greatest;
     let length = match rule.kind {
         Kind::Location => random.pick(&[10, 16, 22]),
         _ if greatest > 128 => free_length(random),
-        _ => random.between(usize::from(rule.least), greatest),
+        _ => random.between(rule.least, greatest),
     };
     let mut value = random.bytes(length);
     if rule.is_number() {
@@ -124,11 +118,7 @@ fn tags(random: &mut Random, listed: &[u16], never: &[u16], count: usize) -> Vec
 
 /// An id of so many bytes, 1 to 9.
 pub fn id_of_width(random: &mut Random, width: usize) -> u64 {
-    let least = if width == 1 {
-        0
-    } else {
-        1 << (7 * (width - 1))
-    };
+    let least = if width == 1 { 0 } else { 1 << (7 * (width - 1)) };
     let span = (1u64 << (7 * width)) - least;
     match random.below(8) {
         0 => least,
@@ -170,10 +160,7 @@ pub fn pack(random: &mut Random, form: Form, id: u64, most: usize, style: Style)
     if form == Form::Standalone && !tags.contains(&17) {
         tags.insert(random.below(tags.len() + 1), 17);
     }
-    let items = tags
-        .iter()
-        .map(|&tag| item(random, false, tag, style))
-        .collect();
+    let items = tags.iter().map(|&tag| item(random, false, tag, style)).collect();
     let width = style.width(random);
     Node::Pack { width, id, items }
 }
@@ -185,10 +172,7 @@ pub fn series(random: &mut Random, form: Form, style: Style) -> Node {
         _ => (random.between(1, 6), 8),
     };
     let ids = ids(random, count);
-    let packs = ids
-        .iter()
-        .map(|&id| pack(random, form, id, most, style))
-        .collect();
+    let packs = ids.iter().map(|&id| pack(random, form, id, most, style)).collect();
     let width = style.width(random);
     Node::Series { width, packs }
 }
@@ -201,10 +185,7 @@ fn set(random: &mut Random, form: Form, style: Style) -> Vec<Node> {
         never.push(2);
     }
     let tags = tags(random, &SET_TAGS, &never, count);
-    let mut set: Vec<Node> = tags
-        .iter()
-        .map(|&tag| item(random, true, tag, style))
-        .collect();
+    let mut set: Vec<Node> = tags.iter().map(|&tag| item(random, true, tag, style)).collect();
     if random.below(4) < 3 {
         let series = series(random, form, style);
         set.insert(random.below(set.len() + 1), series);

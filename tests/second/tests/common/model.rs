@@ -97,15 +97,8 @@ fn items(bytes: &[u8], set: bool) -> Vec<Node> {
         let tag = front.base_128() as u16;
         let (width, value) = front.counted();
         nodes.push(match tag {
-            101 if set => Node::Series {
-                width,
-                packs: packs(value),
-            },
-            _ => Node::Item {
-                tag,
-                width,
-                value: value.to_vec(),
-            },
+            101 if set => Node::Series { width, packs: packs(value) },
+            _ => Node::Item { tag, width, value: value.to_vec() },
         });
     }
     nodes
@@ -118,11 +111,7 @@ fn packs(bytes: &[u8]) -> Vec<Node> {
         let (width, value) = front.counted();
         let mut inner = Front(value);
         let id = inner.base_128();
-        nodes.push(Node::Pack {
-            width,
-            id,
-            items: items(inner.0, false),
-        });
+        nodes.push(Node::Pack { width, id, items: items(inner.0, false) });
     }
     nodes
 }

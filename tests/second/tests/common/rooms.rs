@@ -18,12 +18,7 @@ impl Pattern for u8 {
 impl Pattern for Row {
     fn pattern(at: usize) -> Row {
         let at = at as u32;
-        Row {
-            target: !at,
-            tag: at ^ 0xA5A5,
-            offset: !at / 3,
-            length: 77_777 + at,
-        }
+        Row { target: !at, tag: at ^ 0xA5A5, offset: !at / 3, length: 77_777 + at }
     }
 }
 
@@ -53,21 +48,14 @@ pub fn in_every_room<T: Pattern>(
         }
         Err(refusal) => {
             let mut room = lent::<T>(50);
-            assert_eq!(
-                call(&mut room),
-                Err(refusal),
-                "the room changed the refusal"
-            );
+            assert_eq!(call(&mut room), Err(refusal), "the room changed the refusal");
             assert_untouched(&room, 0);
             return Err(refusal);
         }
     };
     if needed > 0 {
         let mut room = lent::<T>(needed - 1);
-        let short = Refusal {
-            number: 16,
-            place: needed,
-        };
+        let short = Refusal { number: 16, place: needed };
         assert_eq!(call(&mut room), Err(short), "one too few");
         assert_untouched(&room, 0);
     }

@@ -15,11 +15,7 @@ pub struct Record {
 
 impl Record {
     fn new(mark: &[u8; 2], number: u64, value: &[u8]) -> Record {
-        Record {
-            mark: *mark,
-            number,
-            value: value.to_vec(),
-        }
+        Record { mark: *mark, number, value: value.to_vec() }
     }
 
     fn item(set: bool, tag: u16, value: &[u8]) -> Record {
@@ -85,15 +81,8 @@ pub fn edit(records: &mut Vec<Record>, level: Level, tag: u64, value: Option<&[u
         Level::Set => (1, records.len()),
         Level::Target(id) => {
             let is_target = |record: &Record| &record.mark == b"TG" && record.number == id;
-            let from = records
-                .iter()
-                .position(is_target)
-                .expect("the target stands there")
-                + 1;
-            let more = records[from..]
-                .iter()
-                .take_while(|record| &record.mark == b"TI")
-                .count();
+            let from = records.iter().position(is_target).expect("the target stands there") + 1;
+            let more = records[from..].iter().take_while(|record| &record.mark == b"TI").count();
             (from, from + more)
         }
     };

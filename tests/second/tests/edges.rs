@@ -1,0 +1,183 @@
+//! The generator reaches the edges: limits, widths of lengths and ids, and
+//! edits that move a length over an edge.
+
+mod common;
+
+use common::model::parse;
+use second::generate::{self, EditCase};
+use second::{edit, locate, read, write, Form, Level, Row};
+use second::{PACKET_LIMIT, PACKET_SHEET_LIMIT, ROWS_LIMIT, SHEET_LIMIT};
+use std::collections::BTreeMap;
+
+const SEED: u64 = 25;
+const CASES: u64 = 16_000;
+
+type Counts = BTreeMap<String, u64>;
+
+fn note(counts: &mut Counts, what: impl Into<String>) {
+    *counts.entry(what.into()).or_default() += 1;
+}
+
+fn assert_met(counts: &Counts, what: &[&str]) {
+    println!("{counts:#?}");
+    for what in what {
+        assert!(counts.contains_key(*what), "never met: {what}");
+    }
+}
+
+fn rows_of(form: Form, packet: &[u8]) -> Vec<Row> {
+    let mut rows = vec![Row::default(); ROWS_LIMIT];
+    let count = locate(form, packet, &mut rows).expect("an accepted packet");
+    rows.truncate(count);
+    rows
+}
+
+/// Bytes that a length is written in.
+fn width(length: usize) -> usize {
+    match length {
+        0..=127 => 1,
+        128..=255 => 2,
+        _ => 3,
+    }
+}
+
+/// The lengths around an edited item: outer, series, pack.
+fn around(case: &EditCase, packet: &[u8]) -> [usize; 3] {
+    let rows = rows_of(case.form, packet);
+    let length = |row: Option<&Row>| row.map_or(0, |row| row.length as usize);
+    let Level::Target(id) = case.level else {
+        return [packet.len(), 0, 0];
+    };
+    let ids = parse(case.form, packet).ids();
+    let number = ids.iter().position(|&other| other == id).map(|at| at as u32 + 1);
+    let series = rows.iter().find(|row| row.target == 0 && row.tag == 101);
+    let pack = rows.iter().find(|row| Some(row.target) == number && row.tag == 0);
+    [packet.len(), length(series), length(pack)]
+}
+
+#[test]
+fn edits_move_lengths_over_edges() {
+    let mut counts = Counts::new();
+    let mut out = vec![0; PACKET_LIMIT];
+    for index in 0..CASES {
+        let case = generate::edit(SEED, index);
+        let change = case.change();
+        let answer = edit(case.form, &case.packet, case.level, case.tag, change, &mut out);
+        let Ok(count) = answer else {
+            continue;
+        };
+        if count > PACKET_LIMIT - 2 {
+            note(&mut counts, format!("result of {count}"));
+        }
+        let (old, new) = (around(&case, &case.packet), around(&case, &out[..count]));
+        for (name, (old, new)) in ["outer", "series", "pack"].iter().zip(old.into_iter().zip(new)) {
+            // The outer length leaves out the key and its own bytes.
+            let own = if *name == "outer" { 18 } else { 0 };
+            let (old, new) = (width(old.saturating_sub(own)), width(new.saturating_sub(own)));
+            if old != new && (*name != "outer" || case.form == Form::Standalone) {
+                note(&mut counts, format!("{name} {old} to {new}"));
+            }
+        }
+    }
+    assert_met(
+        &counts,
+        &[
+            "result of 8191",
+            "result of 8192",
+            "outer 1 to 2",
+            "outer 2 to 1",
+            "outer 2 to 3",
+            "outer 3 to 2",
+            "series 1 to 2",
+            "series 2 to 1",
+            "series 2 to 3",
+            "series 3 to 2",
+            "pack 1 to 2",
+            "pack 2 to 1",
+            "pack 2 to 3",
+            "pack 3 to 2",
+        ],
+    );
+}
+
+#[test]
+fn packets_reach_the_limits() {
+    let mut counts = Counts::new();
+    let mut sheet = vec![0; PACKET_SHEET_LIMIT];
+    for index in 0..CASES {
+        let case = generate::packet(SEED, index);
+        let (form, packet) = (case.form, &case.bytes);
+        if packet.len() == PACKET_LIMIT + 1 {
+            note(&mut counts, "8193 bytes");
+        }
+        if read(form, packet, &mut sheet).is_err() {
+            continue;
+        }
+        if packet.len() > PACKET_LIMIT - 2 {
+            note(&mut counts, format!("{form:?} of {} bytes", packet.len()));
+        }
+        for row in rows_of(form, packet) {
+            let kind = match (row.target, row.tag) {
+                (0, 101) => "series",
+                (_, 0) => "pack",
+                _ => "value",
+            };
+            if matches!(row.length, 127 | 128 | 255 | 256) {
+                note(&mut counts, format!("{kind} of {}", row.length));
+            }
+        }
+        for id in parse(form, packet).ids() {
+            let bits = 64 - id.leading_zeros() as usize;
+            note(&mut counts, format!("id of {}", bits.div_ceil(7).max(1)));
+        }
+    }
+    let mut met: Vec<String> = vec!["8193 bytes".into()];
+    for form in ["Embedded", "Standalone"] {
+        met.extend([8_191, 8_192].map(|count| format!("{form} of {count} bytes")));
+    }
+    for kind in ["value", "pack", "series"] {
+        met.extend([127, 128, 255, 256].map(|length| format!("{kind} of {length}")));
+    }
+    met.extend((1..=9).map(|width| format!("id of {width}")));
+    assert_met(&counts, &met.iter().map(String::as_str).collect::<Vec<_>>());
+}
+
+#[test]
+fn sheets_reach_the_limits() {
+    let mut counts = Counts::new();
+    let mut packet = vec![0; PACKET_LIMIT];
+    for index in 0..CASES {
+        let sheet = generate::sheet(SEED, index).bytes;
+        if sheet.len().abs_diff(SHEET_LIMIT) < 2 {
+            note(&mut counts, format!("{} bytes", sheet.len()));
+        }
+        match write(&sheet, &mut packet) {
+            Ok(count) if count > PACKET_LIMIT - 2 => {
+                note(&mut counts, format!("packet of {count}"));
+            }
+            _ => {}
+        }
+    }
+    let met = ["65535 bytes", "65536 bytes", "65537 bytes", "packet of 8191", "packet of 8192"];
+    assert_met(&counts, &met);
+}
+
+#[test]
+fn named_packets_are_what_they_say() {
+    let find = |name: &str| {
+        let named = generate::named().into_iter().find(|named| named.name == name);
+        let named = named.expect("such a packet");
+        rows_of(named.form, &named.packet)
+    };
+    let packs = |rows: &[Row]| rows.iter().filter(|row| row.target > 0 && row.tag == 0).count();
+    assert_eq!(find("example-a").len(), 5);
+    for (name, count) in [("targets-12", 12), ("targets-290", 290), ("ids-falling", 290)] {
+        assert_eq!(packs(&find(name)), count);
+    }
+    assert_eq!(packs(&find("targets-290-standalone")), 290);
+    assert_eq!(find("tags-falling").len(), 2_048);
+    // Ids of one byte take two bytes and those of two take three.
+    assert_eq!(packs(&find("most-packs")), 128 + (8_192 - 4 - 256) / 3);
+    let rows = find("most-items");
+    assert!(rows.len() - packs(&rows) > 2_690, "{}", rows.len());
+}

@@ -1,3 +1,4 @@
--- Document 01's worked examples, and the points of reading decided in docs/DECISIONS.md, as tables that the checker computes.
+-- Tables that the checker computes: document 01's worked examples, and the points of reading that docs/DECISIONS.md decides.
 mod Open
 mod Starred
+mod Readings

@@ -1,10 +1,10 @@
 -- Coding: numbers in bytes, lengths, tags and ids, both ways (document 01, Coding).
 use Prim.Native.Nat.{ℕ, zero, suc, _+_, _-_, _*_, _/_, _%_, _<_}
-use mathlib.Core.Bool.{Bool, true, false, not, _&&_}
+use mathlib.Core.Bool.{true, false, not, _&&_}
 use mathlib.Core.List.{List, [], _∷_, _++_}
 use lib.ListN.{length, take, getD}
 use lib.Dec.{ltb, leb, eqb}
-use Rattle.format.specs.Answer.{Ans, ok, refused, Got, got, _>>=_, need}
+use Rattle.format.specs.Answer.{Ans, ok, refused, Got, got, need, _>>=_}
 
 -- every element is a byte
 abbrev pub Bytes : List ℕ → Type 0

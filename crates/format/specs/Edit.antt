@@ -4,10 +4,10 @@ use mathlib.Core.Bool.{Bool, true, false, not, _&&_}
 use mathlib.Core.List.{List, map}
 use lib.ListN.{length}
 use lib.Dec.{ltb, eqb}
-use Rattle.format.specs.Answer.{Ans, ok, refused, _>>=_, need}
+use Rattle.format.specs.Answer.{Ans, ok, refused, need, _>>=_}
 use Rattle.format.specs.Lists.{has, putIn, takeOut, onHit, askHit}
 use Rattle.format.specs.Table.{Form, Level, set, pack, isAlone, ruleOf, nameable, mayStand, valued, short}
-use Rattle.format.specs.Packet.{Item, Pack, Entry, plain, series, Packet, tagOfItem, tagOfEntry, closed}
+use Rattle.format.specs.Packet.{Pack, Entry, plain, series, Packet, tagOfItem, tagOfEntry, closed}
 use Rattle.format.specs.Read.{parse}
 use Rattle.format.specs.Sheet.{Val, Target, Part, one, targets, Sheet, tagOfVal, tagOfPart, content}
 use Rattle.format.specs.Calls.{itemOf, packWith, seriesWith, packed}

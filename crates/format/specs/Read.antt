@@ -1,7 +1,7 @@
 -- Reading: bytes to a packet's tree, or the first fault (document 01, Refusal numbers: Reading order).
 use Prim.Native.Nat.{ℕ, _+_, _-_}
-use mathlib.Core.Bool.{Bool, true, false, not, _&&_, _||_}
-use mathlib.Core.List.{List, [], _∷_, map}
+use mathlib.Core.Bool.{true, false, not, _&&_, _||_}
+use mathlib.Core.List.{List, [], map}
 use lib.ListN.{length, take, drop}
 use lib.Dec.{leb, eqb}
 use Rattle.format.specs.Answer.{Ans, ok, Got, got, _>>=_, need, after}

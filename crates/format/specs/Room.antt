@@ -1,6 +1,6 @@
 -- What a call leaves behind in the room lent: 16 if that is too short, and no lent byte or row changed on a refusal.
 use Prim.Native.Nat.{ℕ, _+_, _*_}
-use mathlib.Core.Bool.{Bool, true, false}
+use mathlib.Core.Bool.{true, false}
 use mathlib.Core.List.{List, _++_}
 use lib.ListN.{length, drop}
 use lib.Dec.{leb}

@@ -5,12 +5,12 @@ use native.Mathlib.Omega.{arith}
 use mathlib.Core.Bool.{Bool, true, false}
 use mathlib.Core.List.{List, [], _∷_, map}
 use lib.ListN.{length, take, drop, length-drop, length-take}
-use lib.Dec.{ltb, leb, eqb}
+use lib.Dec.{ltb, eqb}
 use borrow.Author.Tests.{leb-true}
-use Rattle.format.specs.Answer.{Ans, ok, refused, Got, got, _>>=_, need, after}
+use Rattle.format.specs.Answer.{Ans, ok, Got, need, after}
 use Rattle.format.specs.Coding.{longOf, lenOf, oidGo, oid, tagOf, idOf}
 use Rattle.format.specs.Table.{Form, embedded, standalone, Level, pack, standing, valued, itemRules, ended, ruleOf, Rule}
-use Rattle.format.specs.Packet.{Item, Pack, Entry, Packet, tagOfItem, idOfPack, tagOfEntry}
+use Rattle.format.specs.Packet.{Item, Pack, Entry, tagOfItem, idOfPack, tagOfEntry}
 use Rattle.format.specs.Run.{run, always}
 use Rattle.format.specs.Read.{Head, headOf, item, PackHead, packHead, onePack, deepen, entry, opening, start, closing, parse}
 use Rattle.format.specs.demands.Demand1.{Answers}

@@ -1,21 +1,20 @@
 -- How large a refusal's number and place can be, for a sheet and its records, and for an edit.
 use mathlib.Core.Path.{_≡_, refl}
-use Prim.Native.Nat.{ℕ, zero, suc, _+_, _-_, _≤_, _<_}
+use Prim.Native.Nat.{ℕ, zero, suc, _≤_, _<_}
 use native.Mathlib.Omega.{arith}
 use mathlib.Core.Bool.{Bool, true, false}
 use mathlib.Core.List.{List, [], _∷_, map}
 use lib.ListN.{length, drop, length-drop}
-use lib.Dec.{leb}
 use borrow.Author.Tests.{leb-true}
-use Rattle.format.specs.Answer.{Ans, ok, refused, Got, got, _>>=_, need, after}
+use Rattle.format.specs.Answer.{Ans, ok, Got}
 use Rattle.format.specs.Lists.{askHit}
-use Rattle.format.specs.Table.{Form, Level, set, pack, itemRules, ended}
+use Rattle.format.specs.Table.{Form, Level, set, pack}
 use Rattle.format.specs.Packet.{Packet}
-use Rattle.format.specs.Run.{run, always}
+use Rattle.format.specs.Run.{always}
 use Rattle.format.specs.Sheet.{Val, Target, Part, one, targets, Sheet, tagOfVal, idOfTarget, tagOfPart, TS, TG, TI, IT, is, field, valueAt, targetAt, seriesAt, partAt, formOf, unsheet}
 use Rattle.format.specs.Calls.{packed}
 use Rattle.format.specs.Edit.{Holder, theSet, target, Change, put, remove, isTargets, targetTags, tagsAt, changeRules, editRules}
-use Rattle.format.specs.demands.Demand1.{Refuses, Answers}
+use Rattle.format.specs.demands.Demand1.{Answers}
 use Rattle.format.proofs.words.Answers.{never, no-bool, bind-then, need-then, after-then, ok-inj}
 use Rattle.format.proofs.bounds.Answers.{refuses-ok, refuses-no, refuses-need, refuses-bind, refuses-after, Early, early-after, early-more, early-answers, Steady, run-early, run-room}
 use Rattle.format.proofs.bounds.Packets.{Here, here-need, standing-here, valued-here, rules-here, ended-here}

@@ -1,5 +1,5 @@
 -- Numbers and their digits, once over the base, the mark and the count.
-use mathlib.Core.Path.{_≡_, refl, sym, ap, _∙_}
+use mathlib.Core.Path.{_≡_, refl, sym, _∙_}
 use Prim.Native.Nat.{ℕ, zero, suc, _+_, _-_, _*_, _/_, _%_, _≤_, _<_, _^_}
 use native.Mathlib.Nat.{div-add-mod', zero-div, zero-add, sub-zero, add-zero, mul-add-div-right, mul-add-mod-self-right, mod-eq-of-lt, div-eq-of-lt, div-lt-iff-lt-mul, pow-suc, pow-zero, suc-mul}
 use native.Mathlib.Omega.{arith}

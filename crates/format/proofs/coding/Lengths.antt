@@ -1,15 +1,15 @@
 -- Lengths: what was written is read back, and what was read is what would be written.
-use mathlib.Core.Path.{_≡_, refl, sym, ap, _∙_}
+use mathlib.Core.Path.{_≡_, refl, ap, _∙_}
 use Prim.Native.Nat.{ℕ, zero, suc, _+_, _-_, _≤_, _<_, _^_}
 use native.Mathlib.Omega.{arith}
-use mathlib.Core.Bool.{Bool, true, false, _&&_}
+use mathlib.Core.Bool.{Bool, true, false}
 use mathlib.Core.List.{List, [], _∷_, _++_}
 use lib.ListN.{length, take, drop, length-append, take-append-drop}
 use lib.Seq.{take-at, length-take-le}
 use lib.Dec.{ltb, leb}
 use borrow.Author.Tests.{lt-ltb, le-ltb, le-leb, ltb-true, ltb-false, leb-true}
-use Rattle.format.specs.Answer.{Ans, ok, Got, got, _>>=_, need}
-use Rattle.format.specs.Coding.{Bytes, bytesNumber, number, digits, fixed, longOf, lenOf, lenBytes, lenWidth}
+use Rattle.format.specs.Answer.{ok, Got, got, _>>=_, need}
+use Rattle.format.specs.Coding.{Bytes, bytesNumber, digits, fixed, longOf, lenOf, lenBytes, lenWidth}
 use Rattle.format.specs.Valid.{Holds}
 use Rattle.format.proofs.words.Answers.{never, need-then, ok-inj, and-both}
 use Rattle.format.proofs.words.Bytes.{bytes-take, Took}

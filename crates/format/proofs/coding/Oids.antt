@@ -3,17 +3,17 @@ use mathlib.Core.Path.{_≡_, refl, sym, ap, _∙_}
 use Prim.Native.Nat.{ℕ, zero, suc, _+_, _-_, _*_, _/_, _%_, _≤_, _<_, _^_}
 use native.Mathlib.Nat.{div-add-mod', zero-add, add-zero, suc-add, add-suc}
 use native.Mathlib.Omega.{arith}
-use mathlib.Core.Bool.{Bool, true, false, not}
+use mathlib.Core.Bool.{Bool, true, false}
 use mathlib.Core.List.{List, [], _∷_, _++_, append-assoc}
-use lib.ListN.{length, take, drop, getD, length-append}
+use lib.ListN.{length, drop, getD, length-append}
 use lib.Seq.{drop-at}
-use lib.Dec.{ltb, eqb}
+use lib.Dec.{ltb}
 use borrow.Author.Tests.{lt-ltb, le-ltb, ne-eqb, ltb-true, ltb-false, eqb-false, not-true}
-use Rattle.format.specs.Answer.{Ans, ok, Got, got, _>>=_, need}
+use Rattle.format.specs.Answer.{ok, Got, got, _>>=_, need}
 use Rattle.format.specs.Coding.{Bytes, number, digits, oidGo, oid, tagOf, idOf, oidBytes}
 use Rattle.format.specs.Valid.{All}
 use Rattle.format.proofs.words.Answers.{never, bind-then, need-then, ok-inj}
-use Rattle.format.proofs.words.Bytes.{bytes-left, Took}
+use Rattle.format.proofs.words.Bytes.{Took}
 use Rattle.format.proofs.coding.Digits.{Fits, Digit, Marked, fits-more, number-fits, digits-marked, digits-number, digits-few, digits-zero, digits-pos, digits-head, digits-acc}
 
 pub oid-some : (n : ℕ) → 0 < length (oidBytes n)

@@ -9,7 +9,6 @@ use Rattle.format.specs.Packet.{Packet}
 use Rattle.format.specs.Read.{parse}
 use Rattle.format.specs.Sheet.{content, sheetBytes, unsheet}
 use Rattle.format.specs.Calls.{read}
-use Rattle.format.specs.Valid.{Lies}
 use Rattle.format.specs.demands.Accepted.{AcceptedWhenValid, SheetWhenValid}
 use Rattle.format.proofs.words.Answers.{bind-then, ok-inj}
 use Rattle.format.proofs.reading.Packets.{parse-says, lies-parses}

@@ -1,16 +1,14 @@
 -- Demand 1, of the definitions: numbers and places, and what is left in the room lent.
-use mathlib.Core.Path.{_≡_, refl}
-use Prim.Native.Nat.{ℕ, _≤_, _<_}
+use mathlib.Core.Path.{refl}
+use Prim.Native.Nat.{ℕ}
 use native.Mathlib.Omega.{arith}
-use mathlib.Core.List.{List, _++_}
-use lib.ListN.{length, take, drop, length-append, length-drop}
+use mathlib.Core.List.{List}
+use lib.ListN.{length, drop, length-append, length-drop}
 use lib.Seq.{take-append-seam, drop-append-seam}
-use lib.Dec.{leb}
 use borrow.Author.Tests.{le-leb, lt-leb}
-use Rattle.format.specs.Answer.{Ans, ok, refused, _>>=_}
+use Rattle.format.specs.Answer.{Ans}
 use Rattle.format.specs.Table.{Form}
-use Rattle.format.specs.Read.{parse}
-use Rattle.format.specs.Calls.{packed, read, write, normalise}
+use Rattle.format.specs.Calls.{read, write, normalise}
 use Rattle.format.specs.Rows.{locate}
 use Rattle.format.specs.Edit.{Holder, Change, edit}
 use Rattle.format.specs.Room.{leaves}

@@ -1,12 +1,10 @@
 -- Demand 2: writing what was read, and reading what was written.
 use mathlib.Core.Path.{_≡_, refl, sym, ap, _∙_, subst}
-use mathlib.Core.Bool.{true, false}
 use mathlib.Core.List.{List}
 use mathlib.Core.Logic.{_↔_}
 use Prim.Native.Nat.{ℕ, _≤_}
 use native.Mathlib.Omega.{arith}
 use lib.ListN.{length, drop}
-use lib.Dec.{leb}
 use borrow.Author.Tests.{leb-true, le-leb}
 use Rattle.format.specs.Answer.{Ans, ok, refused, _>>=_, need}
 use Rattle.format.specs.Coding.{Bytes}
@@ -16,7 +14,7 @@ use Rattle.format.specs.Packet.{Item, Packet, flat}
 use Rattle.format.specs.Read.{parse, limit}
 use Rattle.format.specs.Sheet.{Sheet, content, valOf, formOf, partBytes, sheetBytes, unsheet}
 use Rattle.format.specs.Calls.{packetOf, packed, read, write, normalise}
-use Rattle.format.specs.Valid.{Valid, Lies, SheetValid}
+use Rattle.format.specs.Valid.{Valid}
 use Rattle.format.specs.demands.Demand2.{Normal, SheetAgain, SameMeaning, ValueKept}
 use Rattle.format.proofs.words.Answers.{never, bind-then, need-then, ok-inj}
 use Rattle.format.proofs.table.Values.{short-keeps, short-number}

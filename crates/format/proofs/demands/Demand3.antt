@@ -1,25 +1,24 @@
 -- Demand 3, in one place.
 use mathlib.Core.Path.{_≡_, refl, sym, ap, _∙_, subst}
-use Prim.Native.Nat.{ℕ, _≤_, _<_}
-use native.Mathlib.Omega.{arith}
+use Prim.Native.Nat.{ℕ, _≤_}
 use mathlib.Core.Bool.{Bool, true, false}
 use mathlib.Core.List.{List}
-use mathlib.Core.Logic.{_⊎_, inl, inr, _↔_}
+use mathlib.Core.Logic.{inl, inr}
 use lib.ListN.{length}
 use lib.Dec.{leb}
-use borrow.Author.Tests.{leb-true, leb-false, le-leb, lt-leb}
+use borrow.Author.Tests.{leb-false, lt-leb}
 use Rattle.format.specs.Answer.{Ans, ok, refused, _>>=_, need}
 use Rattle.format.specs.Coding.{Bytes}
 use Rattle.format.specs.Table.{Form}
 use Rattle.format.specs.Packet.{Packet, flat}
 use Rattle.format.specs.Read.{parse, limit}
-use Rattle.format.specs.Sheet.{Sheet, content, sheetBytes, unsheet}
+use Rattle.format.specs.Sheet.{Sheet, content, sheetBytes}
 use Rattle.format.specs.Calls.{packetOf, packed, read, write, normalise}
 use Rattle.format.specs.Edit.{Holder, Change, editSheet, editRules, editPacket, edit}
-use Rattle.format.specs.Valid.{Valid, Lies, SheetValid}
+use Rattle.format.specs.Valid.{Valid, SheetValid}
 use Rattle.format.specs.demands.Kept.{Kept}
 use Rattle.format.specs.demands.Demand3.{Why, Changed, Demand3}
-use Rattle.format.proofs.words.Answers.{never, bind-then, need-then, ok-inj}
+use Rattle.format.proofs.words.Answers.{never, bind-then, ok-inj}
 use Rattle.format.proofs.reading.Packets.{parse-says, valid-parses}
 use Rattle.format.proofs.sheets.Sheets.{sheet-back}
 use Rattle.format.proofs.sheets.Content.{content-valid}

@@ -1,15 +1,14 @@
 -- The rows point at their values.
-use mathlib.Core.Path.{_≡_, refl, sym, ap, _∙_}
+use mathlib.Core.Path.{_≡_, sym, ap, _∙_}
 use mathlib.Core.List.{List, map}
 use Prim.Native.Nat.{ℕ}
-use Rattle.format.specs.Answer.{ok, _>>=_}
+use Rattle.format.specs.Answer.{ok}
 use Rattle.format.specs.Coding.{Bytes}
 use Rattle.format.specs.Table.{Form}
 use Rattle.format.specs.Packet.{Packet}
 use Rattle.format.specs.Read.{parse}
 use Rattle.format.specs.Rows.{Row, rowsOf, locate}
-use Rattle.format.specs.Valid.{Lies}
-use Rattle.format.specs.demands.Rows.{cellsOf, cellAt, RowsPoint}
+use Rattle.format.specs.demands.Rows.{cellAt, RowsPoint}
 use Rattle.format.proofs.words.Answers.{bind-then, ok-inj}
 use Rattle.format.proofs.reading.Packets.{parse-says}
 use Rattle.format.proofs.rows.Point.{rows-point, rows-count}

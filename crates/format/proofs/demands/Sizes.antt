@@ -1,5 +1,5 @@
 -- Sizes that always suffice.
-use mathlib.Core.Path.{_≡_, sym, ap, _∙_}
+use mathlib.Core.Path.{_≡_, ap}
 use mathlib.Core.List.{List}
 use Prim.Native.Nat.{ℕ, _≤_, _*_, _+_}
 use native.Mathlib.Omega.{arith}
@@ -7,10 +7,9 @@ use lib.ListN.{length}
 use Rattle.format.specs.Answer.{ok}
 use Rattle.format.specs.Coding.{Bytes}
 use Rattle.format.specs.Table.{Form}
-use Rattle.format.specs.Packet.{Packet, flat}
-use Rattle.format.specs.Rows.{Row, rowsOf, locate}
+use Rattle.format.specs.Packet.{flat}
+use Rattle.format.specs.Rows.{Row, locate}
 use Rattle.format.specs.Calls.{read, normalise}
-use Rattle.format.specs.Valid.{Lies}
 use Rattle.format.specs.demands.Sizes.{Sizes}
 use Rattle.format.proofs.reading.Packets.{parse-says}
 use Rattle.format.proofs.sheets.Content.{content-size}

@@ -2,23 +2,23 @@
 use mathlib.Core.Path.{_≡_, refl, sym, ap, _∙_}
 use Prim.Native.Nat.{ℕ, _+_, _-_}
 use native.Mathlib.Omega.{arith}
-use mathlib.Core.Bool.{Bool, true, false, _||_}
+use mathlib.Core.Bool.{Bool, true, false}
 use mathlib.Core.List.{List, [], _∷_, _++_, append-assoc, map}
 use mathlib.Core.Logic.{_⊎_, inl, inr}
 use lib.ListN.{length, take, length-append}
 use lib.Seq.{take-at}
 use lib.Dec.{eqb}
 use borrow.Author.Tests.{eqb-true}
-use Rattle.format.specs.Answer.{Ans, ok, refused}
-use Rattle.format.specs.Coding.{oidBytes, lenBytes, lenWidth, fixed}
+use Rattle.format.specs.Answer.{Ans, ok}
+use Rattle.format.specs.Coding.{oidBytes, lenWidth, fixed}
 use Rattle.format.specs.Lists.{has, flatAll, putIn, takeOut, onHit, askHit}
 use Rattle.format.specs.Table.{Form, embedded, standalone, Level, set, pack, nameable}
 use Rattle.format.specs.Packet.{Item, Pack, Entry, plain, series, Packet, tagOfItem, tagOfEntry, under, flatItem, packBody, flatPack, flatEntry, theKey, covered, framed, flat, checksum, closed}
-use Rattle.format.specs.Sheet.{Target, Part, tagOfVal, tagOfPart, valOf, targetOf, partOf, content}
+use Rattle.format.specs.Sheet.{Target, tagOfVal, tagOfPart, valOf, targetOf, partOf, content}
 use Rattle.format.specs.Calls.{itemOf, packWith, seriesWith}
 use Rattle.format.specs.Edit.{Holder, theSet, target, Change, put, remove, levelOf, applied, valWith, isTargets, targetTags, tagsAt, editRules, inPack, isSeries, inEntry, editEntries, editPacket}
 use Rattle.format.specs.Valid.{Framed, Valid}
-use Rattle.format.specs.demands.Kept.{Swapped, brief, AnItem, OldItem, newItem, LevelKept, TargetKept, SetKept, AloneKept, Kept}
+use Rattle.format.specs.demands.Kept.{Swapped, brief, AnItem, OldItem, newItem, LevelKept, TargetKept, SetKept, Kept}
 use Rattle.format.proofs.words.Answers.{never, no-bool, ok-inj}
 use Rattle.format.proofs.words.Changes.{map-ask}
 use Rattle.format.proofs.words.Together.{map-keys}

@@ -1,21 +1,21 @@
 -- The edited packet: valid if it is small enough, it says the edited sheet, and of a normal form it is the edited sheet's packet.
 use mathlib.Core.Path.{_≡_, refl, sym, ap, _∙_, subst}
-use Prim.Native.Nat.{ℕ, _+_, _≤_, _<_}
+use Prim.Native.Nat.{ℕ, _≤_}
 use native.Mathlib.Omega.{arith}
-use mathlib.Core.Bool.{Bool, true, false, not, _&&_, _||_}
-use mathlib.Core.List.{List, [], _∷_, _++_, map}
+use mathlib.Core.Bool.{Bool, true, false, _&&_}
+use mathlib.Core.List.{List, [], _∷_, map}
 use lib.ListN.{length}
 use lib.Dec.{eqb}
-use borrow.Author.Tests.{eqb-true, eqb-false, eq-eqb}
-use Rattle.format.specs.Answer.{Ans, ok, _>>=_, need}
-use Rattle.format.specs.Lists.{none?, has, flatAll, putIn, takeOut, onHit}
+use borrow.Author.Tests.{eqb-true, eqb-false}
+use Rattle.format.specs.Answer.{ok, need}
+use Rattle.format.specs.Lists.{flatAll, putIn, takeOut, onHit}
 use Rattle.format.specs.Table.{Form, embedded, standalone, Level, set, pack, isAlone, ruleOf, ended, short}
 use Rattle.format.specs.Packet.{Item, Pack, Entry, plain, series, Packet, tagOfItem, idOfPack, tagOfEntry, flatItem, flatPack, flatEntry, flat, closed}
 use Rattle.format.specs.Sheet.{Val, Target, Part, one, targets, Sheet, tagOfVal, tagOfPart, valOf, targetOf, partOf, content}
 use Rattle.format.specs.Calls.{itemOf, packWith, seriesWith, packOf, entryOf, packetOf}
-use Rattle.format.specs.Edit.{Holder, theSet, target, Change, put, remove, levelOf, applied, valWith, inTarget, isTargets, inPart, editParts, editSheet, mustStay, editRules, inPack, isSeries, inEntry, editEntries, editPacket}
+use Rattle.format.specs.Edit.{Holder, theSet, target, Change, put, remove, levelOf, applied, valWith, inTarget, isTargets, inPart, editParts, editSheet, editRules, inPack, isSeries, inEntry, editEntries, editPacket}
 use Rattle.format.specs.Valid.{All, Once, Together, Begins, Meets, ItemValid, PackValid, SeriesValid, EntryValid, Valid}
-use Rattle.format.proofs.words.Answers.{no-bool, need-ok, need-last}
+use Rattle.format.proofs.words.Answers.{need-ok, need-last}
 use Rattle.format.proofs.words.Changes.{map-put, map-out, map-on, all-put, all-out, all-on, keys-on, putKey, outKey, once-put, once-out, has-put, has-out, size-put, none-on}
 use Rattle.format.proofs.coding.Lengths.{width-holds}
 use Rattle.format.proofs.table.Values.{short-twice}

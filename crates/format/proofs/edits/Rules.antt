@@ -1,14 +1,14 @@
 -- What the edit's rules say of a change that they let through.
-use mathlib.Core.Path.{_≡_, refl}
-use Prim.Native.Nat.{ℕ, _≤_, _<_}
-use mathlib.Core.Bool.{Bool, true, false, not, _&&_}
+use mathlib.Core.Path.{_≡_}
+use Prim.Native.Nat.{ℕ}
+use mathlib.Core.Bool.{true, false, _&&_}
 use mathlib.Core.List.{List}
 use lib.ListN.{length}
-use lib.Dec.{ltb, eqb}
+use lib.Dec.{eqb}
 use borrow.Author.Tests.{ltb-true, not-true}
-use Rattle.format.specs.Answer.{Ans, ok, _>>=_, need}
+use Rattle.format.specs.Answer.{ok}
 use Rattle.format.specs.Lists.{has}
-use Rattle.format.specs.Table.{Form, Level, isAlone, ruleOf, nameable, mayStand, valued}
+use Rattle.format.specs.Table.{Form, Level, isAlone, nameable, valued}
 use Rattle.format.specs.Sheet.{Sheet}
 use Rattle.format.specs.Edit.{Holder, Change, put, remove, levelOf, mustStay, tagsAt, changeRules, editRules}
 use Rattle.format.specs.Valid.{Meets}

@@ -1,5 +1,5 @@
 -- What a set holds: an item, or the series. What was read is laid flat and valid, and such an entry is read back.
-use mathlib.Core.Path.{_≡_, refl, sym, ap, _∙_}
+use mathlib.Core.Path.{_≡_, refl, sym}
 use Prim.Native.Nat.{ℕ, _+_, _-_, _%_, _≤_, _<_}
 use native.Mathlib.Omega.{arith}
 use native.Mathlib.Nat.{mod-one}
@@ -8,14 +8,14 @@ use mathlib.Core.List.{List, [], _∷_, _++_, append-nil}
 use lib.ListN.{length, length-append}
 use lib.Dec.{eqb}
 use borrow.Author.Tests.{eqb-true, le-leb, eq-eqb}
-use Rattle.format.specs.Answer.{Ans, ok, Got, got, _>>=_, after}
-use Rattle.format.specs.Coding.{Bytes, oidBytes}
+use Rattle.format.specs.Answer.{ok, Got, got, _>>=_, after}
+use Rattle.format.specs.Coding.{Bytes}
 use Rattle.format.specs.Lists.{none?, has, flatAll}
-use Rattle.format.specs.Table.{Form, set, rules, find, ruleOf, nameable, mayBegin, sized}
+use Rattle.format.specs.Table.{Form, set, rules, find, ruleOf, mayBegin, sized}
 use Rattle.format.specs.Packet.{Item, Pack, Entry, plain, series, idOfPack, tagOfEntry, flatItem, flatPack, flatEntry}
-use Rattle.format.specs.Run.{run, always}
-use Rattle.format.specs.Read.{item, onePack, deepen, entry}
-use Rattle.format.specs.Valid.{Holds, Together, Valued, PackValid, ItemValid, SeriesValid, EntryValid}
+use Rattle.format.specs.Run.{always}
+use Rattle.format.specs.Read.{onePack, deepen, entry}
+use Rattle.format.specs.Valid.{Together, Valued, PackValid, SeriesValid, EntryValid}
 use Rattle.format.proofs.words.Answers.{bind-then, after-then, ok-inj, no-bool}
 use Rattle.format.proofs.words.Bytes.{bytes-left, Took}
 use Rattle.format.proofs.coding.Lengths.{holds-pos}

@@ -1,27 +1,27 @@
 -- One item: what was read is an item laid flat that meets its rules, and such an item is read back.
 use mathlib.Core.Path.{_≡_, refl, sym, ap, _∙_}
-use Prim.Native.Nat.{ℕ, _+_, _-_, _≤_, _<_}
+use Prim.Native.Nat.{ℕ, _+_, _≤_, _<_}
 use native.Mathlib.Omega.{arith}
 use mathlib.Core.Bool.{Bool, true, false, not, _&&_, _||_}
 use mathlib.Core.List.{List, [], _∷_, _++_, append-assoc}
 use lib.ListN.{length, take, drop, length-append, length-drop, take-append-drop}
 use lib.Seq.{drop-drop, length-take-le, take-append-seam, drop-append-seam, drop-at}
-use lib.Dec.{leb, eqb}
+use lib.Dec.{eqb}
 use borrow.Author.Tests.{leb-true, le-leb, eq-eqb, ne-eqb}
-use Rattle.format.specs.Answer.{Ans, ok, Got, got, _>>=_, need}
-use Rattle.format.specs.Coding.{Bytes, tagOf, lenOf, oidBytes, lenBytes}
+use Rattle.format.specs.Answer.{ok, Got, got, _>>=_, need}
+use Rattle.format.specs.Coding.{Bytes, tagOf, oidBytes, lenBytes}
 use Rattle.format.specs.Lists.{none?, has}
-use Rattle.format.specs.Table.{Form, Level, set, pack, isSet, nameable, mayBegin, itemRules}
+use Rattle.format.specs.Table.{Form, Level, isSet, nameable, mayBegin}
 use Rattle.format.specs.Packet.{Item, tagOfItem, under, flatItem}
 use Rattle.format.specs.Read.{Head, headOf, item}
 use Rattle.format.specs.Run.{always}
-use Rattle.format.specs.Valid.{Holds, Meets, ItemValid}
+use Rattle.format.specs.Valid.{Holds, ItemValid}
 use Rattle.format.proofs.words.Answers.{bind-then, need-then, ok-inj}
-use Rattle.format.proofs.words.Bytes.{bytes-drop, bytes-left, bytes-right, Took, took-length}
+use Rattle.format.proofs.words.Bytes.{bytes-drop, bytes-right, Took}
 use Rattle.format.proofs.coding.Lengths.{length-len, len-back, len-says, holds-pos}
 use Rattle.format.proofs.coding.Oids.{tag-back, tag-says, oid-some}
 use Rattle.format.proofs.table.Tags.{nameable-low, nameable-high, not-seal, stands-anywhere}
-use Rattle.format.proofs.table.Values.{Stands, Ruled, rules-say, rules-give}
+use Rattle.format.proofs.table.Values.{Ruled, rules-say, rules-give}
 use Rattle.format.proofs.reading.Runs.{Faithful, ReadsAt}
 
 -- ---- sizes

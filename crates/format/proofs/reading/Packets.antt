@@ -2,23 +2,23 @@
 use mathlib.Core.Path.{_≡_, refl, sym, ap, _∙_, subst}
 use Prim.Native.Nat.{ℕ, _+_, _-_, _≤_, _<_, _^_}
 use native.Mathlib.Omega.{arith}
-use mathlib.Core.Bool.{Bool, true, false}
+use mathlib.Core.Bool.{true, false}
 use mathlib.Core.List.{List, [], _∷_, _++_, append-assoc, append-nil, map, map-append}
 use lib.ListN.{length, take, drop, length-append, length-drop, take-append-drop}
 use lib.Seq.{drop-drop, take-at, drop-at}
-use lib.Dec.{leb, eqb}
+use lib.Dec.{eqb}
 use borrow.Author.Tests.{leb-true, le-leb, eqb-true, eq-eqb}
-use Rattle.format.specs.Answer.{Ans, ok, Got, got, _>>=_, need, after}
-use Rattle.format.specs.Coding.{Bytes, bytesNumber, lenOf, lenBytes, fixed}
+use Rattle.format.specs.Answer.{ok, Got, _>>=_, need, after}
+use Rattle.format.specs.Coding.{Bytes, bytesNumber, lenBytes, fixed}
 use Rattle.format.specs.Lists.{none?, has, same, flatAll}
-use Rattle.format.specs.Table.{Form, embedded, standalone, Level, set, mayBegin}
-use Rattle.format.specs.Packet.{Entry, plain, series, Packet, tagOfEntry, under, flatEntry, theKey, covered, framed, flat, sums, checksum}
+use Rattle.format.specs.Table.{Form, embedded, standalone, set, mayBegin}
+use Rattle.format.specs.Packet.{Entry, plain, Packet, tagOfEntry, under, flatEntry, theKey, covered, framed, flat, checksum}
 use Rattle.format.specs.Run.{run, always}
 use Rattle.format.specs.Read.{entry, limit, opening, start, unsealed, closing, parse}
-use Rattle.format.specs.Rows.{sealItem, sealed}
-use Rattle.format.specs.Valid.{All, Once, Together, Holds, Begins, EntryValid, Framed, Valid, Lies}
+use Rattle.format.specs.Rows.{sealItem}
+use Rattle.format.specs.Valid.{All, Once, Together, Holds, Begins, EntryValid, Valid, Lies}
 use Rattle.format.proofs.words.Answers.{bind-then, need-then, after-then, after-need-then, ok-inj, no-bool, and-both}
-use Rattle.format.proofs.words.Bytes.{bytes-drop, bytes-right, Took}
+use Rattle.format.proofs.words.Bytes.{bytes-drop, bytes-right}
 use Rattle.format.proofs.words.Keys.{past, past-has, past-some, fresh-says, once-left, all-map}
 use Rattle.format.proofs.words.Flats.{flat-snoc}
 use Rattle.format.proofs.coding.Digits.{fixed-back, fixed-number, length-fixed}
@@ -26,7 +26,7 @@ use Rattle.format.proofs.coding.Lengths.{length-len, len-back, len-says
 use Rattle.format.proofs.table.Tags.{begin-later, begin-two, begin-embedded}
 use Rattle.format.proofs.reading.Runs.{Along, along-map, along-fresh, along-snoc, First, ReadsAt, together-along, all-says, all-back}
 use Rattle.format.proofs.reading.Entries.{EntryRead, entry-faithful, entry-stood, entry-reads, entry-stands, entry-not-seal, valid-entry}
-use Rattle.format.proofs.reading.Seal.{SetRead, Split, split, split-embedded, split-alone, begun-alone, seal-flat, seal-read, unseal-all, unseal-none, unseal-seal, has-seal}
+use Rattle.format.proofs.reading.Seal.{SetRead, split, split-embedded, split-alone, begun-alone, seal-flat, seal-read, unseal-all, unseal-none, unseal-seal, has-seal}
 
 pub key-size : length theKey ≡ 16
 unfolding theKey

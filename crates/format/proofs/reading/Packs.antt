@@ -1,19 +1,18 @@
 -- One pack: what was read is a valid pack laid flat, and such a pack is read back.
-use mathlib.Core.Path.{_≡_, refl, sym, ap, _∙_}
-use Prim.Native.Nat.{ℕ, _+_, _-_, _≤_, _<_, _^_}
+use mathlib.Core.Path.{_≡_, refl, ap, _∙_}
+use Prim.Native.Nat.{ℕ, _+_, _≤_, _<_, _^_}
 use native.Mathlib.Omega.{arith}
-use mathlib.Core.Bool.{Bool, true, false, not}
-use mathlib.Core.List.{List, [], _∷_, _++_, append-assoc, append-nil}
+use mathlib.Core.Bool.{false}
+use mathlib.Core.List.{List, [], _++_, append-assoc, append-nil}
 use lib.ListN.{length, take, drop, length-append, length-drop}
 use lib.Seq.{length-take-le, take-append-seam, drop-append-seam, drop-at}
-use lib.Dec.{leb}
 use borrow.Author.Tests.{leb-true, le-leb, not-true}
-use Rattle.format.specs.Answer.{Ans, ok, Got, got, _>>=_, need, after}
-use Rattle.format.specs.Coding.{Bytes, lenOf, idOf, oidBytes, lenBytes}
+use Rattle.format.specs.Answer.{ok, Got, got, _>>=_, need, after}
+use Rattle.format.specs.Coding.{Bytes, idOf, oidBytes, lenBytes}
 use Rattle.format.specs.Lists.{none?, has, flatAll}
-use Rattle.format.specs.Table.{Form, pack, ended}
+use Rattle.format.specs.Table.{Form, pack}
 use Rattle.format.specs.Packet.{Item, Pack, tagOfItem, idOfPack, under, flatItem, packBody, flatPack}
-use Rattle.format.specs.Run.{run, always}
+use Rattle.format.specs.Run.{always}
 use Rattle.format.specs.Read.{item, PackHead, packHead, onePack}
 use Rattle.format.specs.Valid.{Holds, Together, ItemValid, PackValid}
 use Rattle.format.proofs.words.Answers.{bind-then, need-then, after-then, ok-inj}
@@ -41,8 +40,8 @@ items-valid : (f : Form) (is : List Item) → Bytes (flatAll flatItem is ++ []) 
 items-valid f is b h =
     along-together always tagOfItem (item pack f) flatItem (ItemValid pack f)
     (λ seen i t b′ r.
-        let g = item-stood pack f seen i t b′ r in
-        (g .ruled .stands .new, item-valid pack f seen i (none? t) (pack-nameable (i .tag) (g .low) (g .high)) g)) is [] b h
+    let g = item-stood pack f seen i t b′ r in
+    (g .ruled .stands .new, item-valid pack f seen i (none? t) (pack-nameable (i .tag) (g .low) (g .high)) g)) is [] b h
 
 items-read : (f : Form) (is : List Item) → Together tagOfItem (ItemValid pack f) is → Along tagOfItem flatItem (ReadsAt always tagOfItem (item pack f) flatItem) [] is []
 items-read f is h =
@@ -106,7 +105,6 @@ pack-head-back p t r c =
 pub record PackRead (f : Form) (seen : List ℕ) (p : Pack) : Type 0 where
   pub new : has (p .id) seen ≡ false
   pub valid : PackValid f p
-
 
 -- a pack whose body is an id and its items
 body-split : (s : List ℕ) (h : PackHead) (is : List Item) → PackHeadRead s h → drop (h .used) (take (h .size) (drop (h .width) s)) ≡ flatAll flatItem is

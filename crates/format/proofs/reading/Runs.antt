@@ -1,18 +1,18 @@
 -- Laws of a run, for any step: what it took is its things laid flat, and such things are read back.
 use mathlib.Core.Path.{_≡_, refl, sym, ap, _∙_}
-use Prim.Native.Nat.{ℕ, zero, suc, _+_, _-_, _≤_, _<_}
+use Prim.Native.Nat.{ℕ, zero, suc, _+_, _-_, _<_}
 use native.Mathlib.Omega.{arith}
 use mathlib.Core.Bool.{Bool, true, false}
 use mathlib.Core.List.{List, [], _∷_, _++_, append-assoc, append-nil, map}
-use lib.ListN.{length, take, drop, length-append, take-append-drop}
+use lib.ListN.{length, drop, length-append}
 use lib.Seq.{drop-nil, drop-append-seam}
-use Rattle.format.specs.Answer.{Ans, ok, Got, got, _>>=_, after}
+use Rattle.format.specs.Answer.{ok, Got, got, _>>=_, after}
 use Rattle.format.specs.Coding.{Bytes}
 use Rattle.format.specs.Lists.{has, flatAll}
 use Rattle.format.specs.Run.{Step, always, skip, run}
 use Rattle.format.specs.Valid.{All, Together}
-use Rattle.format.proofs.words.Answers.{never, no-bool, bind-then, after-then, ok-inj}
-use Rattle.format.proofs.words.Bytes.{bytes-drop, bytes-right, Took, took-length}
+use Rattle.format.proofs.words.Answers.{no-bool, bind-then, after-then, ok-inj}
+use Rattle.format.proofs.words.Bytes.{bytes-right, Took, took-length}
 use Rattle.format.proofs.words.Keys.{Fresh, fresh-says, once-fresh, past}
 use Rattle.format.proofs.words.Flats.{flat-snoc}
 

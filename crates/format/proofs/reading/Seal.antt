@@ -1,16 +1,16 @@
 -- The checksum item: in a set that was read it stands at the very end, in standalone, and nothing else has tag 1.
 use mathlib.Core.Path.{_≡_, refl, sym, ap, _∙_}
-use Prim.Native.Nat.{ℕ, _+_, _-_, _≤_, _<_}
+use Prim.Native.Nat.{ℕ}
 use native.Mathlib.Omega.{arith}
-use mathlib.Core.Bool.{Bool, true, false, not, _&&_, _||_}
-use mathlib.Core.List.{List, [], _∷_, _++_, append-nil, map}
+use mathlib.Core.Bool.{Bool, true, false, _&&_}
+use mathlib.Core.List.{List, [], _∷_, _++_, map}
 use mathlib.Core.Logic.{_⊎_, inl, inr}
 use lib.ListN.{length, length-append}
 use lib.Dec.{leb, eqb}
 use borrow.Author.Tests.{eqb-true, leb-true}
-use Rattle.format.specs.Coding.{fixed, oidBytes, digits, lenBytes}
+use Rattle.format.specs.Coding.{oidBytes, digits, lenBytes}
 use Rattle.format.specs.Lists.{none?, has, takeOut, flatAll}
-use Rattle.format.specs.Table.{Form, embedded, standalone, Level, set, isAlone, rules, find, ruleOf, mayStand, mayBegin, sized}
+use Rattle.format.specs.Table.{Form, embedded, standalone, set, isAlone, rules, find, ruleOf, mayStand, mayBegin, sized}
 use Rattle.format.specs.Packet.{Item, Entry, plain, series, tagOfEntry, flatItem, flatEntry}
 use Rattle.format.specs.Read.{unsealed}
 use Rattle.format.specs.Rows.{sealItem}
@@ -18,7 +18,6 @@ use Rattle.format.specs.Valid.{All, Begins, EntryValid}
 use Rattle.format.proofs.words.Answers.{no-bool, and-both, or-right}
 use Rattle.format.proofs.words.Keys.{has-not}
 use Rattle.format.proofs.table.Tags.{seal-stands, begins-two}
-use Rattle.format.proofs.table.Values.{Stands}
 use Rattle.format.proofs.reading.Runs.{Along}
 use Rattle.format.proofs.reading.Items.{ItemRead}
 use Rattle.format.proofs.reading.Entries.{EntryRead, entry-stands, read-some, entry-valid}

@@ -1,13 +1,12 @@
 -- The cell of an item, by target number and tag, is that of the item's value in the tree.
 use mathlib.Core.Path.{_≡_, refl, sym, ap, _∙_}
-use Prim.Native.Nat.{ℕ, suc, _+_, _-_, _≤_, _<_}
+use Prim.Native.Nat.{ℕ, suc, _≤_, _<_}
 use native.Mathlib.Omega.{arith}
-use mathlib.Core.Bool.{Bool, true, false, not, _&&_, _||_}
+use mathlib.Core.Bool.{Bool, true, false, not, _&&_}
 use mathlib.Core.List.{List, [], _∷_, _++_, append-assoc, map}
-use lib.ListN.{length}
 use lib.Dec.{ltb, eqb}
 use borrow.Author.Tests.{eqb-true, ltb-true, eq-eqb, ne-eqb, not-true}
-use Rattle.format.specs.Answer.{Ans, ok, refused, _>>=_}
+use Rattle.format.specs.Answer.{Ans, ok, refused}
 use Rattle.format.specs.Lists.{has, flatAll, askHit}
 use Rattle.format.specs.Table.{isSet}
 use Rattle.format.specs.Packet.{Item, Pack, Entry, plain, series, tagOfEntry, flatPack, packBody}

@@ -1,8 +1,7 @@
 -- Each row points at its value: the rows are the packet's values, in order, and no more.
 use mathlib.Core.Path.{_≡_, refl, sym, ap, _∙_}
-use Prim.Native.Nat.{ℕ, suc, _+_, _-_, _*_, _≤_}
+use Prim.Native.Nat.{ℕ, suc, _+_, _*_, _≤_}
 use native.Mathlib.Omega.{arith}
-use mathlib.Core.Bool.{true, false}
 use mathlib.Core.List.{List, [], _∷_, _++_, append-assoc, append-nil, map, map-append}
 use lib.ListN.{length, length-append, length-map}
 use lib.Seq.{take-append-seam, drop-at}
@@ -11,8 +10,8 @@ use Rattle.format.specs.Lists.{flatAll}
 use Rattle.format.specs.Table.{Form, embedded, standalone, pack}
 use Rattle.format.specs.Packet.{Item, Pack, Entry, plain, series, Packet, under, flat, framed, theKey, covered, flatItem, packBody, flatPack, flatEntry}
 use Rattle.format.specs.Read.{start}
-use Rattle.format.specs.Rows.{Row, row, itemRow, itemRows, packRows, entryRows, sealItem, sealed, rowsOf}
-use Rattle.format.specs.Valid.{All, Holds, Framed, ItemValid, PackValid, SeriesValid, EntryValid, Valid}
+use Rattle.format.specs.Rows.{itemRow, itemRows, packRows, entryRows, sealItem, sealed, rowsOf}
+use Rattle.format.specs.Valid.{All, Framed, ItemValid, PackValid, EntryValid, Valid}
 use Rattle.format.specs.demands.Rows.{cellOf, cell, itemCells, packCells, entryCells, cellsOf, part, cellAt}
 use Rattle.format.proofs.words.Flats.{flat-snoc}
 use Rattle.format.proofs.coding.Digits.{length-fixed}

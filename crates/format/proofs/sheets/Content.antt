@@ -1,28 +1,19 @@
 -- What a valid packet says is a valid sheet; and a valid sheet's packet is valid, and says that sheet.
-use mathlib.Core.Path.{_≡_, refl, sym, ap, _∙_, subst}
-use Prim.Native.Nat.{ℕ, _+_, _*_, _≤_, _<_, _^_}
+use mathlib.Core.Path.{_≡_, refl}
+use Prim.Native.Nat.{ℕ, _+_, _*_, _≤_}
 use native.Mathlib.Omega.{arith}
-use mathlib.Core.Bool.{Bool, true, false}
-use mathlib.Core.List.{List, [], _∷_, _++_, map}
+use mathlib.Core.List.{List}
 use lib.ListN.{length, length-append}
-use Rattle.format.specs.Answer.{ok}
-use Rattle.format.specs.Coding.{oidBytes, lenBytes, lenWidth, fixed}
-use Rattle.format.specs.Lists.{none?, flatAll}
-use Rattle.format.specs.Table.{Form, embedded, standalone, Level, set, pack, ruleOf, ended, short}
-use Rattle.format.specs.Packet.{Item, Pack, Entry, plain, series, Packet, tagOfItem, idOfPack, tagOfEntry, flatItem, packBody, flatPack, flatEntry, theKey, covered, framed, flat, checksum, closed}
-use Rattle.format.specs.Sheet.{Val, Target, Part, one, targets, Sheet, tagOfVal, idOfTarget, tagOfPart, valOf, targetOf, partOf, content, valBytes, targetBytes, partBytes, sheetBytes}
-use Rattle.format.specs.Calls.{itemOf, packWith, seriesWith, packOf, entryOf, packetOf}
-use Rattle.format.specs.Valid.{All, Together, Holds, Begins, Meets, ItemValid, PackValid, SeriesValid, EntryValid, Framed, Valid, ValValid, TargetValid, PartValid, SheetValid}
-use Rattle.format.proofs.words.Flats.{all-sized}
-use Rattle.format.proofs.words.Together.{map-keys, none-map, together-map, map-back, flat-less}
-use Rattle.format.proofs.coding.Digits.{length-fixed}
-use Rattle.format.proofs.coding.Lengths.{length-len, holds-pos, width-holds, width-least}
-use Rattle.format.proofs.coding.Oids.{oid-some}
+use Rattle.format.specs.Lists.{flatAll}
+use Rattle.format.specs.Table.{Form, embedded, standalone, Level, set, pack, ruleOf, short}
+use Rattle.format.specs.Packet.{Item, Pack, Entry, plain, series, Packet, tagOfItem, idOfPack, tagOfEntry, flatItem, flatPack, flatEntry, covered, framed, flat}
+use Rattle.format.specs.Sheet.{tagOfVal, idOfTarget, tagOfPart, valOf, targetOf, partOf, content, valBytes, targetBytes, partBytes, sheetBytes}
+use Rattle.format.specs.Valid.{Meets, ItemValid, PackValid, EntryValid, Valid, ValValid, TargetValid, PartValid, SheetValid}
+use Rattle.format.proofs.words.Together.{map-keys, none-map, together-map, flat-less}
 use Rattle.format.proofs.table.Values.{short-valued, short-size, short-twice}
-use Rattle.format.proofs.reading.Items.{length-item, item-size}
-use Rattle.format.proofs.reading.Packs.{length-pack, pack-size}
-use Rattle.format.proofs.reading.Entries.{seriesItem, series-flat, plain-flat, series-size}
-use Rattle.format.proofs.reading.Packets.{key-size}
+use Rattle.format.proofs.reading.Items.{item-size}
+use Rattle.format.proofs.reading.Packs.{pack-size}
+use Rattle.format.proofs.reading.Entries.{series-size}
 use Rattle.format.proofs.sheets.Values.{length-val}
 use Rattle.format.proofs.sheets.Targets.{length-target}
 

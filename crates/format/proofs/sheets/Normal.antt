@@ -1,19 +1,18 @@
 -- The normal form: a valid sheet's packet is valid, says that sheet, and is never longer than a packet that says it.
-use mathlib.Core.Path.{_≡_, refl, sym, ap, _∙_, subst}
+use mathlib.Core.Path.{_≡_, refl, ap, _∙_, subst}
 use Prim.Native.Nat.{ℕ, _+_, _*_, _≤_, _<_, _^_}
 use native.Mathlib.Omega.{arith}
-use mathlib.Core.Bool.{Bool, true, false}
-use mathlib.Core.List.{List, [], _∷_, _++_, map, map-map}
+use mathlib.Core.Bool.{false}
+use mathlib.Core.List.{List, map, map-map}
 use lib.ListN.{length, length-append}
 use Rattle.format.specs.Answer.{ok}
-use Rattle.format.specs.Coding.{oidBytes, lenBytes, lenWidth, fixed}
+use Rattle.format.specs.Coding.{oidBytes, lenWidth, fixed}
 use Rattle.format.specs.Lists.{none?, flatAll}
 use Rattle.format.specs.Table.{Form, embedded, standalone, Level, set, pack, ruleOf, ended, short}
-use Rattle.format.specs.Packet.{Item, Pack, Entry, plain, series, Packet, tagOfItem, idOfPack, tagOfEntry, flatItem, packBody, flatPack, flatEntry, theKey, covered, framed, flat, checksum, closed}
+use Rattle.format.specs.Packet.{Item, Pack, Entry, plain, series, Packet, tagOfItem, idOfPack, tagOfEntry, flatItem, packBody, flatPack, flatEntry, covered, framed, flat, checksum, closed}
 use Rattle.format.specs.Sheet.{Val, Target, Part, one, targets, Sheet, tagOfVal, idOfTarget, tagOfPart, valOf, targetOf, partOf, content}
 use Rattle.format.specs.Calls.{itemOf, packWith, seriesWith, packOf, entryOf, packetOf}
-use Rattle.format.specs.Valid.{All, Together, Holds, Begins, ItemValid, PackValid, SeriesValid, EntryValid, Framed, Valid, ValValid, TargetValid, PartValid, SheetValid}
-use Rattle.format.proofs.words.Flats.{all-sized}
+use Rattle.format.specs.Valid.{Together, Holds, Begins, ItemValid, PackValid, SeriesValid, EntryValid, Framed, Valid, ValValid, TargetValid, PartValid, SheetValid}
 use Rattle.format.proofs.words.Together.{map-keys, none-map, together-made, map-back, flat-less}
 use Rattle.format.proofs.coding.Digits.{length-fixed}
 use Rattle.format.proofs.coding.Lengths.{length-len, width-holds, width-least}

@@ -1,28 +1,28 @@
 -- The sheet: bytes are taken for a sheet exactly when they are a valid sheet's.
-use mathlib.Core.Path.{_≡_, refl, sym, ap, _∙_, subst}
-use Prim.Native.Nat.{ℕ, zero, suc, _+_, _-_, _≤_, _<_}
+use mathlib.Core.Path.{_≡_, refl, sym, ap, _∙_}
+use Prim.Native.Nat.{ℕ, zero, suc, _+_, _≤_, _<_}
 use native.Mathlib.Omega.{arith}
 use mathlib.Core.Bool.{Bool, true, false, not, _||_}
 use mathlib.Core.List.{List, [], _∷_, _++_, append-assoc, append-nil, map}
-use lib.ListN.{length, take, drop, length-append}
+use lib.ListN.{length, drop}
 use lib.Seq.{drop-drop}
 use lib.Dec.{leb}
-use borrow.Author.Tests.{leb-true, le-leb, not-true}
-use Rattle.format.specs.Answer.{Ans, ok, refused, Got, got, _>>=_, need, after}
+use borrow.Author.Tests.{leb-true, le-leb}
+use Rattle.format.specs.Answer.{ok, Got, got, _>>=_, need, after}
 use Rattle.format.specs.Coding.{Bytes}
 use Rattle.format.specs.Lists.{none?, has, flatAll}
-use Rattle.format.specs.Table.{Form, embedded, standalone, Level, set, pack, isAlone, mayBegin, standing}
+use Rattle.format.specs.Table.{Form, embedded, standalone, set, isAlone, mayBegin}
 use Rattle.format.specs.Run.{run, always}
-use Rattle.format.specs.Sheet.{Val, Target, Part, one, targets, Sheet, tagOfVal, idOfTarget, tagOfPart, IT, TS, TG, TI, valBytes, targetBytes, partBytes, formByte, sheetBytes, is, valueAt, targetAt, seriesAt, partAt, formOf, sheetLimit, unsheet}
-use Rattle.format.specs.Valid.{All, Together, Begins, ValValid, TargetValid, PartValid, SheetValid}
+use Rattle.format.specs.Sheet.{Target, Part, one, targets, Sheet, idOfTarget, tagOfPart, IT, TS, TG, TI, valBytes, targetBytes, partBytes, formByte, sheetBytes, is, targetAt, seriesAt, partAt, formOf, sheetLimit, unsheet}
+use Rattle.format.specs.Valid.{Together, Begins, TargetValid, PartValid, SheetValid}
 use Rattle.format.proofs.words.Answers.{never, no-bool, bind-then, need-then, after-then, after-need-then, ok-inj}
-use Rattle.format.proofs.words.Bytes.{bytes-drop, Took, took-length}
+use Rattle.format.proofs.words.Bytes.{bytes-drop, Took}
 use Rattle.format.proofs.words.Flats.{all-sized}
-use Rattle.format.proofs.table.Tags.{nameable-set, set-stands, begin-later, begin-two, begin-embedded, begins-two}
+use Rattle.format.proofs.table.Tags.{set-stands, begin-later, begin-two, begin-embedded, begins-two}
 use Rattle.format.proofs.table.Values.{Stands, standing-says, standing-gives}
-use Rattle.format.proofs.reading.Runs.{Along, along-map, Stops, First, Faithful, ReadsAt, Ran, run-says, run-back, along-together, free-along, together-along, all-says, all-back}
-use Rattle.format.proofs.sheets.Values.{length-val, took-front, mark-says, mark-here, ValRead, value-says, value-back, value-goes}
-use Rattle.format.proofs.sheets.Targets.{length-target, TargetRead, target-append, target-faithful, target-goes, target-stood, target-reads}
+use Rattle.format.proofs.reading.Runs.{Along, along-map, Stops, First, Faithful, ReadsAt, run-says, run-back, along-together, free-along, together-along, all-says, all-back}
+use Rattle.format.proofs.sheets.Values.{length-val, took-front, mark-says, ValRead, value-says, value-back, value-goes}
+use Rattle.format.proofs.sheets.Targets.{target-append, target-faithful, target-goes, target-stood, target-reads}
 
 -- ---- the series
 

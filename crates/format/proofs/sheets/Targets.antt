@@ -1,22 +1,21 @@
 -- A `TG` with its `TI`s: what was read is a valid target as bytes, and such a target is read back.
-use mathlib.Core.Path.{_≡_, refl, sym, ap, _∙_}
-use Prim.Native.Nat.{ℕ, _+_, _-_, _≤_, _<_, _^_}
+use mathlib.Core.Path.{_≡_, sym, ap, _∙_}
+use Prim.Native.Nat.{ℕ, _+_, _≤_, _<_, _^_}
 use native.Mathlib.Omega.{arith}
-use mathlib.Core.Bool.{Bool, true, false, not}
-use mathlib.Core.List.{List, [], _∷_, _++_, append-assoc, map}
+use mathlib.Core.Bool.{true, false}
+use mathlib.Core.List.{List, [], _∷_, _++_, append-assoc}
 use lib.ListN.{length, take, drop, length-append, length-drop, take-append-drop}
 use lib.Seq.{drop-drop, length-take-le, take-at, drop-at}
-use lib.Dec.{ltb, leb}
+use lib.Dec.{leb}
 use borrow.Author.Tests.{leb-true, ltb-true, le-leb, lt-ltb, not-true}
-use Rattle.format.specs.Answer.{Ans, ok, Got, got, _>>=_, need, after}
+use Rattle.format.specs.Answer.{ok, Got, got, _>>=_, need, after}
 use Rattle.format.specs.Coding.{Bytes, bytesNumber, fixed}
 use Rattle.format.specs.Lists.{has, flatAll}
-use Rattle.format.specs.Table.{Form, pack, ended}
-use Rattle.format.specs.Run.{run}
+use Rattle.format.specs.Table.{Form, pack}
 use Rattle.format.specs.Sheet.{Val, Target, tagOfVal, idOfTarget, TI, TG, valBytes, targetBytes, is, valueAt, targetAt}
-use Rattle.format.specs.Valid.{All, Together, ValValid, TargetValid}
+use Rattle.format.specs.Valid.{Together, ValValid, TargetValid}
 use Rattle.format.proofs.words.Answers.{bind-then, need-then, after-then, ok-inj}
-use Rattle.format.proofs.words.Bytes.{bytes-drop, bytes-take, bytes-left, Took}
+use Rattle.format.proofs.words.Bytes.{bytes-drop, bytes-take, Took}
 use Rattle.format.proofs.words.Flats.{all-sized}
 use Rattle.format.proofs.coding.Digits.{fixed-number, length-fixed, fixed-back}
 use Rattle.format.proofs.table.Tags.{begin-pack}
@@ -44,8 +43,8 @@ vals-read : (f : Form) (vs : List Val) (t : List ℕ) → length (flatAll (valBy
 vals-read f vs t n h =
     free-along (is TI) tagOfVal (valueAt pack f) (valBytes pack) (λ v. ValValid pack f v × (length (valBytes pack v) ≤ 65536)) (λ t. Unit {0}) (λ v t. tt)
     (λ seen v t w _ g.
-        let l : 2 + (4 + length (v .value)) ≤ 65536 = rw length-val at (g .1) in
-        value-reads f seen v t (record { new = w; begins = begin-pack f (v .tag) seen; valid = g .0 }) (omega arith)) vs t tt
+    let l : 2 + (4 + length (v .value)) ≤ 65536 = rw length-val at (g .1) in
+    value-reads f seen v t (record { new = w; begins = begin-pack f (v .tag) seen; valid = g .0 }) (omega arith)) vs t tt
     (record { once = h .once; each = all-sized (ValValid pack f) (valBytes pack) 65536 vs n (h .each) })
 
 -- ---- the target

@@ -1,24 +1,24 @@
 -- A record `IT` or `TI`: what was read is a valid value as bytes, and such a value is read back.
 use mathlib.Core.Path.{_≡_, refl, sym, ap, _∙_}
-use Prim.Native.Nat.{ℕ, _+_, _-_, _≤_, _<_, _^_}
+use Prim.Native.Nat.{ℕ, _+_, _≤_, _<_}
 use native.Mathlib.Omega.{arith}
-use mathlib.Core.Bool.{Bool, true, false, _&&_}
+use mathlib.Core.Bool.{true, false}
 use mathlib.Core.List.{List, [], _∷_, _++_, append-assoc}
 use lib.ListN.{length, take, drop, length-append, length-drop, take-append-drop}
-use lib.Seq.{drop-drop, length-take-le, take-at, drop-at, take-append-seam, drop-append-seam}
-use lib.Dec.{leb, eqb}
+use lib.Seq.{drop-drop, length-take-le, take-at, drop-at, take-append-seam}
+use lib.Dec.{leb}
 use borrow.Author.Tests.{leb-true, le-leb, eqb-true, eq-eqb}
-use Rattle.format.specs.Answer.{Ans, ok, Got, got, _>>=_, need}
+use Rattle.format.specs.Answer.{ok, Got, got, _>>=_, need}
 use Rattle.format.specs.Coding.{Bytes, bytesNumber, fixed}
-use Rattle.format.specs.Lists.{none?, has, same}
-use Rattle.format.specs.Table.{Form, Level, set, pack, ruleOf, nameable, mayBegin, itemRules, short}
-use Rattle.format.specs.Sheet.{Val, tagOfVal, Mark, markOf, TI, TG, valBytes, is, field, valueAt}
-use Rattle.format.specs.Valid.{Meets, ValValid}
+use Rattle.format.specs.Lists.{has}
+use Rattle.format.specs.Table.{Form, Level, pack, ruleOf, nameable, mayBegin, short}
+use Rattle.format.specs.Sheet.{Val, tagOfVal, Mark, markOf, TI, valBytes, is, field, valueAt}
+use Rattle.format.specs.Valid.{ValValid}
 use Rattle.format.proofs.words.Answers.{bind-then, need-then, ok-inj, no-bool, and-both}
 use Rattle.format.proofs.words.Bytes.{bytes-drop, bytes-take, Took}
-use Rattle.format.proofs.coding.Digits.{fixed-number, length-fixed, fixed-back, number-below}
+use Rattle.format.proofs.coding.Digits.{fixed-number, length-fixed, fixed-back}
 use Rattle.format.proofs.table.Tags.{nameable-high}
-use Rattle.format.proofs.table.Values.{Stands, Ruled, rules-say, rules-give}
+use Rattle.format.proofs.table.Values.{Ruled, rules-say, rules-give}
 use Rattle.format.proofs.reading.Packets.{same-eq, same-refl}
 use Rattle.format.proofs.reading.Runs.{Faithful, ReadsAt}
 

@@ -5,9 +5,8 @@ use mathlib.Core.Bool.{Bool, true, false, not, _&&_, _||_}
 use mathlib.Core.List.{List, [], _∷_}
 use lib.Dec.{ltb, leb, eqb}
 use borrow.Author.Tests.{ltb-true, leb-true, lt-ltb, le-leb, not-true, eqb-true}
-use Rattle.format.specs.Lists.{none?}
 use Rattle.format.specs.Table.{Form, embedded, standalone, Level, set, pack, isAlone, isSet, nameable, mayStand, mayBegin}
-use Rattle.format.proofs.words.Answers.{and-both, or-neither, no-bool}
+use Rattle.format.proofs.words.Answers.{and-both, or-neither}
 
 module _ (l : Level) (tag : ℕ) (h : nameable l tag ≡ true) where
   nameable-parts : (0 < tag) × (tag ≤ 16383) × (isSet l && (eqb tag 1 || eqb tag 101) ≡ false)

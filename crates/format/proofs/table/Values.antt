@@ -1,17 +1,17 @@
 -- Values: shortening keeps what a value says, and what its rule asks. Once over the width.
-use mathlib.Core.Path.{_≡_, refl, sym, ap, _∙_}
-use Prim.Native.Nat.{ℕ, suc, _+_, _-_, _%_, _≤_, _<_}
+use mathlib.Core.Path.{_≡_, refl}
+use Prim.Native.Nat.{ℕ, suc, _-_, _%_, _≤_, _<_}
 use native.Mathlib.Omega.{arith}
 use native.Mathlib.Nat.{mod-one}
 use mathlib.Core.Bool.{Bool, true, false, not, _&&_, _||_}
 use mathlib.Core.List.{List, [], _∷_}
 use lib.ListN.{length}
-use lib.Dec.{ltb, leb, eqb}
+use lib.Dec.{leb, eqb}
 use borrow.Author.Tests.{leb-true, eqb-true, le-leb, eq-eqb, lt-ltb, ltb-true, not-true}
-use Rattle.format.specs.Answer.{Ans, ok, _>>=_, need}
+use Rattle.format.specs.Answer.{ok, _>>=_, need}
 use Rattle.format.specs.Coding.{Bytes, bytesNumber, number}
 use Rattle.format.specs.Lists.{none?, has}
-use Rattle.format.specs.Table.{Form, Level, set, pack, Most, upTo, any, Rule, rules, find, ruleOf, mayStand, mayBegin, standing, notPixel, isNumber, within, sized, valued, itemRules, strip, short}
+use Rattle.format.specs.Table.{Form, Level, set, pack, Most, upTo, any, Rule, rules, find, ruleOf, mayStand, mayBegin, standing, isNumber, within, sized, valued, itemRules, strip, short}
 use Rattle.format.specs.Valid.{Valued}
 use Rattle.format.proofs.words.Answers.{bind-then, need-then, need-last, no-bool, and-both}
 
@@ -150,11 +150,11 @@ pub short-valued : (l : Level) (tag : ℕ) (v : List ℕ) → 0 < length v → V
 short-valued l tag v p h =
     short-by (Valued l tag) (ruleOf l tag) v
     (λ e.
-        let (a, b) = number-rule l tag e in
-        record {
-          length-allowed = sized-less (ruleOf l tag) (length (strip v)) (length v) a b (strip-some v p) (strip-less v) (h .length-allowed);
-          pixel-not-0 = rw (strip-number v) (h .pixel-not-0);
-        })
+    let (a, b) = number-rule l tag e in
+    record {
+      length-allowed = sized-less (ruleOf l tag) (length (strip v)) (length v) a b (strip-some v p) (strip-less v) (h .length-allowed);
+      pixel-not-0 = rw (strip-number v) (h .pixel-not-0);
+    })
     (λ _. h)
 
 pub short-twice : (r : Rule) (v : List ℕ) → short r (short r v) ≡ short r v

@@ -2,12 +2,12 @@
 use mathlib.Core.Path.{_≡_, refl}
 use Prim.Native.Nat.{ℕ}
 use mathlib.Core.List.{List, [], _∷_, _++_}
-use lib.ListN.{replicate, length}
-use Rattle.format.specs.Answer.{Ans, ok, refused}
-use Rattle.format.specs.Table.{Form, embedded, standalone}
+use lib.ListN.{length}
+use Rattle.format.specs.Answer.{ok, refused}
+use Rattle.format.specs.Table.{embedded, standalone}
 use Rattle.format.specs.Packet.{theKey}
 use Rattle.format.specs.Calls.{read, write, normalise}
-use Rattle.format.specs.Rows.{Row, row, locate}
+use Rattle.format.specs.Rows.{row, locate}
 use Rattle.format.proofs.tables.Open.{opened}
 use Rattle.format.specs.Edit.{target, theSet, put, edit}
 

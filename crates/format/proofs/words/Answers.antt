@@ -4,7 +4,6 @@ use Prim.Native.Nat.{ℕ, _+_}
 use native.Mathlib.Omega.{arith}
 use native.Mathlib.Nat.{add-assoc}
 use mathlib.Core.Bool.{Bool, true, false, _&&_, _||_}
-use mathlib.Core.List.{List}
 use Rattle.format.specs.Answer.{Ans, ok, refused, _>>=_, need, after}
 
 pub never : {A X : Type 0} (n p : ℕ) (a : A) → refused n p ≡ ok a → X

@@ -1,9 +1,9 @@
 -- Things that stand together, mapped.
-use mathlib.Core.Path.{_≡_, refl, ap, _∙_, sym, subst}
-use Prim.Native.Nat.{ℕ, suc, _+_, _*_, _≤_}
+use mathlib.Core.Path.{_≡_, refl, sym, subst}
+use Prim.Native.Nat.{ℕ, _+_, _*_, _≤_}
 use native.Mathlib.Omega.{arith}
 use native.Mathlib.Nat.{mul-add}
-use mathlib.Core.List.{List, [], _∷_, _++_, map}
+use mathlib.Core.List.{List, [], _∷_, map}
 use lib.ListN.{length, length-append}
 use Rattle.format.specs.Lists.{none?, flatAll}
 use Rattle.format.specs.Valid.{All, Once, Together}

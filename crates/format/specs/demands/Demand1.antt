@@ -9,7 +9,7 @@ use Rattle.format.specs.Table.{Form}
 use Rattle.format.specs.Calls.{read, write, normalise}
 use Rattle.format.specs.Rows.{locate}
 use Rattle.format.specs.Edit.{Holder, Change, edit}
-use Rattle.format.specs.Room.{Left, leaves}
+use Rattle.format.specs.Room.{leaves}
 
 -- whatever number and place a refusal has, P holds of them
 pub record Refuses {A : Type 0} (P : ℕ → ℕ → Type 0) (a : Ans A) : Type 0 where

@@ -5,13 +5,13 @@ use mathlib.Core.Bool.{false}
 use mathlib.Core.List.{List}
 use mathlib.Core.Logic.{_↔_}
 use Prim.Native.Nat.{ℕ}
-use lib.ListN.{length, drop}
+use lib.ListN.{drop}
 use Rattle.format.specs.Answer.{ok, refused}
 use Rattle.format.specs.Coding.{bytesNumber}
 use Rattle.format.specs.Table.{Form, Level, isNumber, ruleOf}
 use Rattle.format.specs.Packet.{Item, Packet, flat}
 use Rattle.format.specs.Read.{parse}
-use Rattle.format.specs.Sheet.{Sheet, content, valOf, formOf, sheetBytes, unsheet}
+use Rattle.format.specs.Sheet.{content, valOf, formOf}
 use Rattle.format.specs.Calls.{packetOf, read, write, normalise}
 
 -- of a packet's bytes s

@@ -8,7 +8,7 @@ use Rattle.format.specs.Lists.{flatAll}
 use Rattle.format.specs.Table.{Form}
 use Rattle.format.specs.Packet.{Item, Pack, Entry, plain, series, Packet, packBody, flatPack}
 use Rattle.format.specs.Read.{parse}
-use Rattle.format.specs.Rows.{Row, sealed, locate}
+use Rattle.format.specs.Rows.{Row, sealed}
 
 -- what a row is to point at, with no offsets: target number, tag, and the value's length and bytes
 pub record Cell : Type 0 where

@@ -9,7 +9,7 @@ use lib.Dec.{eqb}
 use Rattle.format.specs.Answer.{Ans, ok, refused}
 use Rattle.format.specs.Lists.{askHit}
 use Rattle.format.specs.Table.{Form}
-use Rattle.format.specs.Packet.{Item, Pack, Entry, plain, series, Packet, tagOfEntry}
+use Rattle.format.specs.Packet.{Item, Entry, plain, series, Packet, tagOfEntry}
 use Rattle.format.specs.Read.{parse}
 use Rattle.format.specs.Rows.{sealed}
 use Rattle.format.specs.Edit.{Holder, theSet, target, isSeries}

@@ -2,7 +2,7 @@
 use mathlib.Core.Path.{_≡_, refl, sym, ap, _∙_}
 use Prim.Native.Nat.{ℕ}
 use mathlib.Core.Bool.{Bool, true, false, _&&_}
-use mathlib.Core.List.{List, [], _∷_, _++_, map}
+use mathlib.Core.List.{List, [], _∷_, map}
 use mathlib.Core.Logic.{_⊎_, inl, inr}
 use lib.ListN.{length}
 use lib.Dec.{eqb}
@@ -10,12 +10,12 @@ use Rattle.format.specs.Answer.{Ans, ok, refused, _>>=_}
 use Rattle.format.specs.Coding.{Bytes}
 use Rattle.format.specs.Lists.{askHit}
 use Rattle.format.specs.Table.{Form, embedded, standalone}
-use Rattle.format.specs.Packet.{Entry, plain, Packet, tagOfEntry, flat}
+use Rattle.format.specs.Packet.{Entry, Packet, flat}
 use Rattle.format.specs.Read.{parse}
 use Rattle.format.specs.Rows.{Row, sealItem, sealed, rowsOf}
 use Rattle.format.specs.Edit.{Holder}
-use Rattle.format.specs.Show.{reviewer, detector, shown, nothing, numberOf, findRow, showable, eitherRow, showIn, show}
-use Rattle.format.specs.Valid.{Valid, Lies}
+use Rattle.format.specs.Show.{reviewer, detector, nothing, numberOf, findRow, showable, eitherRow, showIn, show}
+use Rattle.format.specs.Valid.{Valid}
 use Rattle.format.specs.demands.Rows.{Cell, cell, entryCells, cellsOf, part, cellAt}
 use Rattle.format.specs.demands.Shows.{valueIn, valueOf, ShownValue, Shows}
 use Rattle.format.proofs.words.Answers.{never, ok-inj}

@@ -40,18 +40,18 @@ pub record Rule : Type 0 where
   pub most : Most
   pub gap : ℕ
 
--- B3 is `b 3`, T32 is `t 32`, N2 is `n 2`, P6 is `p 6`
-abbrev pub b : ℕ → Rule
-b k = record { kind = bytes; least = k; most = upTo k; gap = 1 }
+-- B3 is `B 3`, T32 is `T 32`, N2 is `N 2`, P6 is `P 6`
+abbrev pub B : ℕ → Rule
+B k = record { kind = bytes; least = k; most = upTo k; gap = 1 }
 
-abbrev pub t : ℕ → Rule
-t k = record { kind = bytes; least = 1; most = upTo k; gap = 1 }
+abbrev pub T : ℕ → Rule
+T k = record { kind = bytes; least = 1; most = upTo k; gap = 1 }
 
-abbrev pub n : ℕ → Rule
-n k = record { kind = num; least = 1; most = upTo k; gap = 1 }
+abbrev pub N : ℕ → Rule
+N k = record { kind = num; least = 1; most = upTo k; gap = 1 }
 
-abbrev pub p : ℕ → Rule
-p k = record { kind = pixel; least = 1; most = upTo k; gap = 1 }
+abbrev pub P : ℕ → Rule
+P k = record { kind = pixel; least = 1; most = upTo k; gap = 1 }
 
 -- 10, 16 or 22 bytes
 abbrev pub location : Rule
@@ -63,10 +63,10 @@ unlisted = record { kind = bytes; least = 1; most = any; gap = 1 }
 
 unfoldable pub rules : Level → List (ℕ × Rule)
 rules set =
-    (1, b 2) ∷ (2, b 8) ∷ (3, t 32) ∷ (4, n 2) ∷ (5, n 3) ∷ (6, n 3) ∷ (8, n 3) ∷ (9, n 3) ∷ (10, t 128) ∷ (11, b 2) ∷ (12, b 2) ∷ []
+    (1, B 2) ∷ (2, B 8) ∷ (3, T 32) ∷ (4, N 2) ∷ (5, N 3) ∷ (6, N 3) ∷ (8, N 3) ∷ (9, N 3) ∷ (10, T 128) ∷ (11, B 2) ∷ (12, B 2) ∷ []
 rules pack =
-    (1, p 6) ∷ (2, p 6) ∷ (3, p 6) ∷ (4, b 1) ∷ (5, b 1) ∷ (6, n 2) ∷ (7, b 1) ∷ (8, b 3) ∷ (9, n 3) ∷ (10, b 3) ∷ (11, b 3) ∷ (12, b 2)
-    ∷ (13, b 3) ∷ (14, b 3) ∷ (15, b 3) ∷ (16, b 3) ∷ (17, location) ∷ (19, p 4) ∷ (20, p 4) ∷ (22, n 3) ∷ (23, b 1) ∷ []
+    (1, P 6) ∷ (2, P 6) ∷ (3, P 6) ∷ (4, B 1) ∷ (5, B 1) ∷ (6, N 2) ∷ (7, B 1) ∷ (8, B 3) ∷ (9, N 3) ∷ (10, B 3) ∷ (11, B 3) ∷ (12, B 2)
+    ∷ (13, B 3) ∷ (14, B 3) ∷ (15, B 3) ∷ (16, B 3) ∷ (17, location) ∷ (19, P 4) ∷ (20, P 4) ∷ (22, N 3) ∷ (23, B 1) ∷ []
 
 unfoldable pub find : List (ℕ × Rule) → ℕ → Rule
 find [] tag = unlisted

@@ -11,7 +11,7 @@ use crate::PACKET_LIMIT;
 
 /// Checks a packet and gives where its set begins. A visitor hears of items
 /// before a later fault is found, so it may only take notes.
-pub fn check(form: Form, packet: &[u8], visit: &mut impl Visit) -> Result<usize, Refusal> {
+pub(crate) fn check(form: Form, packet: &[u8], visit: &mut impl Visit) -> Result<usize, Refusal> {
     let start = open(form, packet)?;
     let standalone = form == Form::Standalone;
     let mut level = Level::<true>::new(packet, start, standalone);

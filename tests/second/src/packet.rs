@@ -28,7 +28,7 @@ pub const KEY: [u8; 16] = [
 
 /// An item, by offsets in the packet.
 #[derive(Clone, Copy, Debug)]
-pub struct Item {
+pub(crate) struct Item {
     pub tag: u16,
     /// `Bytes` also for a number that is shortest as it stands.
     pub kind: Kind,
@@ -43,7 +43,7 @@ pub struct Item {
 
 /// A pack, by offsets in the packet.
 #[derive(Clone, Copy, Debug)]
-pub struct Pack {
+pub(crate) struct Pack {
     pub id: u64,
     /// Where its length begins.
     pub place: usize,
@@ -55,7 +55,7 @@ pub struct Pack {
 }
 
 /// What a pass tells of the packet, left to right.
-pub trait Visit {
+pub(crate) trait Visit {
     #[inline]
     fn set_item(&mut self, _item: &Item) {}
     #[inline]

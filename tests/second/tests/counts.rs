@@ -112,5 +112,5 @@ fn the_same_seed_gives_the_same_cases() {
             digest = (digest ^ u64::from(byte)).wrapping_mul(0x0100_0000_01B3);
         }
     }
-    assert_eq!(digest, 0, "{digest:#018X}");
+    assert_eq!(digest, 0xFEB9_651C_53F9_5821, "{digest:#018X}");
 }

@@ -1,0 +1,68 @@
+-- Numbers and lengths as the code reads them: one byte more, and the cases of `lenOf` by the first byte.
+use mathlib.Core.Path.{_≡_, refl, sym, _∙_}
+use Prim.Native.Nat.{ℕ, suc, _+_, _-_, _*_, _≤_, _<_}
+use native.Mathlib.Omega.{arith}
+use native.Mathlib.Nat.{sub-zero}
+use native.Mathlib.Numerals.{add-one}
+use mathlib.Core.List.{List, [], _∷_}
+use mathlib.Core.Logic.{_⊎_, inl, inr}
+use lib.ListN.{length, take, drop, getD, length-drop}
+use lib.Seq.{take-suc}
+use borrow.Author.Tests.{lt-ltb, le-ltb, le-leb, lt-leb}
+use Rattle.format.specs.Answer.{ok, refused, got, _>>=_, need}
+use Rattle.format.specs.Coding.{bytesNumber, lenOf, longOf}
+use Rattle.format.proofs.coding.Digits.{number-snoc}
+use Rattle.coding.proofs.Rooms.{tail-part}
+
+-- one byte more
+pub number-more : (s : List ℕ) (i : ℕ) → i < length s → bytesNumber (take i s) * 256 + getD s i 0 ≡ bytesNumber (take (i + 1) s)
+number-more s i h = rw (add-one, take-suc s i 0, number-snoc, sub-zero)
+
+-- ---- the cases of `lenOf`
+
+pub len-none : (s : List ℕ) → length s ≡ 0 → refused 3 0 ≡ lenOf s
+unfolding lenOf
+len-none [] h = refl
+len-none (b ∷ s) h = absurd (omega arith)
+
+pub len-small : (s : List ℕ) (b : ℕ) → b ≡ getD s 0 0 → 0 < length s → b < 128 → ok (got b 1) ≡ lenOf s
+unfolding lenOf
+len-small [] b e p h = absurd (omega arith)
+len-small (c ∷ s) b e p h = rw (e, lt-ltb c 128 (omega arith), lenOf)
+
+len-large : (s : List ℕ) (b : ℕ) → b ≡ getD s 0 0 → 0 < length s → 128 ≤ b → lenOf s ≡ longOf (b - 128) (drop 1 s)
+unfolding lenOf
+len-large [] b e p h = absurd (omega arith)
+len-large (c ∷ s) b e p h = rw (e, le-ltb c 128 (omega arith), lenOf)
+
+long-zero : (s : List ℕ) → longOf 0 s ≡ refused 5 0
+unfolding longOf _>>=_ need
+long-zero s = refl
+
+long-over : (k : ℕ) (s : List ℕ) → 4 < k → longOf k s ≡ refused 5 0
+unfolding longOf _>>=_ need
+long-over k s h = rw (lt-ltb 0 k (omega arith), lt-leb k 4 h)
+
+long-cut : (k : ℕ) (s : List ℕ) → 0 < k → k ≤ 4 → length s < k → longOf k s ≡ refused 3 0
+unfolding longOf _>>=_ need
+long-cut k s p q h = rw (lt-ltb 0 k p, le-leb k 4 q, lt-leb k (length s) h)
+
+long-whole : (k : ℕ) (s : List ℕ) → 0 < k → k ≤ 4 → k ≤ length s → longOf k s ≡ ok (got (bytesNumber (take k s)) (suc k))
+unfolding longOf _>>=_ need
+long-whole k s p q h = rw (lt-ltb 0 k p, le-leb k 4 q, le-leb k (length s) h)
+
+-- over the code's first byte b
+module _ (s : List ℕ) (b : ℕ) (e : b ≡ getD s 0 0) (p : 0 < length s) (q : 128 ≤ b) where
+  large : lenOf s ≡ longOf (b - 128) (drop 1 s)
+  large = len-large s b e p q
+
+  pub len-bad : (b ≡ 128) ⊎ (132 < b) → refused 5 0 ≡ lenOf s
+  len-bad (inl h) = sym (large ∙ rw h (long-zero (drop 1 s)))
+  len-bad (inr h) = sym (large ∙ long-over (b - 128) (drop 1 s) (omega arith))
+
+  pub len-cut : 128 < b → b ≤ 132 → length s - 1 < b - 128 → refused 3 0 ≡ lenOf s
+  len-cut h j c = sym (large ∙ long-cut (b - 128) (drop 1 s) (omega arith) (omega arith) (rw length-drop c))
+
+  pub len-whole : (n : ℕ) → 128 < b → b ≤ 132 → b - 128 ≤ length s - 1 → n ≡ bytesNumber (take (b - 128) (take (length s - 1) (drop 1 s))) → ok (got n (b - 128 + 1)) ≡ lenOf s
+  len-whole n h j c z =
+      rw (z, tail-part 1 s, add-one) (sym (large ∙ long-whole (b - 128) (drop 1 s) (omega arith) (omega arith) (rw length-drop c)))

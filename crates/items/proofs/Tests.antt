@@ -1,0 +1,250 @@
+-- One item's tests, case by case, as the code makes them.
+use mathlib.Core.Path.{_≡_, refl, sym, ap, _∙_}
+use Prim.Native.Nat.{ℕ, zero, suc, _+_, _-_, _*_, _%_, _≤_, _<_}
+use native.Mathlib.Omega.{arith}
+use native.Mathlib.Nat.{mod-one}
+use native.Mathlib.Numerals.{add-one}
+use mathlib.Core.Bool.{Bool, true, false, not, _&&_, _||_}
+use mathlib.Core.List.{List, [], _∷_}
+use lib.ListN.{length, drop, getD}
+use lib.Seq.{drop-cons, drop-length}
+use lib.Dec.{ltb, leb, eqb}
+use borrow.Author.Tests.{ltb-true, ltb-false, lt-ltb, le-leb, lt-leb, eq-eqb, ne-eqb}
+use Rattle.format.specs.Answer.{Ans, ok, refused, _>>=_, need}
+use Rattle.format.specs.Coding.{bytesNumber, number}
+use Rattle.format.specs.Lists.{has, none?}
+use Rattle.format.specs.Table.{Form, isAlone, isSet, Level, mayStand, mayBegin, standing, sized, valued, notPixel, isNumber, strip, short}
+use Rattle.items.specs.declared.Rule as declared
+use Rattle.items.specs.Meet.{rowRule, ruleFrom, zeros}
+
+-- ---- do-blocks that go on, or stop
+
+module _ {A B : Type 0} where
+  pub bind-so : (m : Ans A) (f : A → Ans B) (a : A) → m ≡ ok a → m >>= f ≡ f a
+  unfolding _>>=_
+  bind-so m f a e = rw e
+
+  pub bind-not : (m : Ans A) (f : A → Ans B) (n p : ℕ) → m ≡ refused n p → m >>= f ≡ refused n p
+  unfolding _>>=_
+  bind-not m f n p e = rw e
+
+module _ {B : Type 0} (b : Bool) (n : ℕ) (f : Unit {0} → Ans B) where
+  pub need-so : b ≡ true → need b n >>= f ≡ f tt
+  unfolding _>>=_ need
+  need-so e = rw e
+
+  pub need-not : b ≡ false → need b n >>= f ≡ refused n 0
+  unfolding _>>=_ need
+  need-not e = rw e
+
+-- ---- 9, 13, 14
+
+module _ (l : Level) (f : Form) (seen : List ℕ) (tag : ℕ) (last : Bool) where
+  pub standing-9 : true ≡ has tag seen → refused 9 0 ≡ standing l f seen tag last
+  unfolding standing
+  standing-9 e = sym (need-not _ _ _ (ap not (sym e)))
+
+  module _ (e : false ≡ has tag seen) where
+    pub standing-13 : false ≡ mayStand l f tag last → refused 13 0 ≡ standing l f seen tag last
+    unfolding standing
+    standing-13 g = sym (need-so _ _ _ (ap not (sym e)) ∙ need-not _ _ _ (sym g))
+
+    module _ (g : true ≡ mayStand l f tag last) (first : Bool) (n : first ≡ none? seen) where
+      begins : (b : Bool) → b ≡ (not (isSet l) || not (isAlone f) || not first || eqb tag 2) → need b 14 ≡ standing l f seen tag last
+      unfolding standing mayBegin
+      begins b q = sym (need-so _ _ _ (ap not (sym e)) ∙ need-so _ _ _ (sym g) ∙ rw (q, n))
+
+      pub standing-14 : false ≡ (not (isSet l) || not (isAlone f) || not first || eqb tag 2) → refused 14 0 ≡ standing l f seen tag last
+      unfolding need
+      standing-14 q = begins false q
+
+      pub standing-0 : true ≡ (not (isSet l) || not (isAlone f) || not first || eqb tag 2) → ok tt ≡ standing l f seen tag last
+      unfolding need
+      standing-0 q = begins true q
+
+-- ---- zeros at the start
+
+-- the zeros that are counted, and those still to be
+abbrev pub ZerosLeft : List ℕ → ℕ → Type 0
+ZerosLeft v i = (i ≤ length v) × (zeros v ≡ i + zeros (drop i v))
+
+module _ (v : List ℕ) (i : ℕ) (l : ZerosLeft v i) where
+  pub zero-found : i < length v → (getD v i 0 ≡ 0 → ⊥) → i ≡ zeros v
+  unfolding zeros
+  zero-found h g = sym (l .1 ∙ rw (drop-cons v i 0 h) (by (getD v i 0) g))
+    where
+      by : (b : ℕ) → (b ≡ 0 → ⊥) → i + zeros (b ∷ drop (suc i) v) ≡ i
+      by zero g = absurd (g refl)
+      by (suc b) g = omega arith
+
+  pub zero-more : i < length v → getD v i 0 ≡ 0 → ZerosLeft v (i + 1)
+  unfolding zeros
+  zero-more h g =
+      let e : zeros (drop i v) ≡ suc (zeros (drop (suc i) v)) = rw (drop-cons v i 0 h, g) in
+      (omega arith, rw add-one (omega (arith, l .1)))
+
+  pub zero-done : length v ≤ i → i ≡ zeros v
+  unfolding zeros
+  zero-done h =
+      let e : i ≡ length v = omega arith in
+      sym (l .1 ∙ rw (e, drop-length) (omega arith))
+
+number-pos : (acc : ℕ) (s : List ℕ) → 0 < acc → 0 < number 256 0 acc s
+unfolding number
+number-pos acc [] h = h
+number-pos acc (b ∷ s) h = number-pos (acc * 256 + (b - 0)) s (omega arith)
+
+zeros-some : (s : List ℕ) → (zeros s ≡ length s → ⊥) → 0 < bytesNumber s
+unfolding number zeros
+zeros-some [] h = absurd (h refl)
+zeros-some (zero ∷ s) h = zeros-some s (λ e. h (ap suc e))
+zeros-some (suc b ∷ s) h = number-pos (0 * 256 + (suc b - 0)) s (omega arith)
+
+zeros-all : (s : List ℕ) → zeros s ≡ length s → bytesNumber s ≡ 0
+unfolding number zeros
+zeros-all [] h = refl
+zeros-all (zero ∷ s) h = zeros-all s (omega arith)
+zeros-all (suc b ∷ s) h = absurd (omega arith)
+
+-- ---- 11: by the kind
+
+pub sized-any : (k a b n : ℕ) → k ≡ 0 → ltb 0 n ≡ sized (rowRule k a b) n
+unfolding sized
+sized-any k a b n e = go (ltb 0 n) refl
+  where
+    go : (t : Bool) → ltb 0 n ≡ t → ltb 0 n ≡ sized (rowRule k a b) n
+    go true z = z ∙ sym (rw (e, le-leb 1 n (ltb-true 0 n z), eq-eqb ((n - 1) % 1) 0 (mod-one (n - 1))))
+    go false z = let y : n ≡ 0 = omega (arith, ltb-false 0 n z) in rw (e, y)
+
+-- a row that is listed
+abbrev gapOf : ℕ → ℕ
+gapOf zero = 1
+gapOf (suc zero) = 1
+gapOf (suc (suc zero)) = 1
+gapOf (suc (suc (suc zero))) = 1
+gapOf (suc (suc (suc (suc k)))) = 6
+
+listed : (k a b n : ℕ) → (k ≡ 0 → ⊥) → sized (rowRule k a b) n ≡ (leb a n && leb n b && eqb ((n - a) % gapOf k) 0)
+unfolding sized
+listed zero a b n h = absurd (h refl)
+listed (suc zero) a b n h = refl
+listed (suc (suc zero)) a b n h = refl
+listed (suc (suc (suc zero))) a b n h = refl
+listed (suc (suc (suc (suc k)))) a b n h = refl
+
+gap-one : (k : ℕ) → k < 4 → gapOf k ≡ 1
+gap-one zero h = refl
+gap-one (suc zero) h = refl
+gap-one (suc (suc zero)) h = refl
+gap-one (suc (suc (suc zero))) h = refl
+gap-one (suc (suc (suc (suc k)))) h = absurd (omega arith)
+
+gap-six : (k : ℕ) → 4 ≤ k → gapOf k ≡ 6
+gap-six zero h = absurd (omega arith)
+gap-six (suc zero) h = absurd (omega arith)
+gap-six (suc (suc zero)) h = absurd (omega arith)
+gap-six (suc (suc (suc zero))) h = absurd (omega arith)
+gap-six (suc (suc (suc (suc k)))) h = refl
+
+module _ (k a b n : ℕ) (h : k ≡ 0 → ⊥) where
+  pub sized-under : n < a → false ≡ sized (rowRule k a b) n
+  sized-under g = sym (listed k a b n h ∙ rw (lt-leb a n g))
+
+  module _ (g : a ≤ n) where
+    pub sized-over : b < n → false ≡ sized (rowRule k a b) n
+    sized-over q = sym (listed k a b n h ∙ rw (le-leb a n g, lt-leb n b q))
+
+    pub sized-plain : n ≤ b → k < 4 → true ≡ sized (rowRule k a b) n
+    sized-plain q z = sym (listed k a b n h ∙ rw (le-leb a n g, le-leb n b q, gap-one k z, eq-eqb ((n - a) % 1) 0 (mod-one (n - a))))
+
+    pub sized-six : n ≤ b → 4 ≤ k → eqb ((n - a) % 6) 0 ≡ sized (rowRule k a b) n
+    sized-six q z = sym (listed k a b n h ∙ rw (le-leb a n g, le-leb n b q, gap-six k z))
+
+-- ---- 12
+
+kind-pixel : (k a b : ℕ) → k ≡ 3 → notPixel (rowRule k a b .kind) ≡ false
+kind-pixel k a b e = rw e
+
+kind-other : (k a b : ℕ) → (k ≡ 3 → ⊥) → notPixel (rowRule k a b .kind) ≡ true
+kind-other zero a b h = refl
+kind-other (suc zero) a b h = refl
+kind-other (suc (suc zero)) a b h = refl
+kind-other (suc (suc (suc zero))) a b h = absurd (h refl)
+kind-other (suc (suc (suc (suc k)))) a b h = refl
+
+module _ (r : declared.Rule) (v : List ℕ) where
+  pub valued-11 : false ≡ sized (ruleFrom r) (length v) → refused 11 0 ≡ valued (ruleFrom r) v
+  unfolding valued
+  valued-11 q = sym (need-not _ _ _ (sym q))
+
+  module _ (q : true ≡ sized (ruleFrom r) (length v)) where
+    whole : need (notPixel (ruleFrom r .kind) || ltb 0 (bytesNumber v)) 12 ≡ valued (ruleFrom r) v
+    unfolding valued
+    whole = sym (need-so _ _ _ (sym q))
+
+    pub valued-12 : r .1 ≡ 3 → (z : ℕ) → z ≡ zeros v → z ≡ length v → refused 12 0 ≡ valued (ruleFrom r) v
+    unfolding need
+    valued-12 k z ez h = rw (kind-pixel (r .1) (r .2) (r .3) k, zeros-all v (sym ez ∙ h)) at whole
+
+    pub valued-some : r .1 ≡ 3 → (z : ℕ) → z ≡ zeros v → (z ≡ length v → ⊥) → ok tt ≡ valued (ruleFrom r) v
+    unfolding need
+    valued-some k z ez h = rw (kind-pixel (r .1) (r .2) (r .3) k, lt-ltb 0 (bytesNumber v) (zeros-some v (λ x. h (ez ∙ x)))) at whole
+
+    pub valued-0 : (r .1 ≡ 3 → ⊥) → ok tt ≡ valued (ruleFrom r) v
+    unfolding need
+    valued-0 k = rw (kind-other (r .1) (r .2) (r .3) k) at whole
+
+-- ---- the shortest form
+
+strip-length : (v : List ℕ) → zeros v < length v → length (strip v) ≡ length v - zeros v
+unfolding strip zeros
+strip-length [] h = absurd (omega arith)
+strip-length (suc b ∷ s) h = rw (ne-eqb (suc b) 0 (λ e. omega arith), strip) (omega arith)
+strip-length (zero ∷ []) h = absurd (omega arith)
+strip-length (zero ∷ b ∷ s) h = strip-length (b ∷ s) (omega arith) ∙ omega arith
+
+strip-one : (v : List ℕ) → 0 < length v → length v ≤ zeros v → length (strip v) ≡ 1
+unfolding strip zeros
+strip-one [] g h = absurd (omega arith)
+strip-one (suc b ∷ s) g h = absurd (omega arith)
+strip-one (zero ∷ []) g h = refl
+strip-one (zero ∷ b ∷ s) g h = strip-one (b ∷ s) (omega arith) (omega arith)
+
+kind-bytes : (k a b : ℕ) → k < 2 → isNumber (rowRule k a b .kind) ≡ false
+kind-bytes zero a b h = refl
+kind-bytes (suc zero) a b h = refl
+kind-bytes (suc (suc k)) a b h = absurd (omega arith)
+
+kind-location : (k a b : ℕ) → 3 < k → isNumber (rowRule k a b .kind) ≡ false
+kind-location zero a b h = absurd (omega arith)
+kind-location (suc zero) a b h = absurd (omega arith)
+kind-location (suc (suc zero)) a b h = absurd (omega arith)
+kind-location (suc (suc (suc zero))) a b h = absurd (omega arith)
+kind-location (suc (suc (suc (suc k)))) a b h = refl
+
+kind-number : (k a b : ℕ) → 2 ≤ k → k ≤ 3 → isNumber (rowRule k a b .kind) ≡ true
+kind-number zero a b h g = absurd (omega arith)
+kind-number (suc zero) a b h g = absurd (omega arith)
+kind-number (suc (suc zero)) a b h g = refl
+kind-number (suc (suc (suc zero))) a b h g = refl
+kind-number (suc (suc (suc (suc k)))) a b h g = absurd (omega arith)
+
+module _ (r : declared.Rule) (v : List ℕ) where
+  pub short-bytes : r .1 < 2 → length v ≡ length (short (ruleFrom r) v)
+  unfolding short
+  short-bytes h = rw (kind-bytes (r .1) (r .2) (r .3) h, short)
+
+  pub short-location : 3 < r .1 → length v ≡ length (short (ruleFrom r) v)
+  unfolding short
+  short-location h = rw (kind-location (r .1) (r .2) (r .3) h, short)
+
+  module _ (h : 2 ≤ r .1) (g : r .1 ≤ 3) (z : ℕ) (e : z ≡ zeros v) where
+    stripped : short (ruleFrom r) v ≡ strip v
+    unfolding short
+    stripped = rw (kind-number (r .1) (r .2) (r .3) h g, short)
+
+    pub short-some : z < length v → length v - z ≡ length (short (ruleFrom r) v)
+    short-some q = sym (ap length stripped ∙ strip-length v (omega arith) ∙ rw e)
+
+    pub short-none : 0 < length v → length v ≤ z → 1 ≡ length (short (ruleFrom r) v)
+    short-none p q = sym (ap length stripped ∙ strip-one v p (omega arith))

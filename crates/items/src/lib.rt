@@ -1,0 +1,218 @@
+// The constant item table, and the rules for one item: of a set or a pack, in a packet, a sheet or an edit.
+ghost use mathlib.Core.Path.{_≡_};
+ghost use Prim.Native.Nat.{ℕ, _+_, _-_, _≤_, _<_, _^_};
+ghost use mathlib.Core.Bool.{_&&_, _||_, not, false, true};
+ghost use mathlib.Core.List.{List};
+ghost use lib.ListN.{length};
+ghost use lib.Dec.{eqb};
+ghost use Rattle.format.specs.Lists.{has, none?};
+ghost use Rattle.format.specs.Table.{isAlone, isSet, ruleOf, nameable, mayStand, mayBegin, standing, sized, valued, short};
+ghost use Rattle.items.specs.Meet.{formOf, levelOf, ruleFrom, answerOf, zeros, offsets, shortSize};
+
+// A row: tag, kind, least and greatest length. Kinds: 0 not listed (one or more bytes), 1 bytes, 2 a number, 3 a pixel,
+// 4 a location (10, 16 or 22 bytes).
+pub struct Rule(pub u8, pub u8, pub u8, pub u8);
+
+// The rows of the set and of a pack, each at its tag.
+const SET_ITEMS: [Rule; 13] = [
+    Rule(0, 0, 1, 0),
+    Rule(1, 1, 2, 2),
+    Rule(2, 1, 8, 8),
+    Rule(3, 1, 1, 32),
+    Rule(4, 2, 1, 2),
+    Rule(5, 2, 1, 3),
+    Rule(6, 2, 1, 3),
+    Rule(7, 0, 1, 0),
+    Rule(8, 2, 1, 3),
+    Rule(9, 2, 1, 3),
+    Rule(10, 1, 1, 128),
+    Rule(11, 1, 2, 2),
+    Rule(12, 1, 2, 2),
+];
+
+const PACK_ITEMS: [Rule; 24] = [
+    Rule(0, 0, 1, 0),
+    Rule(1, 3, 1, 6),
+    Rule(2, 3, 1, 6),
+    Rule(3, 3, 1, 6),
+    Rule(4, 1, 1, 1),
+    Rule(5, 1, 1, 1),
+    Rule(6, 2, 1, 2),
+    Rule(7, 1, 1, 1),
+    Rule(8, 1, 3, 3),
+    Rule(9, 2, 1, 3),
+    Rule(10, 1, 3, 3),
+    Rule(11, 1, 3, 3),
+    Rule(12, 1, 2, 2),
+    Rule(13, 1, 3, 3),
+    Rule(14, 1, 3, 3),
+    Rule(15, 1, 3, 3),
+    Rule(16, 1, 3, 3),
+    Rule(17, 4, 10, 22),
+    Rule(18, 0, 1, 0),
+    Rule(19, 3, 1, 4),
+    Rule(20, 3, 1, 4),
+    Rule(21, 0, 1, 0),
+    Rule(22, 2, 1, 3),
+    Rule(23, 1, 1, 1),
+];
+
+// The rule of a tag, for the set or for a pack.
+pub fn rule_of(set: bool, tag: u64) -> Rule
+    ensures { λ r. ⌜ ruleFrom r ≡ ruleOf (levelOf set) tag ⌝ }
+{
+    if set {
+        if tag < 13 {
+            return SET_ITEMS[tag as usize];
+        }
+    } else {
+        if tag < 24 {
+            return PACK_ITEMS[tag as usize];
+        }
+    }
+    Rule(0, 0, 1, 0)
+}
+
+// Leading zeros.
+pub fn leading(v: &[u8]) -> usize
+    ensures { λ r. ⌜ r ≡ zeros (now (v .entry)) ⌝ }
+{
+    let mut i: usize = 0;
+    while i < v.len() {
+        if v[i] != 0 {
+            return i;
+        }
+        i += 1;
+    }
+    i
+}
+
+// Whether a rule allows a length.
+fn sized_of(rule: Rule, n: usize) -> bool
+    ensures { λ r. ⌜ r ≡ sized (ruleFrom rule) n ⌝ }
+{
+    if rule.1 == 0 {
+        return 0 < n;
+    }
+    let least = rule.2 as usize;
+    let most = rule.3 as usize;
+    if n < least {
+        return false;
+    }
+    if most < n {
+        return false;
+    }
+    if rule.1 < 4 {
+        return true;
+    }
+    (n - least) % 6 == 0
+}
+
+// 11, 12 or 0.
+pub fn valued_of(rule: Rule, v: &[u8]) -> u64
+    ensures { λ r. ⌜ answerOf r ≡ valued (ruleFrom rule) (now (v .entry)) ⌝ }
+{
+    if sized_of(rule, v.len()) {
+        if rule.1 == 3 {
+            if leading(v) == v.len() {
+                return 12;
+            }
+            return 0;
+        }
+        return 0;
+    }
+    11
+}
+
+// How many bytes a value has in its shortest form.
+pub fn short_size(rule: Rule, v: &[u8]) -> usize
+    requires { ⌜ 0 < length (now v) ⌝ }
+    ensures { λ r. ⌜ r ≡ length (short (ruleFrom rule) (now (v .entry))) ⌝ }
+{
+    if rule.1 < 2 {
+        return v.len();
+    }
+    if 3 < rule.1 {
+        return v.len();
+    }
+    let z = leading(v);
+    if z < v.len() {
+        return v.len() - z;
+    }
+    1
+}
+
+fn is_offset(tag: u64) -> bool
+    ensures { λ r. ⌜ r ≡ has tag offsets ⌝ }
+{
+    if tag == 10 {
+        return true;
+    }
+    if tag == 11 {
+        return true;
+    }
+    if tag == 13 {
+        return true;
+    }
+    if tag == 14 {
+        return true;
+    }
+    if tag == 15 {
+        return true;
+    }
+    if tag == 16 {
+        return true;
+    }
+    false
+}
+
+// Tag 1 only at the very end of a standalone set; the six offset tags only in embedded.
+pub fn stands(set: bool, alone: bool, tag: u64, last: bool) -> bool
+    ensures { λ r. ⌜ r ≡ mayStand (levelOf set) (formOf alone) tag last ⌝ }
+{
+    if set {
+        if tag == 1 {
+            if alone {
+                return last;
+            }
+            return false;
+        }
+        return true;
+    }
+    if alone {
+        return !is_offset(tag);
+    }
+    true
+}
+
+// A standalone set begins with tag 2.
+fn begins(set: bool, alone: bool, tag: u64, first: bool) -> bool
+    ensures { λ r. ⌜ r ≡ (not (isSet (levelOf set)) || not (isAlone (formOf alone)) || not first || eqb tag 2) ⌝ }
+{
+    if set {
+        if alone {
+            if first {
+                return tag == 2;
+            }
+            return true;
+        }
+        return true;
+    }
+    true
+}
+
+// 9, 13, 14 or 0; dup: the tag stands before, first: nothing stands before.
+pub fn standing_of(set: bool, alone: bool, dup: bool, first: bool, tag: u64, last: bool) -> u64
+    ensures { λ r. ⌜ ((seen : List ℕ) → dup ≡ has tag seen → first ≡ none? seen → answerOf r ≡ standing (levelOf set) (formOf alone) seen tag last) ⌝ }
+{
+    if dup {
+        return 9;
+    }
+    if stands(set, alone, tag, last) {
+        if begins(set, alone, tag, first) {
+            return 0;
+        }
+        return 14;
+    }
+    13
+}

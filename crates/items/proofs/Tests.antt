@@ -15,7 +15,7 @@ use Rattle.format.specs.Coding.{bytesNumber, number}
 use Rattle.format.specs.Lists.{has, none?}
 use Rattle.format.specs.Table.{Form, isAlone, isSet, Level, mayStand, mayBegin, standing, sized, valued, notPixel, isNumber, strip, short}
 use Rattle.items.specs.declared.Rule as declared
-use Rattle.items.specs.Meet.{rowRule, ruleFrom, zeros}
+use Rattle.items.specs.Meet.{offsets, rowRule, ruleFrom, zeros}
 
 -- ---- do-blocks that go on, or stop
 
@@ -61,6 +61,34 @@ module _ (l : Level) (f : Form) (seen : List ℕ) (tag : ℕ) (last : Bool) wher
       pub standing-0 : true ≡ (not (isSet l) || not (isAlone f) || not first || eqb tag 2) → ok tt ≡ standing l f seen tag last
       unfolding need
       standing-0 q = begins true q
+
+-- ---- the offset tags
+
+pub offset-under : (tag : ℕ) → tag < 10 → false ≡ has tag offsets
+unfolding has
+offset-under tag h =
+    rw (ne-eqb 10 tag (λ e. omega arith), ne-eqb 11 tag (λ e. omega arith), ne-eqb 13 tag (λ e. omega arith), ne-eqb 14 tag (λ e. omega arith), ne-eqb 15 tag (λ e. omega arith), ne-eqb 16 tag (λ e. omega arith))
+
+pub offset-over : (tag : ℕ) → 16 < tag → false ≡ has tag offsets
+unfolding has
+offset-over tag h =
+    rw (ne-eqb 10 tag (λ e. omega arith), ne-eqb 11 tag (λ e. omega arith), ne-eqb 13 tag (λ e. omega arith), ne-eqb 14 tag (λ e. omega arith), ne-eqb 15 tag (λ e. omega arith), ne-eqb 16 tag (λ e. omega arith))
+
+offset-at : (k : ℕ) → k ≤ 6 → not (eqb (10 + k) 12) ≡ has (10 + k) offsets
+unfolding has
+offset-at zero h = refl
+offset-at (suc zero) h = refl
+offset-at (suc (suc zero)) h = refl
+offset-at (suc (suc (suc zero))) h = refl
+offset-at (suc (suc (suc (suc zero)))) h = refl
+offset-at (suc (suc (suc (suc (suc zero))))) h = refl
+offset-at (suc (suc (suc (suc (suc (suc zero)))))) h = refl
+offset-at (suc (suc (suc (suc (suc (suc (suc k))))))) h = absurd (omega arith)
+
+pub offset-some : (tag : ℕ) → 10 ≤ tag → tag ≤ 16 → not (eqb tag 12) ≡ has tag offsets
+offset-some tag h g =
+    let e : 10 + (tag - 10) ≡ tag = omega arith in
+    rw e at (offset-at (tag - 10) (omega arith))
 
 -- ---- zeros at the start
 

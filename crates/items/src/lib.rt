@@ -142,28 +142,17 @@ pub fn short_size(rule: Rule, v: &[u8]) -> usize
     1
 }
 
+// The six offset tags: 10 to 16, but for 12.
 fn is_offset(tag: u64) -> bool
     ensures { λ r. ⌜ r ≡ has tag offsets ⌝ }
 {
-    if tag == 10 {
-        return true;
+    if tag < 10 {
+        return false;
     }
-    if tag == 11 {
-        return true;
+    if 16 < tag {
+        return false;
     }
-    if tag == 13 {
-        return true;
-    }
-    if tag == 14 {
-        return true;
-    }
-    if tag == 15 {
-        return true;
-    }
-    if tag == 16 {
-        return true;
-    }
-    false
+    tag != 12
 }
 
 // Tag 1 only at the very end of a standalone set; the six offset tags only in embedded.

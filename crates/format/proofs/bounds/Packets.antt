@@ -95,31 +95,31 @@ head-room l s h e =
     need-then _ _ _ _ e₃ λ r e₄.
     rw (← ok-inj _ _ e₄) (leb-true _ _ r)
 
-item-here : (l : Level) (f : Form) (seen s : List ℕ) → Here (item l f seen s)
+pub item-here : (l : Level) (f : Form) (seen s : List ℕ) → Here (item l f seen s)
 unfolding item
 item-here l f seen s = refuses-bind _ _ (head-here l s) λ h _. refuses-bind _ _ (rules-here _ _ _ _ _ _) λ _ _. refuses-ok _ _
 
 -- how long an item's value is, and what it took
-item-room : (l : Level) (f : Form) (seen s : List ℕ) (r : Got Item) → item l f seen s ≡ ok r → (r .used ≤ length s) × (length (r .val .value) ≤ r .used)
+pub item-room : (l : Level) (f : Form) (seen s : List ℕ) (r : Got Item) → item l f seen s ≡ ok r → (r .used ≤ length s) × (length (r .val .value) ≤ r .used)
 unfolding item
 item-room l f seen s r e =
     bind-then _ _ _ e λ h eh e₁.
     bind-then _ _ _ e₁ λ _ _ e₂.
     rw (← ok-inj _ _ e₂) (head-room l s h eh, rw length-take (omega arith))
 
-item-steady : (l : Level) (f : Form) → Steady (item l f)
+pub item-steady : (l : Level) (f : Form) → Steady (item l f)
 item-steady l f = record { early = λ seen s p. early-more 1 (length s) (item l f seen s) (item-here l f seen s) (omega arith); room = λ seen s r e. item-room l f seen s r e .0 }
 
 -- ---- packs
 
-pack-head-here : (s : List ℕ) → Here (packHead s)
+pub pack-head-here : (s : List ℕ) → Here (packHead s)
 unfolding packHead
 pack-head-here s =
     refuses-bind _ _ (len-here s) λ n _.
     refuses-bind _ _ (here-need _ 6 (omega arith) (omega arith)) λ _ _.
     refuses-bind _ _ (id-here (take (n .val) (drop (n .used) s))) λ _ _. refuses-ok _ _
 
-pack-head-room : (s : List ℕ) (h : PackHead) → packHead s ≡ ok h → h .width + h .size ≤ length s
+pub pack-head-room : (s : List ℕ) (h : PackHead) → packHead s ≡ ok h → h .width + h .size ≤ length s
 unfolding packHead
 pack-head-room s h e =
     bind-then _ _ _ e λ n _ e₁.
@@ -131,7 +131,7 @@ pub ended-here : (f : Form) (tags : List ℕ) → Here (ended f tags)
 unfolding ended
 ended-here f tags = here-need _ 14 (omega arith) (omega arith)
 
-pack-early : (f : Form) (seen s : List ℕ) → 0 < length s → Early (length s) (onePack f seen s)
+pub pack-early : (f : Form) (seen s : List ℕ) → 0 < length s → Early (length s) (onePack f seen s)
 unfolding onePack
 pack-early f seen s p =
     refuses-bind _ _ (early-more 1 (length s) _ (pack-head-here s) (omega arith)) λ h eh.
@@ -142,7 +142,7 @@ pack-early f seen s p =
     (early-after (h .width + h .used) (length body) (length s) _ (run-early always tagOfItem (item pack f) (item-steady pack f) body) (λ q. omega (arith, q, pack-head-room s h eh))) λ is _.
     refuses-bind _ _ (early-more 1 (length s) _ (ended-here f (map tagOfItem (is .val))) (omega arith)) λ _ _. refuses-ok _ _
 
-pack-steady : (f : Form) → Steady (onePack f)
+pub pack-steady : (f : Form) → Steady (onePack f)
 unfolding onePack
 pack-steady f = record { early = pack-early f; room = room }
   where
@@ -175,7 +175,7 @@ deepen-used f i r e = go (eqb (i .val .tag) 101) refl
     go false z = rw (← ok-inj _ _ (rw (z, deepen) at e))
     go true z = after-then _ _ _ _ (rw (z, deepen) at e) λ ps _ e₁. rw (← ok-inj _ _ e₁)
 
-entry-steady : (f : Form) → Steady (entry f)
+pub entry-steady : (f : Form) → Steady (entry f)
 unfolding entry
 entry-steady f = record { early = early; room = room }
   where

@@ -1,0 +1,118 @@
+-- Heads as the code reads them, case by case, and the room of all that a head says.
+use mathlib.Core.Path.{_≡_, sym, ap, _∙_}
+use Prim.Native.Nat.{ℕ, _+_, _-_, _≤_, _<_}
+use native.Mathlib.Omega.{arith}
+use mathlib.Core.Bool.{Bool, true, false, not, _&&_, _||_}
+use mathlib.Core.List.{List}
+use lib.ListN.{length, take, drop, length-drop}
+use lib.Dec.{leb, eqb}
+use borrow.Author.Tests.{leb-true, le-leb, lt-leb, not-true, not-false}
+use Rattle.format.specs.Answer.{Ans, ok, refused, Got, _>>=_, need}
+use Rattle.format.specs.Coding.{Bytes, tagOf, idOf, lenOf}
+use Rattle.format.specs.Table.{Level, isSet}
+use Rattle.format.specs.Read.{headOf, PackHead, packHead}
+use Rattle.format.proofs.words.Answers.{bind-then, need-then, ok-inj}
+use Rattle.format.proofs.words.Bytes.{bytes-drop}
+use Rattle.format.proofs.bounds.Packets.{head-room}
+use Rattle.coding.specs.Code.{numOf}
+use Rattle.coding.specs.declared.Num.{Num}
+use Rattle.coding.specs.declared.Num.the-variants.{Value, Refused}
+use Rattle.coding.proofs.Rooms.{tail-part, tag-room, len-room}
+use Rattle.items.proofs.Tests.{bind-so, bind-not, need-so, need-not}
+use Rattle.heads.specs.Meet.{faultOf, itemHeadOf, packHeadOf}
+use Rattle.heads.specs.declared.Head.{Head}
+use Rattle.heads.specs.declared.Head.the-variants.{Whole}
+
+-- `&s[a..a + n]`, as the borrow checker has it
+pub mid-part : (a n : ℕ) (s : List ℕ) → take (a + n - a) (drop a s) ≡ take n (drop a s)
+mid-part a n s = let e : a + n - a ≡ n = omega arith in rw e
+
+-- what was read, by the answer on it
+said : {m : Ans (Got ℕ)} {a v : Num} → numOf a ≡ m → a ≡ v → m ≡ numOf v
+said e t = sym e ∙ ap numOf t
+
+tail-said : (s : List ℕ) (u : ℕ) {a v : Num} → numOf a ≡ lenOf (take (length s - u) (drop u s)) → a ≡ v → lenOf (drop u s) ≡ numOf v
+tail-said s u e t = said (rw tail-part at e) t
+
+mid-said : (s : List ℕ) (w n : ℕ) {a v : Num} → numOf a ≡ idOf (take (w + n - w) (drop w s)) → a ≡ v → idOf (take n (drop w s)) ≡ numOf v
+mid-said s w n e t = said (rw mid-part at e) t
+
+-- ---- an item's head: a is the answer on the tag, b on the length
+
+module _ (s : List ℕ) {a : Num} (ea : numOf a ≡ tagOf s) where
+  pub item-head-tag : (l : Level) {n : ℕ} {r : Head} → a ≡ Refused n → r ≡ faultOf a → itemHeadOf r ≡ headOf l s
+  unfolding headOf
+  item-head-tag l e f = ap itemHeadOf (f ∙ ap faultOf e) ∙ sym (bind-not _ _ _ _ (said ea e))
+
+  module _ {t u : ℕ} (ta : a ≡ Value t u) where
+    pub item-tag-room : Bytes s → u ≤ length s
+    item-tag-room h = tag-room s t u (sym (said ea ta)) h .1
+
+    module _ {b : Num} (eb : numOf b ≡ lenOf (take (length s - u) (drop u s))) where
+      pub item-head-len : (l : Level) {n : ℕ} {r : Head} → b ≡ Refused n → r ≡ faultOf b → itemHeadOf r ≡ headOf l s
+      unfolding headOf
+      item-head-len l e f = ap itemHeadOf (f ∙ ap faultOf e) ∙ sym (bind-so _ _ _ (said ea ta) ∙ bind-not _ _ _ _ (tail-said s u eb e))
+
+      module _ {n w : ℕ} (tb : b ≡ Value n w) where
+        pub item-from-room : Bytes s → u + w ≤ length s
+        item-from-room h = omega (arith, item-tag-room h, len-room (drop u s) n w (sym (tail-said s u eb tb)) (bytes-drop u s h) .1, length-drop u s)
+
+        item-tests : (l : Level) → headOf l s ≡ (need (not (isSet l && eqb t 1) || eqb w 1) 5 >>= λ _. need (leb (u + w + n) (length s)) 6 >>= λ _. itemHeadOf (Whole t u w n))
+        unfolding headOf
+        item-tests l = bind-so _ _ _ (said ea ta) ∙ bind-so _ _ _ (tail-said s u eb tb)
+
+        -- x: this is the set's tag 1, and its length is not in one byte
+        module _ (l : Level) {x : Bool} (ex : x ≡ not (not (isSet l && eqb t 1) || eqb w 1)) where
+          pub item-head-seal : x ≡ true → refused 5 0 ≡ headOf l s
+          item-head-seal tx = sym (item-tests l ∙ need-not _ _ _ (not-true _ (sym ex ∙ tx)))
+
+          module _ (tx : x ≡ false) (h : u + w ≤ length s) where
+            pub item-head-over : length s - (u + w) < n → refused 6 0 ≡ headOf l s
+            item-head-over g = sym (item-tests l ∙ need-so _ _ _ (not-false _ (sym ex ∙ tx)) ∙ need-not _ _ _ (lt-leb (u + w + n) (length s) (omega arith)))
+
+            pub item-head-whole : n ≤ length s - (u + w) → itemHeadOf (Whole t u w n) ≡ headOf l s
+            item-head-whole g = sym (item-tests l ∙ need-so _ _ _ (not-false _ (sym ex ∙ tx)) ∙ need-so _ _ _ (le-leb (u + w + n) (length s) (omega arith)))
+
+-- ---- a pack's head: b is the answer on the length, a on the id
+
+module _ (s : List ℕ) {b : Num} (eb : numOf b ≡ lenOf s) where
+  pub pack-head-len : {n : ℕ} {r : Head} → b ≡ Refused n → r ≡ faultOf b → packHeadOf r ≡ packHead s
+  unfolding packHead
+  pack-head-len e f = ap packHeadOf (f ∙ ap faultOf e) ∙ sym (bind-not _ _ _ _ (said eb e))
+
+  module _ {n w : ℕ} (tb : b ≡ Value n w) where
+    pub pack-len-room : Bytes s → w ≤ length s
+    pack-len-room h = len-room s n w (sym (said eb tb)) h .1
+
+    module _ (h : w ≤ length s) where
+      pub pack-head-over : length s - w < n → refused 6 0 ≡ packHead s
+      unfolding packHead
+      pack-head-over g = sym (bind-so _ _ _ (said eb tb) ∙ need-not _ _ _ (lt-leb (w + n) (length s) (omega arith)))
+
+      module _ (g : n ≤ length s - w) {a : Num} (ea : numOf a ≡ idOf (take (w + n - w) (drop w s))) where
+        pub pack-head-id : {m : ℕ} {r : Head} → a ≡ Refused m → r ≡ faultOf a → packHeadOf r ≡ packHead s
+        unfolding packHead
+        pack-head-id e f =
+            ap packHeadOf (f ∙ ap faultOf e)
+            ∙ sym (bind-so _ _ _ (said eb tb) ∙ need-so _ _ _ (le-leb (w + n) (length s) (omega arith)) ∙ bind-not _ _ _ _ (mid-said s w n ea e))
+
+        pub pack-head-whole : {k u : ℕ} → a ≡ Value k u → packHeadOf (Whole k u w n) ≡ packHead s
+        unfolding packHead
+        pack-head-whole e = sym (bind-so _ _ _ (said eb tb) ∙ need-so _ _ _ (le-leb (w + n) (length s) (omega arith)) ∙ bind-so _ _ _ (mid-said s w n ea e))
+
+-- ---- room: a head lies within the bytes with all that it heads
+
+pub pack-head-room : (s : List ℕ) (h : PackHead) → packHead s ≡ ok h → h .width + h .size ≤ length s
+unfolding packHead
+pack-head-room s h e =
+    bind-then _ _ _ e λ n _ e₁.
+    need-then _ _ _ _ e₁ λ r e₂.
+    bind-then _ _ _ e₂ λ i _ e₃.
+    rw (← ok-inj _ _ e₃) (leb-true _ _ r)
+
+module _ (s : List ℕ) {h : Head} {k u w n : ℕ} (t : h ≡ Whole k u w n) where
+  pub item-within : (l : Level) → itemHeadOf h ≡ headOf l s → u + w + n ≤ length s
+  item-within l e = head-room l s _ (sym e ∙ ap itemHeadOf t)
+
+  pub pack-within : packHeadOf h ≡ packHead s → w + n ≤ length s
+  pack-within e = pack-head-room s _ (sym e ∙ ap packHeadOf t)

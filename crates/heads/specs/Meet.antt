@@ -1,0 +1,60 @@
+-- Where the code of heads meets document 01: what its answers mean.
+use mathlib.Core.Path.{_≡_}
+use Prim.Native.Nat.{ℕ, _+_, _-_, _≤_, _<_}
+use mathlib.Core.Bool.{Bool, true, false}
+use mathlib.Core.List.{List, [], _∷_}
+use lib.ListN.{drop}
+use lib.Dec.{eqb}
+use Rattle.format.specs.Answer.{Ans, ok, refused, Got, got}
+use Rattle.format.specs.Lists.{none?, has}
+use Rattle.format.specs.Read.{headOf, packHead}
+use Rattle.format.specs.Read as Read
+use Rattle.coding.specs.declared.Num.{Num}
+use Rattle.coding.specs.declared.Num.the-variants.{Value, Refused}
+use Rattle.items.specs.Meet.{levelOf}
+use Rattle.heads.specs.declared.Head.{Head}
+use Rattle.heads.specs.declared.Head.the-variants.{Whole, Fault}
+
+abbrev pub faultOf : Num → Head
+faultOf (Value v n) = Fault 0
+faultOf (Refused n) = Fault n
+
+abbrev pub itemHeadOf : Head → Ans Read.Head
+itemHeadOf (Whole k u w n) = ok (record { tag = k; width = w; from = u + w; size = n })
+itemHeadOf (Fault n) = refused n 0
+
+abbrev pub packHeadOf : Head → Ans Read.PackHead
+packHeadOf (Whole k u w n) = ok (record { width = w; size = n; id = k; used = u })
+packHeadOf (Fault n) = refused n 0
+
+-- ---- what was there before
+
+abbrev pub peekItem : Ans Read.Head → Got ℕ
+peekItem (ok h) = got (h .tag) (h .from + h .size)
+peekItem (refused n p) = got 0 0
+
+abbrev pub peekPack : Ans Read.PackHead → Got ℕ
+peekPack (ok h) = got (h .id) (h .width + h .size)
+peekPack (refused n p) = got 0 0
+
+-- a key and the bytes of all that it heads, none where there is no such thing
+unfoldable pub peek : Bool → Bool → List ℕ → Got ℕ
+peek true set s = peekPack (packHead s)
+peek false set s = peekItem (headOf (levelOf set) s)
+
+abbrev pub Peeked : Bool → Bool → List ℕ → ℕ → ℕ → Type 0
+Peeked ids set s k u = (k ≡ peek ids set s .val) × (u ≡ peek ids set s .used)
+
+-- these keys, in order, head the first p bytes
+abbrev pub Heads : Bool → Bool → List ℕ → ℕ → List ℕ → Type 0
+Heads ids set s p [] = p ≡ 0
+Heads ids set s p (k ∷ ks) = (u : ℕ) × (peek ids set s ≡ got k u) × (0 < u) × (u ≤ p) × Heads ids set (drop u s) (p - u) ks
+
+-- seen are the keys before the place p, none of them above top or below low
+pub record Past (ids set : Bool) (s : List ℕ) (p top low : ℕ) (seen : List ℕ) : Type 0 where
+  pub keys : List ℕ
+  pub heads : Heads ids set s p keys
+  pub same : (k : ℕ) → has k seen ≡ has k keys
+  pub under : (k : ℕ) → top < k → has k seen ≡ false
+  pub over : (k : ℕ) → k < low → has k seen ≡ false
+  pub first : none? seen ≡ eqb p 0

@@ -1,0 +1,184 @@
+// What heads an item or a pack, and whether a tag or an id stood before: a look back over the heads, made only where one may be found.
+ghost use mathlib.Core.Path.{_≡_};
+ghost use Prim.Native.Nat.{ℕ, _+_, _*_, _≤_, _<_, _^_};
+ghost use mathlib.Core.Bool.{_&&_, _||_, not, false, true};
+ghost use mathlib.Core.List.{List};
+ghost use lib.ListN.{length, drop};
+ghost use lib.Dec.{eqb};
+ghost use Rattle.format.specs.Coding.{oidBytes, lenWidth};
+ghost use Rattle.format.specs.Lists.{has};
+ghost use Rattle.format.specs.Table.{isSet, isAlone};
+ghost use Rattle.format.specs.Read.{headOf, item, packHead};
+ghost use Rattle.items.specs.Meet.{formOf, levelOf};
+ghost use Rattle.heads.specs.Meet.{faultOf, itemHeadOf, packHeadOf, Peeked, Heads, Past};
+use coding::Num;
+
+// What heads an item or a pack: its key, how many bytes the key and the length take, and the length.
+pub enum Head {
+    Whole {
+        key: u64,
+        used: usize,
+        width: usize,
+        size: usize,
+    },
+    Fault(u64),
+}
+
+// A refusal passed up.
+fn fault_of(a: Num) -> Head
+    ensures { λ r. ⌜ r ≡ faultOf a ⌝ }
+{
+    match a {
+        Num::Value { value: _, used: _ } => Head::Fault(0),
+        Num::Refused(n) => Head::Fault(n),
+    }
+}
+
+// Whether this is the set's tag 1 with its length not in one byte.
+fn long_seal(set: bool, tag: u64, width: usize) -> bool
+    ensures { λ r. ⌜ r ≡ not (not (isSet (levelOf set) && eqb tag 1) || eqb width 1) ⌝ }
+{
+    if set {
+        if tag == 1 {
+            return width != 1;
+        }
+        return false;
+    }
+    false
+}
+
+// The tag and the length at the start of s, with room for the value: 3, 4, 3, 5, 6.
+pub fn item_head(s: &[u8], set: bool) -> Head
+    ensures { λ r. ⌜ itemHeadOf r ≡ headOf (levelOf set) (now (s .entry)) ⌝ }
+{
+    let a = coding::tag_of(s);
+    let Num::Value { value: key, used } = a else {
+        return fault_of(a);
+    };
+    let b = coding::len_of(&s[used..]);
+    let Num::Value {
+        value: n,
+        used: width,
+    } = b
+    else {
+        return fault_of(b);
+    };
+    if long_seal(set, key, width) {
+        return Head::Fault(5);
+    }
+    let from = used + width;
+    let size = n as usize;
+    if s.len() - from < size {
+        return Head::Fault(6);
+    }
+    Head::Whole {
+        key,
+        used,
+        width,
+        size,
+    }
+}
+
+// The length and the id at the start of s, with room for the pack: 3, 5, 6, 3, 8.
+pub fn pack_head(s: &[u8]) -> Head
+    ensures { λ r. ⌜ packHeadOf r ≡ packHead (now (s .entry)) ⌝ }
+{
+    let b = coding::len_of(s);
+    let Num::Value {
+        value: n,
+        used: width,
+    } = b
+    else {
+        return fault_of(b);
+    };
+    let size = n as usize;
+    if s.len() - width < size {
+        return Head::Fault(6);
+    }
+    let a = coding::id_of(&s[width..width + size]);
+    let Num::Value { value: key, used } = a else {
+        return fault_of(a);
+    };
+    Head::Whole {
+        key,
+        used,
+        width,
+        size,
+    }
+}
+
+// ---- what was there before
+
+// A key and the bytes of all that it heads, none where there is no such thing.
+pub struct Next {
+    pub key: u64,
+    pub used: usize,
+}
+
+fn next_of(s: &[u8], ids: bool, set: bool) -> Next
+    ensures { λ r. ⌜ Peeked ids set (now (s .entry)) (r .key) (r .used) ⌝ }
+{
+    if ids {
+        let h = pack_head(s);
+        let Head::Whole {
+            key,
+            used: _,
+            width,
+            size,
+        } = h
+        else {
+            return Next { key: 0, used: 0 };
+        };
+        return Next {
+            key,
+            used: width + size,
+        };
+    }
+    let h = item_head(s, set);
+    let Head::Whole {
+        key,
+        used,
+        width,
+        size,
+    } = h
+    else {
+        return Next { key: 0, used: 0 };
+    };
+    Next {
+        key,
+        used: used + width + size,
+    }
+}
+
+// Whether key heads something that begins in the first p bytes.
+fn seen_before(s: &[u8], p: usize, key: u64, ids: bool, set: bool) -> bool
+    requires { ⌜ p ≤ length (now s) ⌝ }
+    ensures { λ r. ⌜ ((ks : List ℕ) → Heads ids set (now (s .entry)) p ks → r ≡ has key ks) ⌝ }
+{
+    let mut q: usize = 0;
+    while q < p {
+        let n = next_of(&s[q..], ids, set);
+        if n.used == 0 {
+            return false;
+        }
+        if n.key == key {
+            return true;
+        }
+        q += n.used;
+    }
+    false
+}
+
+// The same, where no key before p is above top or below low.
+pub fn is_seen(s: &[u8], p: usize, top: u64, low: u64, key: u64, ids: bool, set: bool) -> bool
+    requires { ⌜ p ≤ length (now s) ⌝ }
+    ensures { λ r. ⌜ ((seen : List ℕ) → Past ids set (now (s .entry)) p top low seen → r ≡ has key seen) ⌝ }
+{
+    if top < key {
+        return false;
+    }
+    if key < low {
+        return false;
+    }
+    seen_before(s, p, key, ids, set)
+}

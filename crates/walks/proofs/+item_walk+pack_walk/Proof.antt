@@ -1,0 +1,419 @@
+-- `walks::item_walk` and `walks::pack_walk` meet their contracts: each turn moves one item or pack from what is to come to what was walked.
+-- In the item walk's answers `a` is where an item was read; in the pack walk's `a` is where a pack's head was, and `e` where its id was found to be new.
+use mathlib.Core.Path.{_≡_, refl, _∙_}
+use mathlib.Core.Bool.{Bool, true, false, not, _||_}
+use mathlib.Core.Logic.{⊎-elim}
+use Prim.Native.Nat.{ℕ, _+_, _-_, _≤_, _<_}
+use native.Mathlib.Omega.{arith}
+use lib.ListN.{length}
+use borrow.Author.Needs.{needs}
+use borrow.Fn.Kinds.{In}
+use borrow.Fn.PlainCycle.{Measures, is, falls, and}
+use Rattle.format.specs.Table.{isAlone}
+use Rattle.items.specs.Meet.{formOf}
+use Rattle.walks.proofs.Turns.{turn-done}
+use Rattle.walks.proofs.ItemTurns.{LevelGoing, level-start, depth, series-deep, value-long, item-fault, piece-stood, piece-room, EntryTold, item-told, series-within, series-told, entry-bad, bad-within, good-few, entry-more}
+use Rattle.walks.proofs.PackTurns.{SeriesGoing, lent-long, series-start, head-fault, head-stood, head-room, id-again, items-within, items-fault, no-location, pack-few, pack-more}
+use Rattle.walks.proofs.item_walk.Reads as item-walk
+use Rattle.walks.proofs.item_walk.Kinds as item-walk-kinds
+use Rattle.walks.proofs.+item_walk+pack_walk.Lts-item_walk as item-walk-lts
+use Rattle.walks.proofs.pack_walk.Reads as pack-walk
+use Rattle.walks.proofs.pack_walk.Kinds as pack-walk-kinds
+use Rattle.walks.proofs.+item_walk+pack_walk.Lts-pack_walk as pack-walk-lts
+use Rattle.heads.proofs.is_seen.Reads as is-seen-reads
+use Rattle.heads.proofs.pack_head.Reads as pack-head-reads
+use Rattle.walks.proofs.either.Reads as either-reads
+use Rattle.walks.proofs.is_series.Reads as is-series-reads
+use Rattle.walks.proofs.item_at.Reads as item-at-reads
+use Rattle.walks.proofs.larger.Reads as larger-reads
+use Rattle.walks.proofs.later.Reads as later-reads
+use Rattle.walks.proofs.one_item.Reads as one-item-reads
+use Rattle.walks.proofs.piece_fault.Reads as piece-fault-reads
+use Rattle.walks.proofs.plus.Reads as plus-reads
+use Rattle.walks.proofs.series_of.Reads as series-of-reads
+use Rattle.walks.proofs.smaller.Reads as smaller-reads
+use Rattle.walks.proofs.stop.Reads as stop-reads
+use Rattle.walks.proofs.+item_walk+pack_walk.{statement}
+use Rattle.walks.proofs.+item_walk+pack_walk.Tie.{close}
+
+-- the item walk of the set calls the pack walk, and that the item walk of a pack
+abbrev μ-item-walk : Measures 1 item-walk-kinds.ps ℕ
+μ-item-walk κs a = depth (a .1 .0)
+
+abbrev μ-pack-walk : Measures 1 pack-walk-kinds.ps ℕ
+μ-pack-walk κs a = 1
+
+abbrev item-walk-at : ℕ → In 1 item-walk-kinds.ps
+item-walk-at t = and 1 item-walk-kinds.ps (is 1 item-walk-kinds.ps μ-item-walk t) item-walk.Pre
+
+abbrev item-walk-below : ℕ → In 1 item-walk-kinds.ps
+item-walk-below t =
+    and 1 item-walk-kinds.ps (falls 1 item-walk-kinds.ps _<_ μ-item-walk t) item-walk.Pre
+
+abbrev pack-walk-at : ℕ → In 1 pack-walk-kinds.ps
+pack-walk-at t = and 1 pack-walk-kinds.ps (is 1 pack-walk-kinds.ps μ-pack-walk t) pack-walk.Pre
+
+abbrev pack-walk-below : ℕ → In 1 pack-walk-kinds.ps
+pack-walk-below t =
+    and 1 pack-walk-kinds.ps (falls 1 pack-walk-kinds.ps _<_ μ-pack-walk t) pack-walk.Pre
+
+-- what is known of the callees, the other walk's at a smaller measure
+abbrev item-claims : ℕ → item-walk-lts.Claims
+item-claims t = (item-at-reads.Asked, item-at-reads.Learnt, stop-reads.Asked, stop-reads.Learnt, is-series-reads.Asked, is-series-reads.Learnt, pack-walk-below t, pack-walk.Post, series-of-reads.Asked, series-of-reads.Learnt, one-item-reads.Asked, one-item-reads.Learnt, later-reads.Asked, later-reads.Learnt, plus-reads.Asked, plus-reads.Learnt, either-reads.Asked, either-reads.Learnt, larger-reads.Asked, larger-reads.Learnt, smaller-reads.Asked, smaller-reads.Learnt)
+
+abbrev pack-claims : ℕ → pack-walk-lts.Claims
+pack-claims t = (pack-head-reads.Asked, pack-head-reads.Learnt, piece-fault-reads.Asked, piece-fault-reads.Learnt, stop-reads.Asked, stop-reads.Learnt, is-seen-reads.Asked, is-seen-reads.Learnt, item-walk-below t, item-walk.Post, later-reads.Asked, later-reads.Learnt, either-reads.Asked, either-reads.Learnt, plus-reads.Asked, plus-reads.Learnt, larger-reads.Asked, larger-reads.Learnt, smaller-reads.Asked, smaller-reads.Learnt)
+
+-- ---- the item walk
+
+abbrev item-walk-Inv-loop : item-walk-lts.InvT-loop
+item-walk-Inv-loop s set alone p₀ sum₀ mark₀ top₀ low₀ p sum mark top low = LevelGoing set (formOf alone) s p sum mark top low
+
+abbrev item-walk-μ-loop : item-walk-lts.MeasureT-loop
+item-walk-μ-loop s set alone p₀ sum₀ mark₀ top₀ low₀ p sum mark top low = length s - p
+
+-- an item lies within the bytes lent
+item-room : (t : ℕ) (a : item-walk-lts.After-a (item-claims t) (item-walk-at t) item-walk.Post item-walk-Inv-loop item-walk-μ-loop)
+    → a .before .before .before .before .loop .p + a .a .given .0 .1 .0 + a .a .given .0 .1 .1 .0 ≤ length (a .before .before .before .before .before .before .args .s .now)
+item-room t a = piece-room _ (a .before .before .before .before .loop .inv) (a .before .before .before .loop-test .taken) (a .before .before .item-at .ensures) (a .a .given .1) (λ i. a .before .before .before .before .before .shared-slice-known .given i .fits)
+
+-- what one entry says, whichever way it was walked
+item-told-at : (t : ℕ) (j : item-walk-lts.Joined1 (item-claims t) (item-walk-at t) item-walk.Post item-walk-Inv-loop item-walk-μ-loop) → EntryTold _ (j .before .before .before .before .before .before .before .loop .inv) (j .before .before .before .before .before .before .loop-test .taken) (j .before .before .before .before .before .item-at .ensures) (j .before .before .before .a .given .1) (λ i. j .before .before .before .before .before .before .before .before .shared-slice-known .given i .fits) (j .if1 .w)
+item-told-at t j =
+    let a = j .before .before .before in
+    ⊎-elim
+    (λ x. series-told _ (a .before .before .before .before .loop .inv) (a .before .before .before .loop-test .taken) (a .before .before .item-at .ensures) (a .a .given .1) (λ i. a .before .before .before .before .before .shared-slice-known .given i .fits) (j .before .is-series .ensures) (x .0 .taken) (x .2 .ensures) (x .4 ∙ x .3 .ensures))
+    (λ x. item-told _ (a .before .before .before .before .loop .inv) (a .before .before .before .loop-test .taken) (a .before .before .item-at .ensures) (a .a .given .1) (λ i. a .before .before .before .before .before .shared-slice-known .given i .fits) (j .before .is-series .ensures) (x .0 .left) (x .2 ∙ x .1 .ensures))
+    (j .if1 .came)
+
+item-walk-loop-holds : (t : ℕ) → item-walk-lts.Need-loop-holds (item-claims t) (item-walk-at t) item-walk.Post item-walk-Inv-loop item-walk-μ-loop
+item-walk-loop-holds t c = level-start _ _ _
+
+item-walk-item-at-requires : (t : ℕ) → item-walk-lts.Need-item-at-requires (item-claims t) (item-walk-at t) item-walk.Post item-walk-Inv-loop item-walk-μ-loop
+item-walk-item-at-requires t c κs = search needs
+
+item-walk-enum-known-a : (t : ℕ) → item-walk-lts.Need-enum-known-a (item-claims t) (item-walk-at t) item-walk.Post item-walk-Inv-loop item-walk-μ-loop
+item-walk-enum-known-a t c = search needs
+
+item-walk-enum-told : (t : ℕ) → item-walk-lts.Need-enum-told (item-claims t) (item-walk-at t) item-walk.Post item-walk-Inv-loop item-walk-μ-loop
+item-walk-enum-told t c = search needs
+
+item-walk-stop-requires : (t : ℕ) → item-walk-lts.Need-stop-requires (item-claims t) (item-walk-at t) item-walk.Post item-walk-Inv-loop item-walk-μ-loop
+item-walk-stop-requires t c κs = search needs
+
+item-walk-returns : (t : ℕ) → item-walk-lts.Need-returns (item-claims t) (item-walk-at t) item-walk.Post item-walk-Inv-loop item-walk-μ-loop
+item-walk-returns t c = item-fault _ (c .before .before .before .before .before .loop .inv) (c .before .before .before .before .loop-test .taken) (c .before .before .before .item-at .ensures) (c .before .enum-told .given .1) (c .stop .ensures)
+
+item-walk-add-at : (t : ℕ) → item-walk-lts.Need-add-at (item-claims t) (item-walk-at t) item-walk.Post item-walk-Inv-loop item-walk-μ-loop
+item-walk-add-at t c = omega (arith, item-room t (c .before), c .before .before .before .before .before .before .before .pre .1)
+
+item-walk-add-next : (t : ℕ) → item-walk-lts.Need-add-next (item-claims t) (item-walk-at t) item-walk.Post item-walk-Inv-loop item-walk-μ-loop
+item-walk-add-next t c = omega (arith, item-room t (c .before), c .before .before .before .before .before .before .before .pre .1)
+
+item-walk-is-series-requires : (t : ℕ) → item-walk-lts.Need-is-series-requires (item-claims t) (item-walk-at t) item-walk.Post item-walk-Inv-loop item-walk-μ-loop
+item-walk-is-series-requires t c κs = search needs
+
+item-walk-sub-pack-walk : (t : ℕ) → item-walk-lts.Need-sub-pack-walk (item-claims t) (item-walk-at t) item-walk.Post item-walk-Inv-loop item-walk-μ-loop
+item-walk-sub-pack-walk t c = omega (arith, item-room t (c .before .before .before))
+
+item-walk-part-pack-walk-start : (t : ℕ) → item-walk-lts.Need-part-pack-walk-start (item-claims t) (item-walk-at t) item-walk.Post item-walk-Inv-loop item-walk-μ-loop
+item-walk-part-pack-walk-start t c = omega (arith, item-room t (c .before .before .before))
+
+item-walk-part-pack-walk-end : (t : ℕ) → item-walk-lts.Need-part-pack-walk-end (item-claims t) (item-walk-at t) item-walk.Post item-walk-Inv-loop item-walk-μ-loop
+item-walk-part-pack-walk-end t c = omega (arith, item-room t (c .before .before .before))
+
+item-walk-pack-walk-requires : (t : ℕ) → item-walk-lts.Need-pack-walk-requires (item-claims t) (item-walk-at t) item-walk.Post item-walk-Inv-loop item-walk-μ-loop
+item-walk-pack-walk-requires t c κs =
+    let a = c .before .before .before .before in (
+      omega (arith, series-deep (a .before .before .before .before .before .before .args .set) (a .a .given .0 .0) (c .before .before .is-series .ensures) (c .before .if1 .taken), a .before .before .before .before .before .before .pre .0),
+      omega (arith, value-long _ (a .before .before .before .before .loop .inv) (a .before .before .before .loop-test .taken) (a .before .before .item-at .ensures) (a .a .given .1) (λ i. a .before .before .before .before .before .shared-slice-known .given i .fits), item-room t a, a .before .before .before .before .before .before .pre .1),
+    )
+
+item-walk-series-of-requires : (t : ℕ) → item-walk-lts.Need-series-of-requires (item-claims t) (item-walk-at t) item-walk.Post item-walk-Inv-loop item-walk-μ-loop
+item-walk-series-of-requires t c κs =
+    let a = c .before .before .before .before .before in
+    series-within _ (a .before .before .before .before .loop .inv) (a .before .before .before .loop-test .taken) (a .before .before .item-at .ensures) (a .a .given .1) (λ i. a .before .before .before .before .before .shared-slice-known .given i .fits) (c .pack-walk .result) (a .before .before .before .before .before .before .pre .1) (c .pack-walk .ensures .1)
+
+item-walk-one-item-requires : (t : ℕ) → item-walk-lts.Need-one-item-requires (item-claims t) (item-walk-at t) item-walk.Post item-walk-Inv-loop item-walk-μ-loop
+item-walk-one-item-requires t c κs =
+    let a = c .before .before .before in
+    let k = piece-stood _ (a .before .before .before .before .loop .inv) (a .before .before .before .loop-test .taken) (a .before .before .item-at .ensures) (a .a .given .1) (λ i. a .before .before .before .before .before .shared-slice-known .given i .fits) in
+    omega (arith, k .short-less, item-room t a, a .before .before .before .before .before .before .pre .1)
+
+item-walk-enum-known-w : (t : ℕ) → item-walk-lts.Need-enum-known-w (item-claims t) (item-walk-at t) item-walk.Post item-walk-Inv-loop item-walk-μ-loop
+item-walk-enum-known-w t c = search needs
+
+item-walk-enum-told-2 : (t : ℕ) → item-walk-lts.Need-enum-told-2 (item-claims t) (item-walk-at t) item-walk.Post item-walk-Inv-loop item-walk-μ-loop
+item-walk-enum-told-2 t c = search needs
+
+item-walk-later-requires : (t : ℕ) → item-walk-lts.Need-later-requires (item-claims t) (item-walk-at t) item-walk.Post item-walk-Inv-loop item-walk-μ-loop
+item-walk-later-requires t c κs =
+    let a = c .before .before .before .before .before in
+    bad-within _ (a .before .before .before .before .loop .inv) (a .before .before .before .loop-test .taken) (a .before .before .item-at .ensures) (a .a .given .1) (λ i. a .before .before .before .before .before .shared-slice-known .given i .fits) (item-told-at t (c .before .before)) (a .before .before .before .before .before .before .pre .1) (c .enum-told2 .given .1)
+
+item-walk-returns-2 : (t : ℕ) → item-walk-lts.Need-returns-2 (item-claims t) (item-walk-at t) item-walk.Post item-walk-Inv-loop item-walk-μ-loop
+item-walk-returns-2 t c =
+    let a = c .before .before .before .before .before .before in
+    entry-bad _ (a .before .before .before .before .loop .inv) (a .before .before .before .loop-test .taken) (a .before .before .item-at .ensures) (a .a .given .1) (λ i. a .before .before .before .before .before .shared-slice-known .given i .fits) (item-told-at t (c .before .before .before)) (c .before .enum-told2 .given .1) (c .later .ensures)
+
+item-walk-plus-requires : (t : ℕ) → item-walk-lts.Need-plus-requires (item-claims t) (item-walk-at t) item-walk.Post item-walk-Inv-loop item-walk-μ-loop
+item-walk-plus-requires t c κs =
+    let a = c .before .before .before .before .before .before in
+    good-few _ (a .before .before .before .before .loop .inv) (a .before .before .before .loop-test .taken) (a .before .before .item-at .ensures) (a .a .given .1) (λ i. a .before .before .before .before .before .shared-slice-known .given i .fits) (item-told-at t (c .before .before .before)) (a .before .before .before .before .before .before .pre .1) (c .before .w .given .1)
+
+item-walk-either-requires : (t : ℕ) → item-walk-lts.Need-either-requires (item-claims t) (item-walk-at t) item-walk.Post item-walk-Inv-loop item-walk-μ-loop
+item-walk-either-requires t c κs = search needs
+
+item-walk-larger-requires : (t : ℕ) → item-walk-lts.Need-larger-requires (item-claims t) (item-walk-at t) item-walk.Post item-walk-Inv-loop item-walk-μ-loop
+item-walk-larger-requires t c κs = search needs
+
+item-walk-smaller-requires : (t : ℕ) → item-walk-lts.Need-smaller-requires (item-claims t) (item-walk-at t) item-walk.Post item-walk-Inv-loop item-walk-μ-loop
+item-walk-smaller-requires t c κs = search needs
+
+item-walk-loop-less : (t : ℕ) → item-walk-lts.Need-loop-less (item-claims t) (item-walk-at t) item-walk.Post item-walk-Inv-loop item-walk-μ-loop
+item-walk-loop-less t c =
+    let a = c .before .before .before .before .before .before .before .before .before .before in
+    let k = piece-stood _ (a .before .before .before .before .loop .inv) (a .before .before .before .loop-test .taken) (a .before .before .item-at .ensures) (a .a .given .1) (λ i. a .before .before .before .before .before .shared-slice-known .given i .fits) in
+    omega (arith, k .some, a .before .before .before .loop-test .taken)
+
+item-walk-loop-again : (t : ℕ) → item-walk-lts.Need-loop-again (item-claims t) (item-walk-at t) item-walk.Post item-walk-Inv-loop item-walk-μ-loop
+item-walk-loop-again t c =
+    let a = c .before .before .before .before .before .before .before .before .before .before in
+    entry-more _ (a .before .before .before .before .loop .inv) (a .before .before .before .loop-test .taken) (a .before .before .item-at .ensures) (a .a .given .1) (λ i. a .before .before .before .before .before .shared-slice-known .given i .fits) (item-told-at t (c .before .before .before .before .before .before .before)) (c .before .before .before .before .before .w .given .1) (c .before .before .before .plus .ensures) (c .before .before .either .ensures) (c .before .larger .ensures) (c .smaller .ensures)
+
+item-walk-returns-3 : (t : ℕ) → item-walk-lts.Need-returns-3 (item-claims t) (item-walk-at t) item-walk.Post item-walk-Inv-loop item-walk-μ-loop
+item-walk-returns-3 t c = turn-done (c .before .loop .inv) (c .loop-test .left)
+
+-- ---- the pack walk
+
+abbrev pack-walk-Inv-loop : pack-walk-lts.InvT-loop
+pack-walk-Inv-loop s alone p₀ sum₀ top₀ low₀ p sum top low = SeriesGoing (formOf alone) s p sum top low
+
+abbrev pack-walk-μ-loop : pack-walk-lts.MeasureT-loop
+pack-walk-μ-loop s alone p₀ sum₀ top₀ low₀ p sum top low = length s - p
+
+-- a pack lies within the bytes lent, and its id within the pack
+pack-room : (t : ℕ) (a : pack-walk-lts.After-h (pack-claims t) (pack-walk-at t) pack-walk.Post pack-walk-Inv-loop pack-walk-μ-loop)
+    → a .before .before .before .before .before .loop .p + a .h .given .0 .1 .1 .0 + a .h .given .0 .1 .1 .1 .0 ≤ length (a .before .before .before .before .before .before .before .args .s .now)
+pack-room t a = head-room _ (a .before .before .before .before .before .loop .inv) (a .before .before .before .before .loop-test .taken) _ (a .before .before .pack-head .ensures) (a .h .given .1) (λ i. a .before .before .before .before .before .before .shared-slice-known .given i .fits)
+
+pack-body : (t : ℕ) (a : pack-walk-lts.After-h (pack-claims t) (pack-walk-at t) pack-walk.Post pack-walk-Inv-loop pack-walk-μ-loop) → a .h .given .0 .1 .0 ≤ a .h .given .0 .1 .1 .1 .0
+pack-body t a = head-stood _ (a .before .before .before .before .before .loop .inv) (a .before .before .before .before .loop-test .taken) _ (a .before .before .pack-head .ensures) (a .h .given .1) (λ i. a .before .before .before .before .before .before .shared-slice-known .given i .fits) .body
+
+-- `either(!alone, mark)`, of the form
+either-is : (alone m : Bool) {v : Bool} → v ≡ (not alone || m) → v ≡ (not (isAlone (formOf alone)) || m)
+either-is true m e = e
+either-is false m e = e
+
+pack-walk-loop-holds : (t : ℕ) → pack-walk-lts.Need-loop-holds (pack-claims t) (pack-walk-at t) pack-walk.Post pack-walk-Inv-loop pack-walk-μ-loop
+pack-walk-loop-holds t c = series-start _ _
+
+pack-walk-sub-pack-head : (t : ℕ) → pack-walk-lts.Need-sub-pack-head (pack-claims t) (pack-walk-at t) pack-walk.Post pack-walk-Inv-loop pack-walk-μ-loop
+pack-walk-sub-pack-head t c = search needs
+
+pack-walk-part-pack-head-start : (t : ℕ) → pack-walk-lts.Need-part-pack-head-start (pack-claims t) (pack-walk-at t) pack-walk.Post pack-walk-Inv-loop pack-walk-μ-loop
+pack-walk-part-pack-head-start t c = search needs
+
+pack-walk-part-pack-head-end : (t : ℕ) → pack-walk-lts.Need-part-pack-head-end (pack-claims t) (pack-walk-at t) pack-walk.Post pack-walk-Inv-loop pack-walk-μ-loop
+pack-walk-part-pack-head-end t c = search needs
+
+pack-walk-pack-head-requires : (t : ℕ) → pack-walk-lts.Need-pack-head-requires (pack-claims t) (pack-walk-at t) pack-walk.Post pack-walk-Inv-loop pack-walk-μ-loop
+pack-walk-pack-head-requires t c κs = search needs
+
+pack-walk-enum-known-h : (t : ℕ) → pack-walk-lts.Need-enum-known-h (pack-claims t) (pack-walk-at t) pack-walk.Post pack-walk-Inv-loop pack-walk-μ-loop
+pack-walk-enum-known-h t c = search needs
+
+pack-walk-enum-told : (t : ℕ) → pack-walk-lts.Need-enum-told (pack-claims t) (pack-walk-at t) pack-walk.Post pack-walk-Inv-loop pack-walk-μ-loop
+pack-walk-enum-told t c = search needs
+
+pack-walk-piece-fault-requires : (t : ℕ) → pack-walk-lts.Need-piece-fault-requires (pack-claims t) (pack-walk-at t) pack-walk.Post pack-walk-Inv-loop pack-walk-μ-loop
+pack-walk-piece-fault-requires t c κs = search needs
+
+pack-walk-stop-requires : (t : ℕ) → pack-walk-lts.Need-stop-requires (pack-claims t) (pack-walk-at t) pack-walk.Post pack-walk-Inv-loop pack-walk-μ-loop
+pack-walk-stop-requires t c κs = search needs
+
+pack-walk-returns : (t : ℕ) → pack-walk-lts.Need-returns (pack-claims t) (pack-walk-at t) pack-walk.Post pack-walk-Inv-loop pack-walk-μ-loop
+pack-walk-returns t c = head-fault _ (c .before .before .before .before .before .before .before .loop .inv) (c .before .before .before .before .before .before .loop-test .taken) _ (c .before .before .before .before .pack-head .ensures) (c .before .before .enum-told .given .1) (c .before .piece-fault .ensures) (c .stop .ensures)
+
+pack-walk-is-seen-requires : (t : ℕ) → pack-walk-lts.Need-is-seen-requires (pack-claims t) (pack-walk-at t) pack-walk.Post pack-walk-Inv-loop pack-walk-μ-loop
+pack-walk-is-seen-requires t c κs = search needs
+
+pack-walk-returns-2 : (t : ℕ) → pack-walk-lts.Need-returns-2 (pack-claims t) (pack-walk-at t) pack-walk.Post pack-walk-Inv-loop pack-walk-μ-loop
+pack-walk-returns-2 t c =
+    let a = c .before .before .before in
+    id-again _ (a .before .before .before .before .before .loop .inv) (a .before .before .before .before .loop-test .taken) _ (a .before .before .pack-head .ensures) (a .h .given .1) (c .before .is-seen .ensures) (c .if1 .taken) refl
+
+pack-walk-add-from : (t : ℕ) → pack-walk-lts.Need-add-from (pack-claims t) (pack-walk-at t) pack-walk.Post pack-walk-Inv-loop pack-walk-μ-loop
+pack-walk-add-from t c =
+    let a = c .before .before .before in
+    omega (arith, pack-room t a, pack-body t a, a .before .before .before .before .before .before .before .pre .1)
+
+pack-walk-add-from-2 : (t : ℕ) → pack-walk-lts.Need-add-from-2 (pack-claims t) (pack-walk-at t) pack-walk.Post pack-walk-Inv-loop pack-walk-μ-loop
+pack-walk-add-from-2 t c =
+    let a = c .before .before .before in
+    omega (arith, pack-room t a, pack-body t a, a .before .before .before .before .before .before .before .pre .1)
+
+pack-walk-add-next : (t : ℕ) → pack-walk-lts.Need-add-next (pack-claims t) (pack-walk-at t) pack-walk.Post pack-walk-Inv-loop pack-walk-μ-loop
+pack-walk-add-next t c =
+    let a = c .before .before .before in
+    omega (arith, pack-room t a, pack-body t a, a .before .before .before .before .before .before .before .pre .1)
+
+pack-walk-add-next-2 : (t : ℕ) → pack-walk-lts.Need-add-next-2 (pack-claims t) (pack-walk-at t) pack-walk.Post pack-walk-Inv-loop pack-walk-μ-loop
+pack-walk-add-next-2 t c =
+    let a = c .before .before .before in
+    omega (arith, pack-room t a, pack-body t a, a .before .before .before .before .before .before .before .pre .1)
+
+pack-walk-sub-item-walk : (t : ℕ) → pack-walk-lts.Need-sub-item-walk (pack-claims t) (pack-walk-at t) pack-walk.Post pack-walk-Inv-loop pack-walk-μ-loop
+pack-walk-sub-item-walk t c =
+    let a = c .before .before .before in
+    omega (arith, pack-room t a, pack-body t a, a .before .before .before .before .before .before .before .pre .1)
+
+pack-walk-part-item-walk-start : (t : ℕ) → pack-walk-lts.Need-part-item-walk-start (pack-claims t) (pack-walk-at t) pack-walk.Post pack-walk-Inv-loop pack-walk-μ-loop
+pack-walk-part-item-walk-start t c =
+    let a = c .before .before .before in
+    omega (arith, pack-room t a, pack-body t a, a .before .before .before .before .before .before .before .pre .1)
+
+pack-walk-part-item-walk-end : (t : ℕ) → pack-walk-lts.Need-part-item-walk-end (pack-claims t) (pack-walk-at t) pack-walk.Post pack-walk-Inv-loop pack-walk-μ-loop
+pack-walk-part-item-walk-end t c =
+    let a = c .before .before .before in
+    omega (arith, pack-room t a, pack-body t a, a .before .before .before .before .before .before .before .pre .1)
+
+pack-walk-item-walk-requires : (t : ℕ) → pack-walk-lts.Need-item-walk-requires (pack-claims t) (pack-walk-at t) pack-walk.Post pack-walk-Inv-loop pack-walk-μ-loop
+pack-walk-item-walk-requires t c κs =
+    let e = c .before in
+    let a = e .before .before .before in
+    (omega (arith, a .before .before .before .before .before .before .before .pre .0), omega (arith, lent-long _ (a .before .before .before .before .before .loop .inv) (a .before .before .before .before .loop-test .taken) _ (a .before .before .pack-head .ensures) (a .h .given .1) (e .before .is-seen .ensures) (e .if1 .left) (λ i. a .before .before .before .before .before .before .shared-slice-known .given i .fits), pack-room t a, a .before .before .before .before .before .before .before .pre .1))
+
+pack-walk-enum-known-w : (t : ℕ) → pack-walk-lts.Need-enum-known-w (pack-claims t) (pack-walk-at t) pack-walk.Post pack-walk-Inv-loop pack-walk-μ-loop
+pack-walk-enum-known-w t c = search needs
+
+pack-walk-enum-told-2 : (t : ℕ) → pack-walk-lts.Need-enum-told-2 (pack-claims t) (pack-walk-at t) pack-walk.Post pack-walk-Inv-loop pack-walk-μ-loop
+pack-walk-enum-told-2 t c = search needs
+
+pack-walk-later-requires : (t : ℕ) → pack-walk-lts.Need-later-requires (pack-claims t) (pack-walk-at t) pack-walk.Post pack-walk-Inv-loop pack-walk-μ-loop
+pack-walk-later-requires t c κs =
+    let e = c .before .before .before .before in
+    let a = e .before .before .before in
+    items-within _ (a .before .before .before .before .before .loop .inv) (a .before .before .before .before .loop-test .taken) _ (a .before .before .pack-head .ensures) (a .h .given .1) (e .before .is-seen .ensures) (e .if1 .left) (λ i. a .before .before .before .before .before .before .shared-slice-known .given i .fits) (c .before .before .item-walk .ensures) (a .before .before .before .before .before .before .before .pre .1)
+
+pack-walk-returns-3 : (t : ℕ) → pack-walk-lts.Need-returns-3 (pack-claims t) (pack-walk-at t) pack-walk.Post pack-walk-Inv-loop pack-walk-μ-loop
+pack-walk-returns-3 t c =
+    let e = c .before .before .before .before .before in
+    let a = e .before .before .before in
+    items-fault _ (a .before .before .before .before .before .loop .inv) (a .before .before .before .before .loop-test .taken) _ (a .before .before .pack-head .ensures) (a .h .given .1) (e .before .is-seen .ensures) (e .if1 .left) (λ i. a .before .before .before .before .before .before .shared-slice-known .given i .fits) (c .before .before .before .item-walk .ensures) (c .before .enum-told2 .given .1) (c .later .ensures)
+
+pack-walk-either-requires : (t : ℕ) → pack-walk-lts.Need-either-requires (pack-claims t) (pack-walk-at t) pack-walk.Post pack-walk-Inv-loop pack-walk-μ-loop
+pack-walk-either-requires t c κs = search needs
+
+pack-walk-add-t28 : (t : ℕ) → pack-walk-lts.Need-add-t28 (pack-claims t) (pack-walk-at t) pack-walk.Post pack-walk-Inv-loop pack-walk-μ-loop
+pack-walk-add-t28 t c =
+    let e = c .before .before .before .before .before .before .before .before in
+    let a = e .before .before .before in
+    let k = pack-few _ (a .before .before .before .before .before .loop .inv) (a .before .before .before .before .loop-test .taken) _ (a .before .before .pack-head .ensures) (a .h .given .1) (e .before .is-seen .ensures) (e .if1 .left) (λ i. a .before .before .before .before .before .before .shared-slice-known .given i .fits) (c .before .before .before .before .before .before .item-walk .ensures) (c .before .before .before .before .w .given .1) (either-is (a .before .before .before .before .before .before .before .args .alone) _ (c .before .before .either .ensures)) (a .before .before .before .before .before .before .before .pre .1) in
+    omega (arith, k)
+
+pack-walk-add-t29 : (t : ℕ) → pack-walk-lts.Need-add-t29 (pack-claims t) (pack-walk-at t) pack-walk.Post pack-walk-Inv-loop pack-walk-μ-loop
+pack-walk-add-t29 t c =
+    let e = c .before .before .before .before .before .before .before .before .before in
+    let a = e .before .before .before in
+    let k = pack-few _ (a .before .before .before .before .before .loop .inv) (a .before .before .before .before .loop-test .taken) _ (a .before .before .pack-head .ensures) (a .h .given .1) (e .before .is-seen .ensures) (e .if1 .left) (λ i. a .before .before .before .before .before .before .shared-slice-known .given i .fits) (c .before .before .before .before .before .before .before .item-walk .ensures) (c .before .before .before .before .before .w .given .1) (either-is (a .before .before .before .before .before .before .before .args .alone) _ (c .before .before .before .either .ensures)) (a .before .before .before .before .before .before .before .pre .1) in
+    omega (arith, k)
+
+pack-walk-plus-requires : (t : ℕ) → pack-walk-lts.Need-plus-requires (pack-claims t) (pack-walk-at t) pack-walk.Post pack-walk-Inv-loop pack-walk-μ-loop
+pack-walk-plus-requires t c κs =
+    let e = c .before .before .before .before .before .before .before .before .before in
+    let a = e .before .before .before in
+    pack-few _ (a .before .before .before .before .before .loop .inv) (a .before .before .before .before .loop-test .taken) _ (a .before .before .pack-head .ensures) (a .h .given .1) (e .before .is-seen .ensures) (e .if1 .left) (λ i. a .before .before .before .before .before .before .shared-slice-known .given i .fits) (c .before .before .before .before .before .before .before .item-walk .ensures) (c .before .before .before .before .before .w .given .1) (either-is (a .before .before .before .before .before .before .before .args .alone) _ (c .before .before .before .either .ensures)) (a .before .before .before .before .before .before .before .pre .1)
+
+pack-walk-larger-requires : (t : ℕ) → pack-walk-lts.Need-larger-requires (pack-claims t) (pack-walk-at t) pack-walk.Post pack-walk-Inv-loop pack-walk-μ-loop
+pack-walk-larger-requires t c κs = search needs
+
+pack-walk-smaller-requires : (t : ℕ) → pack-walk-lts.Need-smaller-requires (pack-claims t) (pack-walk-at t) pack-walk.Post pack-walk-Inv-loop pack-walk-μ-loop
+pack-walk-smaller-requires t c κs = search needs
+
+pack-walk-loop-less : (t : ℕ) → pack-walk-lts.Need-loop-less (pack-claims t) (pack-walk-at t) pack-walk.Post pack-walk-Inv-loop pack-walk-μ-loop
+pack-walk-loop-less t c =
+    let a = c .before .before .before .before .before .before .before .before .before .before .before .before .before .before .before in
+    let k = head-stood _ (a .before .before .before .before .before .loop .inv) (a .before .before .before .before .loop-test .taken) _ (a .before .before .pack-head .ensures) (a .h .given .1) (λ i. a .before .before .before .before .before .before .shared-slice-known .given i .fits) in
+    omega (arith, k .len, a .before .before .before .before .loop-test .taken)
+
+pack-walk-loop-again : (t : ℕ) → pack-walk-lts.Need-loop-again (pack-claims t) (pack-walk-at t) pack-walk.Post pack-walk-Inv-loop pack-walk-μ-loop
+pack-walk-loop-again t c =
+    let e = c .before .before .before .before .before .before .before .before .before .before .before .before in
+    let a = e .before .before .before in
+    pack-more _ (a .before .before .before .before .before .loop .inv) (a .before .before .before .before .loop-test .taken) _ (a .before .before .pack-head .ensures) (a .h .given .1) (e .before .is-seen .ensures) (e .if1 .left) (λ i. a .before .before .before .before .before .before .shared-slice-known .given i .fits) (c .before .before .before .before .before .before .before .before .before .before .item-walk .ensures) (c .before .before .before .before .before .before .before .before .w .given .1) (either-is (a .before .before .before .before .before .before .before .args .alone) _ (c .before .before .before .before .before .before .either .ensures)) (c .before .before .before .before .before .if2 .taken) (c .before .before .plus .ensures) (c .before .larger .ensures) (c .smaller .ensures)
+
+pack-walk-returns-4 : (t : ℕ) → pack-walk-lts.Need-returns-4 (pack-claims t) (pack-walk-at t) pack-walk.Post pack-walk-Inv-loop pack-walk-μ-loop
+pack-walk-returns-4 t c =
+    let e = c .before .before .before .before .before .before .before in
+    let a = e .before .before .before in
+    no-location _ (a .before .before .before .before .before .loop .inv) (a .before .before .before .before .loop-test .taken) _ (a .before .before .pack-head .ensures) (a .h .given .1) (e .before .is-seen .ensures) (e .if1 .left) (λ i. a .before .before .before .before .before .before .shared-slice-known .given i .fits) (c .before .before .before .before .before .item-walk .ensures) (c .before .before .before .w .given .1) (either-is (a .before .before .before .before .before .before .before .args .alone) _ (c .before .either .ensures)) (c .if2 .left) refl
+
+pack-walk-returns-5 : (t : ℕ) → pack-walk-lts.Need-returns-5 (pack-claims t) (pack-walk-at t) pack-walk.Post pack-walk-Inv-loop pack-walk-μ-loop
+pack-walk-returns-5 t c = turn-done (c .before .loop .inv) (c .loop-test .left)
+
+pub +item-walk+pack-walk-spec : {M : Type 1} → statement M
++item-walk+pack-walk-spec =
+    close μ-item-walk μ-pack-walk
+    (λ t. item-walk-lts.spec (item-claims t) (item-walk-at t) item-walk.Post item-walk-Inv-loop item-walk-μ-loop
+    (item-walk-loop-holds t)
+    (item-walk-item-at-requires t)
+    (item-walk-enum-known-a t)
+    (item-walk-enum-told t)
+    (item-walk-stop-requires t)
+    (item-walk-returns t)
+    (item-walk-add-at t)
+    (item-walk-add-next t)
+    (item-walk-is-series-requires t)
+    (item-walk-sub-pack-walk t)
+    (item-walk-part-pack-walk-start t)
+    (item-walk-part-pack-walk-end t)
+    (item-walk-pack-walk-requires t)
+    (item-walk-series-of-requires t)
+    (item-walk-one-item-requires t)
+    (item-walk-enum-known-w t)
+    (item-walk-enum-told-2 t)
+    (item-walk-later-requires t)
+    (item-walk-returns-2 t)
+    (item-walk-plus-requires t)
+    (item-walk-either-requires t)
+    (item-walk-larger-requires t)
+    (item-walk-smaller-requires t)
+    (item-walk-loop-less t)
+    (item-walk-loop-again t)
+    (item-walk-returns-3 t))
+    (λ t. pack-walk-lts.spec (pack-claims t) (pack-walk-at t) pack-walk.Post pack-walk-Inv-loop pack-walk-μ-loop
+    (pack-walk-loop-holds t)
+    (pack-walk-sub-pack-head t)
+    (pack-walk-part-pack-head-start t)
+    (pack-walk-part-pack-head-end t)
+    (pack-walk-pack-head-requires t)
+    (pack-walk-enum-known-h t)
+    (pack-walk-enum-told t)
+    (pack-walk-piece-fault-requires t)
+    (pack-walk-stop-requires t)
+    (pack-walk-returns t)
+    (pack-walk-is-seen-requires t)
+    (pack-walk-returns-2 t)
+    (pack-walk-add-from t)
+    (pack-walk-add-from-2 t)
+    (pack-walk-add-next t)
+    (pack-walk-add-next-2 t)
+    (pack-walk-sub-item-walk t)
+    (pack-walk-part-item-walk-start t)
+    (pack-walk-part-item-walk-end t)
+    (pack-walk-item-walk-requires t)
+    (pack-walk-enum-known-w t)
+    (pack-walk-enum-told-2 t)
+    (pack-walk-later-requires t)
+    (pack-walk-returns-3 t)
+    (pack-walk-either-requires t)
+    (pack-walk-add-t28 t)
+    (pack-walk-add-t29 t)
+    (pack-walk-plus-requires t)
+    (pack-walk-larger-requires t)
+    (pack-walk-smaller-requires t)
+    (pack-walk-loop-less t)
+    (pack-walk-loop-again t)
+    (pack-walk-returns-4 t)
+    (pack-walk-returns-5 t))

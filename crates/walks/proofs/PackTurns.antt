@@ -1,0 +1,128 @@
+-- The pack walk's turns: what the code's answers on one pack say.
+use mathlib.Core.Path.{_≡_, refl, sym, ap, _∙_, subst}
+use Prim.Native.Nat.{ℕ, zero, suc, _+_, _-_, _*_, _≤_, _<_}
+use native.Mathlib.Omega.{arith}
+use native.Mathlib.Nat.{add-zero, add-assoc}
+use mathlib.Core.Bool.{Bool, true, false, not, _||_}
+use mathlib.Core.List.{List, [], _∷_}
+use lib.ListN.{length, take, drop, length-drop}
+use lib.Seq.{drop-drop, length-take-le, take-nil}
+use Rattle.format.specs.Coding.{Bytes}
+use Rattle.format.specs.Lists.{has}
+use Rattle.format.specs.Table.{Form, pack, isAlone}
+use Rattle.format.specs.Packet.{idOfPack}
+use Rattle.format.specs.Read.{packHead, onePack}
+use Rattle.format.proofs.words.Bytes.{bytes-drop}
+use Rattle.coding.proofs.Rooms.{tail-part}
+use Rattle.heads.specs.declared.Head.{Head}
+use Rattle.heads.specs.declared.Head.the-variants as heads
+use Rattle.heads.specs.Meet.{packHeadOf, Past}
+use Rattle.heads.proofs.Before.{past-none}
+use Rattle.walks.specs.declared.Piece.{Piece}
+use Rattle.walks.specs.declared.Sizes.{Sizes}
+use Rattle.walks.specs.declared.Walked.{Walked}
+use Rattle.walks.specs.declared.Walked.the-variants.{Good, Bad}
+use Rattle.walks.specs.Meet.{pieceFault, sizes, packSizes, plusSizes, weightOfPack, levelWalk, seriesWalk, stopAt, laterBy, Within}
+use Rattle.walks.proofs.Walks.{Going, going-start}
+use Rattle.walks.proofs.Series.{items-good, items-bad, pack-fault, PackStood, pack-stood, pack-peek, pack-10, pack-inside, pack-14, pack-good}
+use Rattle.walks.proofs.Turns.{Reads, within-more, turn-bad, turn-more}
+
+drop-take : (u n : ℕ) (s : List ℕ) → drop u (take n s) ≡ take (n - u) (drop u s)
+drop-take zero n s = let z : n - 0 ≡ n = omega arith in rw z
+drop-take (suc u) zero s = let z : 0 - suc u ≡ 0 = omega arith in rw z
+drop-take (suc u) (suc n) [] = sym (take-nil (suc n - suc u))
+drop-take (suc u) (suc n) (b ∷ s) = let z : suc n - suc u ≡ n - u = omega arith in rw z (drop-take u n s)
+
+abbrev pub SeriesGoing : Form → List ℕ → ℕ → Sizes → ℕ → ℕ → Type 0
+SeriesGoing f s p a top low = Going true false weightOfPack (λ p. false) idOfPack (onePack f) (seriesWalk f s) s p a false top low
+
+pub series-start : (f : Form) (s : List ℕ) → SeriesGoing f s 0 (sizes 0 0) 0 18446744073709551615
+unfolding seriesWalk
+series-start f s = going-start _ _ _ _ _ _ _ s (past-none true false s) refl
+
+module _ (f : Form) {s : List ℕ} {p : ℕ} {sum : Sizes} {top low : ℕ} (g : SeriesGoing f s p sum top low) (h : p < length s)
+    (a : Head) (ea : packHeadOf a ≡ packHead (take (length s - p) (drop p s))) where
+  pub here : packHeadOf a ≡ packHead (drop p s)
+  here = rw tail-part at ea
+
+  pub head-fault : {n : ℕ} {d : Piece} {r : Walked} → a ≡ heads.Fault n → d ≡ pieceFault a → r ≡ stopAt p d → (r ≡ seriesWalk f s) × Within r (length s)
+  head-fault {n = n} t ed e =
+      turn-bad g h n 0 (e ∙ ap (stopAt p) (ed ∙ ap pieceFault t) ∙ ap (Bad n) (sym (add-zero p))) (pack-fault f (g .seen) (drop p s) n (sym (ap packHeadOf t) ∙ here)) (omega arith)
+
+  module _ {k u w n : ℕ} (ta : a ≡ heads.Whole k u w n) where
+    pub whole : packHeadOf (heads.Whole k u w n) ≡ packHead (drop p s)
+    whole = sym (ap packHeadOf ta) ∙ here
+
+    pub head-stood : Bytes s → PackStood f (g .seen) (drop p s) k u w n whole
+    head-stood bs = pack-stood f (g .seen) (drop p s) k u w n whole (bytes-drop p s bs)
+
+    pub head-room : Bytes s → p + w + n ≤ length s
+    head-room bs = omega (arith, head-stood bs .room, length-drop p s)
+
+    -- x: a pack before it has this id
+    module _ {x : Bool} (ex : (seen : List ℕ) → Past true false s p top low seen → x ≡ has k seen) where
+      pub id-again : {r : Walked} → x ≡ true → r ≡ Bad 10 p → (r ≡ seriesWalk f s) × Within r (length s)
+      id-again t e =
+          turn-bad g h 10 0 (e ∙ ap (Bad 10) (sym (add-zero p))) (pack-10 f (g .seen) (drop p s) k u w n whole (sym t ∙ ex (g .seen) (g .past))) (omega arith)
+
+      module _ (tx : x ≡ false) (bs : Bytes s) where
+        first : false ≡ has k (g .seen)
+        first = sym tx ∙ ex (g .seen) (g .past)
+
+        -- the pack's items, as the code lends them and as document 01 has them
+        abbrev pub lent : List ℕ
+        lent = take (p + w + n - (p + w + u)) (drop (p + w + u) s)
+
+        lent-is : lent ≡ drop u (take n (drop w (drop p s)))
+        lent-is =
+            let z : p + w + n - (p + w + u) ≡ n - u = omega arith in
+            rw (z, drop-take u n (drop w (drop p s)), drop-drop u w (drop p s), drop-drop (w + u) p s, ← add-assoc p w u)
+
+        pub lent-long : length lent ≡ n - u
+        lent-long = length-take-le (p + w + n - (p + w + u)) (drop (p + w + u) s) (rw length-drop (omega (arith, head-room bs))) ∙ omega (arith, head-stood bs .body)
+
+        module _ {y : Walked} (ey : (y ≡ levelWalk pack f lent) × Within y (length lent)) where
+          pub items-within : length s ≤ 8192 → Within y 8192 × (p + w + u ≤ 8192)
+          items-within l = (within-more y _ 8192 (omega (arith, lent-long, head-room bs)) (ey .1), omega (arith, head-room bs, head-stood bs .body))
+
+          pub items-fault : {m q : ℕ} {r : Walked} → y ≡ Bad m q → r ≡ laterBy (p + w + u) y → (r ≡ seriesWalk f s) × Within r (length s)
+          items-fault {m = m} {q = q} t e =
+              let j : Bad m q ≡ levelWalk pack f (drop u (take n (drop w (drop p s)))) = rw lent-is at (sym t ∙ ey .0) in
+              let l : q ≤ length lent = subst (λ v. Within v (length lent)) t (ey .1) in
+              let o : p + w + u + q ≡ p + (w + u + q) = omega arith in
+              turn-bad g h m (w + u + q) (e ∙ ap (laterBy (p + w + u)) t ∙ ap (Bad m) o) (pack-inside f (g .seen) (drop p s) k u w n whole first m q (items-bad f _ m q j))
+              (omega (arith, l, lent-long, head-room bs, head-stood bs .body))
+
+          module _ {z : Sizes} {m : Bool} (ty : y ≡ Good z m) where
+            few : (z .sheet ≤ 5 * (n - u)) × (z .rows ≤ n - u)
+            few = rw lent-long at (subst (λ v. Within v (length lent)) ty (ey .1))
+
+            good : Good z m ≡ levelWalk pack f (drop u (take n (drop w (drop p s))))
+            good = rw lent-is at (sym ty ∙ ey .0)
+
+            -- v: no location is wanted, or there is one
+            module _ {v : Bool} (ev : v ≡ (not (isAlone f) || m)) where
+              pub no-location : {r : Walked} → v ≡ false → r ≡ Bad 14 p → (r ≡ seriesWalk f s) × Within r (length s)
+              no-location tv e =
+                  items-good f _ z m good λ is ei ez em.
+                  turn-bad g h 14 0 (e ∙ ap (Bad 14) (sym (add-zero p))) (pack-14 f (g .seen) (drop p s) k u w n whole first is ei (rw em (sym ev ∙ tv))) (omega arith)
+
+              pub pack-few : length s ≤ 8192 → (sum .sheet + (10 + z .sheet) ≤ 65536) × (sum .rows + (1 + z .rows) ≤ 65536)
+              pack-few l =
+                  let i = head-stood bs in
+                  (omega (arith, g .few .sheet, few .0, i .body, head-room bs), omega (arith, g .few .rows, few .1, i .body, head-room bs))
+
+              pub pack-more : v ≡ true → {sum′ : Sizes} → sum′ ≡ plusSizes sum (packSizes z) → {top′ : ℕ} → (top ≤ top′) × (k ≤ top′) → {low′ : ℕ} → (low′ ≤ low) × (low′ ≤ k)
+                  → SeriesGoing f s (p + w + n) sum′ top′ low′
+              pack-more tv es et el =
+                  items-good f _ z m good λ is ei ez em.
+                  let i = head-stood bs in
+                  let read : Reads weightOfPack (λ p. false) idOfPack (onePack f (g .seen) (drop p s)) k (w + n) (packSizes z) false = record {
+                    it = record { width = w; id = k; items = is .val };
+                    reads = pack-good f (g .seen) (drop p s) k u w n whole first is ei (rw em (sym ev ∙ tv));
+                    key-is = refl;
+                    weighs = ap packSizes ez;
+                    marks = refl;
+                    few = record { sheet = omega (arith, few .0, i .len, i .key, i .body); rows = omega (arith, few .1, i .len, i .key, i .body) };
+                  } in
+                  turn-more g h read (pack-peek f (g .seen) (drop p s) k u w n whole false) (omega (arith, i .len)) (p + w + n) (add-assoc p w n) (head-room bs) es refl et el

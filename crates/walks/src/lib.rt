@@ -1,0 +1,318 @@
+// The walks that check a packet: one item at a time, the item walk and the pack walk, with the sizes of what they find.
+ghost use mathlib.Core.Path.{_≡_};
+ghost use Prim.Native.Nat.{ℕ, _+_, _*_, _≤_, _<_};
+ghost use mathlib.Core.Bool.{_&&_, _||_, not, false, true};
+ghost use mathlib.Core.List.{List};
+ghost use lib.ListN.{length, drop};
+ghost use lib.Dec.{eqb};
+ghost use Rattle.format.specs.Table.{isSet, isAlone};
+ghost use Rattle.format.specs.Read.{item, parse};
+ghost use Rattle.items.specs.Meet.{formOf, levelOf};
+ghost use Rattle.heads.specs.Meet.{Past};
+ghost use Rattle.walks.specs.Meet.{pieceOf, pieceFault, itemSizes, plusSizes, stopAt, laterBy, seriesFrom, markTag, levelWalk, seriesWalk, Within};
+use heads::Head;
+
+// An item that may stand where it does: its tag, where its value begins, its length, and its shortest length; or the refusal's number.
+pub enum Piece {
+    Whole {
+        tag: u64,
+        from: usize,
+        size: usize,
+        short: usize,
+    },
+    Fault(u64),
+}
+
+// The item at p of a level s; no tag before p is above top or below low.
+pub fn item_at(s: &[u8], p: usize, set: bool, alone: bool, top: u64, low: u64) -> Piece
+    requires { ⌜ p ≤ length (now s) ⌝ }
+    ensures { λ r. ⌜ ((seen : List ℕ) → Past false set (now (s .entry)) p top low seen → r ≡ pieceOf (levelOf set) (item (levelOf set) (formOf alone) seen (drop p (now (s .entry))))) ⌝ }
+{
+    let t = &s[p..];
+    let h = heads::item_head(t, set);
+    let Head::Whole {
+        key,
+        used,
+        width,
+        size,
+    } = h
+    else {
+        return piece_fault(h);
+    };
+    if size == 0 {
+        return Piece::Fault(7);
+    }
+    let from = used + width;
+    let end = from + size;
+    let dup = heads::is_seen(s, p, top, low, key, false, set);
+    let k = items::standing_of(set, alone, dup, p == 0, key, end == t.len());
+    if k != 0 {
+        return Piece::Fault(k);
+    }
+    let rule = items::rule_of(set, key);
+    let v = &t[from..end];
+    let m = items::valued_of(rule, v);
+    if m != 0 {
+        return Piece::Fault(m);
+    }
+    let short = items::short_size(rule, v);
+    Piece::Whole {
+        tag: key,
+        from,
+        size,
+        short,
+    }
+}
+
+fn piece_fault(h: Head) -> Piece
+    ensures { λ r. ⌜ r ≡ pieceFault h ⌝ }
+{
+    match h {
+        Head::Whole {
+            key: _,
+            used: _,
+            width: _,
+            size: _,
+        } => Piece::Fault(0),
+        Head::Fault(n) => Piece::Fault(n),
+    }
+}
+
+// ---- sizes
+
+// The bytes in the sheet, and the rows.
+pub struct Sizes {
+    pub sheet: usize,
+    pub rows: usize,
+}
+
+fn plain_sizes(set: bool, tag: u64, n: usize) -> Sizes
+    requires { ⌜ n ≤ 8192 ⌝ }
+    ensures { λ r. ⌜ r ≡ itemSizes (levelOf set) tag n ⌝ }
+{
+    if set {
+        if tag == 1 {
+            return Sizes { sheet: 0, rows: 1 };
+        }
+    }
+    Sizes {
+        sheet: 6 + n,
+        rows: 1,
+    }
+}
+
+fn plus(a: Sizes, b: Sizes) -> Sizes
+    requires { ⌜ (a .sheet + b .sheet ≤ 65536) × (a .rows + b .rows ≤ 65536) ⌝ }
+    ensures { λ r. ⌜ r ≡ plusSizes a b ⌝ }
+{
+    Sizes {
+        sheet: a.sheet + b.sheet,
+        rows: a.rows + b.rows,
+    }
+}
+
+// ---- walks
+
+// What was walked, and whether it holds what marks its level; or the first fault, from the start of what was walked.
+pub enum Walked {
+    Good { sizes: Sizes, mark: bool },
+    Bad { number: u64, place: usize },
+}
+
+fn stop(a: Piece, p: usize) -> Walked
+    ensures { λ r. ⌜ r ≡ stopAt p a ⌝ }
+{
+    match a {
+        Piece::Whole {
+            tag: _,
+            from: _,
+            size: _,
+            short: _,
+        } => Walked::Bad {
+            number: 0,
+            place: 0,
+        },
+        Piece::Fault(n) => Walked::Bad {
+            number: n,
+            place: p,
+        },
+    }
+}
+
+fn later(w: Walked, k: usize) -> Walked
+    requires { ⌜ Within w 8192 × (k ≤ 8192) ⌝ }
+    ensures { λ r. ⌜ r ≡ laterBy k w ⌝ }
+{
+    match w {
+        Walked::Good { sizes, mark } => Walked::Good { sizes, mark },
+        Walked::Bad { number, place } => Walked::Bad {
+            number,
+            place: k + place,
+        },
+    }
+}
+
+fn larger(a: u64, b: u64) -> u64
+    ensures { λ r. ⌜ (a ≤ r) × (b ≤ r) ⌝ }
+{
+    if a < b { b } else { a }
+}
+
+fn smaller(a: u64, b: u64) -> u64
+    ensures { λ r. ⌜ (r ≤ a) × (r ≤ b) ⌝ }
+{
+    if a < b { a } else { b }
+}
+
+fn either(a: bool, b: bool) -> bool
+    ensures { λ r. ⌜ r ≡ (a || b) ⌝ }
+{
+    if a { true } else { b }
+}
+
+fn is_series(set: bool, tag: u64) -> bool
+    ensures { λ r. ⌜ r ≡ (set && eqb tag 101) ⌝ }
+{
+    if set { tag == 101 } else { false }
+}
+
+fn is_mark(set: bool, tag: u64) -> bool
+    ensures { λ r. ⌜ r ≡ eqb tag (markTag (levelOf set)) ⌝ }
+{
+    if set { tag == 1 } else { tag == 17 }
+}
+
+// An item that is no series.
+fn one_item(set: bool, tag: u64, n: usize) -> Walked
+    requires { ⌜ n ≤ 8192 ⌝ }
+    ensures { λ r. ⌜ r ≡ Walked.Good (itemSizes (levelOf set) tag n) (eqb tag (markTag (levelOf set))) ⌝ }
+{
+    Walked::Good {
+        sizes: plain_sizes(set, tag, n),
+        mark: is_mark(set, tag),
+    }
+}
+
+// A series, given its packs, whose bytes begin at k.
+fn series_of(w: Walked, k: usize) -> Walked
+    requires { ⌜ Within w 8192 × (k ≤ 8192) ⌝ }
+    ensures { λ r. ⌜ r ≡ seriesFrom k w ⌝ }
+{
+    match w {
+        Walked::Good { sizes, mark: _ } => Walked::Good {
+            sizes: Sizes {
+                sheet: 2 + sizes.sheet,
+                rows: 1 + sizes.rows,
+            },
+            mark: false,
+        },
+        Walked::Bad { number, place } => Walked::Bad {
+            number,
+            place: k + place,
+        },
+    }
+}
+
+// The items of a level: the set, or a pack.
+pub fn item_walk(s: &[u8], set: bool, alone: bool) -> Walked
+    requires { ⌜ length (now s) ≤ 8192 ⌝ }
+    ensures { λ r. ⌜ (r ≡ levelWalk (levelOf set) (formOf alone) (now (s .entry))) × Within r (length (now (s .entry))) ⌝ }
+{
+    let mut p: usize = 0;
+    let mut sum = Sizes { sheet: 0, rows: 0 };
+    let mut mark = false;
+    let mut top: u64 = 0;
+    let mut low: u64 = 18446744073709551615;
+    while p < s.len() {
+        let a = item_at(s, p, set, alone, top, low);
+        let Piece::Whole {
+            tag,
+            from,
+            size,
+            short,
+        } = a
+        else {
+            return stop(a, p);
+        };
+        let at = p + from;
+        let next = at + size;
+        let w = if is_series(set, tag) {
+            series_of(pack_walk(&s[at..next], alone), from)
+        } else {
+            one_item(set, tag, short)
+        };
+        let Walked::Good { sizes, mark: m } = w else {
+            return later(w, p);
+        };
+        sum = plus(sum, sizes);
+        mark = either(mark, m);
+        top = larger(top, tag);
+        low = smaller(low, tag);
+        p = next;
+    }
+    Walked::Good { sizes: sum, mark }
+}
+
+// The packs of a series.
+pub fn pack_walk(s: &[u8], alone: bool) -> Walked
+    requires { ⌜ length (now s) ≤ 8192 ⌝ }
+    ensures { λ r. ⌜ (r ≡ seriesWalk (formOf alone) (now (s .entry))) × Within r (length (now (s .entry))) ⌝ }
+{
+    let mut p: usize = 0;
+    let mut sum = Sizes { sheet: 0, rows: 0 };
+    let mut top: u64 = 0;
+    let mut low: u64 = 18446744073709551615;
+    while p < s.len() {
+        let h = heads::pack_head(&s[p..]);
+        let Head::Whole {
+            key,
+            used,
+            width,
+            size,
+        } = h
+        else {
+            return stop(piece_fault(h), p);
+        };
+        if heads::is_seen(s, p, top, low, key, true, false) {
+            return Walked::Bad {
+                number: 10,
+                place: p,
+            };
+        }
+        let from = p + width + used;
+        let next = p + width + size;
+        let w = item_walk(&s[from..next], false, alone);
+        let Walked::Good { sizes, mark } = w else {
+            return later(w, from);
+        };
+        if either(!alone, mark) {
+            sum = plus(
+                sum,
+                Sizes {
+                    sheet: 10 + sizes.sheet,
+                    rows: 1 + sizes.rows,
+                },
+            );
+            top = larger(top, key);
+            low = smaller(low, key);
+            p = next;
+        } else {
+            return Walked::Bad {
+                number: 14,
+                place: p,
+            };
+        }
+    }
+    Walked::Good {
+        sizes: sum,
+        mark: false,
+    }
+}
+
+// ---- the whole packet
+
+// The sizes of what a packet says, or the refusal.
+pub enum Checked {
+    Fine(Sizes),
+    Wrong { number: u64, place: usize },
+}

@@ -5,3 +5,7 @@ pub mod Series
 pub mod Turns
 pub mod ItemTurns
 pub mod PackTurns
+pub mod Totals
+pub mod Openings
+pub mod Closings
+pub mod Packets

@@ -316,3 +316,5 @@ pub enum Checked {
     Fine(Sizes),
     Wrong { number: u64, place: usize },
 }
+
+pub mod whole; // whole.rt: the whole packet

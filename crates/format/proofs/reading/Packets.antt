@@ -87,7 +87,7 @@ alone-drop w d =
 
 -- ---- the set
 
-set-says : (f : Form) (d : List ℕ) (es : Got (List Entry)) → Bytes d → run always tagOfEntry (entry f) d ≡ ok es → (d ≡ flatAll flatEntry (es .val)) × SetRead f [] (es .val)
+pub set-says : (f : Form) (d : List ℕ) (es : Got (List Entry)) → Bytes d → run always tagOfEntry (entry f) d ≡ ok es → (d ≡ flatAll flatEntry (es .val)) × SetRead f [] (es .val)
 set-says f d es b e =
     let ran = all-says tagOfEntry (entry f) flatEntry (entry-faithful f) d es b e in
     let b′ : Bytes (flatAll flatEntry (es .val) ++ []) = rw (append-nil (flatAll flatEntry (es .val))) (rw (ran .bytes) at b) in

@@ -1,0 +1,125 @@
+-- What closes a packet, case by case, as the code tests it; and the sizes of the packet that is closed.
+use mathlib.Core.Path.{_≡_, refl, sym, ap, _∙_}
+use Prim.Native.Nat.{ℕ, _+_, _-_, _≤_}
+use native.Mathlib.Omega.{arith}
+use native.Mathlib.Nat.{add-zero}
+use mathlib.Core.Bool.{Bool, true, false, _||_}
+use mathlib.Core.List.{List, [], _∷_, _++_, map}
+use lib.ListN.{length, take, drop, length-drop}
+use lib.Seq.{take-all}
+use lib.Dec.{eqb}
+use Rattle.format.specs.Answer.{ok, _>>=_, need, after}
+use Rattle.format.specs.Coding.{bytesNumber}
+use Rattle.format.specs.Lists.{has}
+use Rattle.format.specs.Packet.{Entry, plain, Packet, tagOfEntry, checksum}
+use Rattle.format.specs.Table.{Form, embedded, standalone, set}
+use Rattle.format.specs.Read.{start, unsealed, closing}
+use Rattle.format.specs.Sheet.{content, sheetBytes}
+use Rattle.format.specs.Rows.{sealItem, sealed, rowsOf}
+use Rattle.format.specs.Valid.{All}
+use Rattle.format.proofs.reading.Seal.{SetRead, split, split-embedded, split-alone}
+use Rattle.coding.proofs.Rooms.{tail-part}
+use Rattle.items.specs.Meet.{formOf}
+use Rattle.walks.specs.declared.Sizes.{Sizes}
+use Rattle.walks.specs.declared.Checked.{Checked}
+use Rattle.walks.specs.declared.Checked.the-variants.{Fine, Wrong}
+use Rattle.walks.specs.Meet.{sizes, total, any, weightOfEntry, checkedOf}
+use Rattle.walks.specs.Whole.{fineOf, closingBy}
+use Rattle.walks.proofs.Totals.{parts-size, entries-count, seal-sheet, seal-rows}
+
+-- ---- as the code tests it
+
+abbrev sumRight : List ℕ → Bool
+sumRight s = eqb (checksum (take (length s - 2) s)) (bytesNumber (drop (length s - 2) s))
+
+-- the last two bytes, as the borrow checker has them
+pub sealed-is : (s : List ℕ) {a b : ℕ} → a ≡ checksum (take (length s - 2) s) → 2 ≤ length s
+    → b ≡ bytesNumber (take 2 (take (length s - (length s - 2)) (drop (length s - 2) s))) → eqb a b ≡ sumRight s
+sealed-is s p l q =
+    let n : length (drop (length s - 2) s) ≤ 2 = rw length-drop (omega arith) in
+    rw (p, q, tail-part (length s - 2) s, take-all 2 (drop (length s - 2) s) n)
+
+-- a standalone packet has a key
+pub alone-room : {n : ℕ} {alone : Bool} → alone ≡ true → start (formOf alone) 0 ≤ n → 16 ≤ n
+alone-room t h = rw t at h
+
+pub closed-embedded : (s : List ℕ) (m : Bool) (a : Sizes) {alone : Bool} {r : Checked} → alone ≡ false → r ≡ fineOf a → r ≡ closingBy (formOf alone) s m a
+closed-embedded s m a t e = rw t e
+
+module _ (s : List ℕ) (a : Sizes) {alone m : Bool} (t : alone ≡ true) where
+  pub closed-14 : m ≡ false → Wrong 14 (length s) ≡ closingBy (formOf alone) s m a
+  unfolding _>>=_ need after
+  closed-14 e = rw (t, e, add-zero)
+
+  module _ (e : m ≡ true) {x : Bool} (ex : x ≡ sumRight s) where
+    pub closed-15 : x ≡ false → Wrong 15 (length s - 4) ≡ closingBy (formOf alone) s m a
+    unfolding _>>=_ need after
+    closed-15 q = rw (t, e, ← ex, q, add-zero)
+
+    pub closed-fine : {r : Checked} → x ≡ true → r ≡ fineOf a → r ≡ closingBy (formOf alone) s m a
+    unfolding _>>=_ need after
+    closed-fine q z = rw (t, e, ← ex, q) z
+
+-- ---- the packet of these entries, closed
+
+abbrev pub packetOf : Form → ℕ → List Entry → List ℕ → Packet
+packetOf f w es c = record { form = f; width = w; entries = unsealed es; sum = c }
+
+abbrev summed : List Entry → Sizes
+summed es = total (weightOfEntry set) es
+
+sheet-size : (p : Packet) → All (λ e. eqb (tagOfEntry e) 1 ≡ false) (p .entries) → length (sheetBytes (content p)) ≡ 3 + summed (p .entries) .sheet
+unfolding sheetBytes content
+sheet-size p h = omega (arith, parts-size (p .entries) h)
+
+fine-is : {a b c d : ℕ} → a ≡ c → b ≡ d → Fine (sizes a b) ≡ Fine (sizes c d)
+fine-is p q = rw (p, q)
+
+fine-embedded : (w : ℕ) (es : List Entry) → SetRead embedded [] es → fineOf (summed es) ≡ checkedOf (ok (packetOf embedded w es []))
+unfolding rowsOf sealed
+fine-embedded w es h =
+    let k = split embedded [] es h in
+    let u : es ≡ unsealed es = split-embedded es k in
+    let z = ap summed u in
+    fine-is
+    (ap (λ a. 3 + a .sheet) z ∙ sym (sheet-size (packetOf embedded w es []) (k .no-seal)))
+    (ap (λ a. a .rows) z ∙ sym (entries-count (start embedded w) (unsealed es)))
+
+fine-alone : (w : ℕ) (es : List Entry) (c : List ℕ) → SetRead standalone [] es → has 1 (map tagOfEntry es) ≡ true → fineOf (summed es) ≡ checkedOf (ok (packetOf standalone w es c))
+unfolding rowsOf sealed
+fine-alone w es c h o =
+    let k = split standalone [] es h in
+    split-alone es k o λ d _ u.
+    let z = ap summed u in
+    let n = sheet-size (packetOf standalone w es c) (k .no-seal) in
+    let m = entries-count (start standalone w) (unsealed es ++ (plain (sealItem c) ∷ [])) in
+    fine-is
+    (ap (λ a. 3 + a .sheet) z ∙ omega (arith, n, seal-sheet d (unsealed es)))
+    (ap (λ a. a .rows) z ∙ omega (arith, m, seal-rows d (unsealed es), seal-rows c (unsealed es)))
+
+-- ---- the mark of a set is its tag 1
+
+any-has : (es : List Entry) → any (λ e. eqb (tagOfEntry e) 1) es ≡ has 1 (map tagOfEntry es)
+unfolding any has
+any-has [] = refl
+any-has (e ∷ es) = ap (λ b. eqb (tagOfEntry e) 1 || b) (any-has es)
+
+abbrev close : Form → List ℕ → ℕ → List Entry → Checked
+close f s w es = checkedOf (closing f s es >>= λ c. ok (packetOf f w es c))
+
+close-alone : (s : List ℕ) (w : ℕ) (es : List Entry) → SetRead standalone [] es → closingBy standalone s (has 1 (map tagOfEntry es)) (summed es) ≡ close standalone s w es
+unfolding closing _>>=_ need after
+close-alone s w es h = by-mark (has 1 (map tagOfEntry es)) refl
+  where
+    by-sum : has 1 (map tagOfEntry es) ≡ true → (q : Bool) → sumRight s ≡ q → closingBy standalone s (has 1 (map tagOfEntry es)) (summed es) ≡ close standalone s w es
+    by-sum z true q = rw (z, q) (fine-alone w es (drop (length s - 2) s) h z)
+    by-sum z false q = rw (z, q)
+
+    by-mark : (m : Bool) → has 1 (map tagOfEntry es) ≡ m → closingBy standalone s (has 1 (map tagOfEntry es)) (summed es) ≡ close standalone s w es
+    by-mark true z = by-sum z (sumRight s) refl
+    by-mark false z = rw z
+
+pub close-set : (f : Form) (s : List ℕ) (w : ℕ) (es : List Entry) → SetRead f [] es → closingBy f s (any (λ e. eqb (tagOfEntry e) 1) es) (summed es) ≡ close f s w es
+unfolding closing _>>=_
+close-set embedded s w es h = fine-embedded w es h
+close-set standalone s w es h = ap (λ m. closingBy standalone s m (summed es)) (any-has es) ∙ close-alone s w es h

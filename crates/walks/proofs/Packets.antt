@@ -1,0 +1,123 @@
+-- The whole packet, case by case, as the code reads it.
+use mathlib.Core.Path.{_≡_, refl, sym, ap, _∙_}
+use Prim.Native.Nat.{ℕ, _-_, _≤_, _<_}
+use native.Mathlib.Omega.{arith}
+use mathlib.Core.Bool.{Bool}
+use mathlib.Core.List.{List}
+use lib.ListN.{length, take, drop, length-drop}
+use lib.Dec.{eqb}
+use borrow.Author.Tests.{lt-leb, le-leb}
+use Rattle.format.specs.Answer.{Ans, ok, refused, Got, _>>=_, after}
+use Rattle.format.specs.Coding.{Bytes}
+use Rattle.format.specs.Packet.{Entry, Packet, tagOfEntry}
+use Rattle.format.specs.Run.{run, always}
+use Rattle.format.specs.Table.{Form, set}
+use Rattle.format.specs.Read.{entry, limit, opening, start, closing, parse}
+use Rattle.format.proofs.words.Answers.{after-ok}
+use Rattle.format.proofs.words.Bytes.{bytes-drop}
+use Rattle.format.proofs.reading.Packets.{set-says}
+use Rattle.coding.specs.declared.Num.{Num}
+use Rattle.coding.specs.declared.Num.the-variants.{Value, Refused}
+use Rattle.coding.proofs.Rooms.{tail-part}
+use Rattle.items.proofs.Tests.{bind-so, bind-not, need-so, need-not}
+use Rattle.walks.specs.declared.Sizes.{Sizes}
+use Rattle.walks.specs.declared.Walked.{Walked}
+use Rattle.walks.specs.declared.Walked.the-variants.{Good, Bad}
+use Rattle.walks.specs.declared.Checked.{Checked}
+use Rattle.walks.specs.declared.Checked.the-variants.{Wrong}
+use Rattle.walks.specs.Meet.{total, any, weightOfEntry, deepenAt, stepAt, walkedOf, levelWalk, Within, checkedOf}
+use Rattle.walks.specs.Whole.{widthOf, numFault, walkFault, closingBy}
+use Rattle.walks.proofs.Openings.{opening-room}
+use Rattle.walks.proofs.Closings.{packetOf, close-set}
+
+-- ---- what a walk of the set says of its run
+
+abbrev setRun : Form → List ℕ → Ans (Got (List Entry))
+setRun f s = run always tagOfEntry (entry f) s
+
+abbrev setWalked : Ans (Got (List Entry)) → Walked
+setWalked x = walkedOf (weightOfEntry set) (λ e. eqb (tagOfEntry e) 1) x
+
+walk-run : (f : Form) (s : List ℕ) → levelWalk set f s ≡ setWalked (setRun f s)
+unfolding levelWalk stepAt deepenAt entry
+walk-run f s = refl
+
+walked-bad : (x : Ans (Got (List Entry))) (n p : ℕ) → Bad n p ≡ setWalked x → x ≡ refused n p
+walked-bad (ok es) n p e = absurd (let z : _≡_ {A = ℕ} 0 1 = cc in omega arith)
+walked-bad (refused m q) n p e = let a : m ≡ n = cc in let b : q ≡ p = cc in rw (a, b)
+
+-- the entries, with their sizes and their mark
+record Walk (x : Ans (Got (List Entry))) (a : Sizes) (m : Bool) : Type 0 where
+  pub es : Got (List Entry)
+  pub ran : x ≡ ok es
+  pub sizes-are : total (weightOfEntry set) (es .val) ≡ a
+  pub mark-is : any (λ e. eqb (tagOfEntry e) 1) (es .val) ≡ m
+
+walked-good : (x : Ans (Got (List Entry))) (a : Sizes) (m : Bool) → Good a m ≡ setWalked x → Walk x a m
+walked-good (ok es) a m e = record { es = es; ran = refl; sizes-are = cc; mark-is = cc }
+walked-good (refused n p) a m e = absurd (let z : _≡_ {A = ℕ} 0 1 = cc in omega arith)
+
+-- ---- how large the answer on a set can be
+
+pub bad-within : {x : Walked} {n p j : ℕ} → x ≡ Bad n p → Within x j → p ≤ j
+bad-within e h = rw e at h
+
+within-more : (x : Walked) {i j : ℕ} → Within x i → i ≤ j → Within x j
+within-more (Good a m) h l = (omega (arith, h .0), omega (arith, h .1))
+within-more (Bad n p) h l = omega arith
+
+module _ (s : List ℕ) (k : ℕ) (l : length s ≤ 8192) (x : Walked) (h : Within x (length (take (length s - k) (drop k s)))) where
+  pub set-within : Within x 8192
+  set-within = within-more x h (rw (tail-part, length-drop) (omega arith))
+
+  pub good-within : {a : Sizes} {m : Bool} → x ≡ Good a m → a .sheet ≤ 40960
+  good-within {a} {m} e = let z : Within (Good a m) 8192 = rw e at set-within in omega (arith, z .0)
+
+-- ---- 1, what opens it, the set, what closes it
+
+module _ (f : Form) (s : List ℕ) where
+  abbrev closes : ℕ → Got (List Entry) → Ans Packet
+  closes w es = closing f s (es .val) >>= λ c. ok (packetOf f w (es .val) c)
+
+  pub check-long : 8192 < length s → Wrong 1 0 ≡ checkedOf (parse f s)
+  unfolding parse limit
+  check-long h = ap checkedOf (sym (need-not _ _ _ (lt-leb (length s) 8192 h)))
+
+  -- a is the answer on what opens it
+  module _ (l : length s ≤ 8192) {a : Num} (ea : widthOf a ≡ opening f s) where
+    pub check-shut : {n : ℕ} {r : Checked} → a ≡ Refused n → r ≡ numFault a → r ≡ checkedOf (parse f s)
+    unfolding parse limit
+    check-shut t e = e ∙ ap numFault t ∙ ap checkedOf (sym (need-so _ _ _ (le-leb (length s) 8192 l) ∙ bind-not _ _ _ _ (sym ea ∙ ap widthOf t)))
+
+    module _ {v w : ℕ} (t : a ≡ Value v w) where
+      opened : opening f s ≡ ok w
+      opened = sym ea ∙ ap widthOf t
+
+      pub check-room : (w ≤ length s) × (start f w ≤ length s) × (start f 0 ≤ length s)
+      check-room = opening-room f s w opened
+
+      parse-is : parse f s ≡ (after (start f w) (setRun f (drop (start f w) s)) >>= closes w)
+      unfolding parse limit
+      parse-is = need-so _ _ _ (le-leb (length s) 8192 l) ∙ bind-so _ _ _ opened
+
+      -- x is the answer on the set, which begins at k
+      module _ {k : ℕ} (ek : k ≡ start f w) {x : Walked} (ex : x ≡ levelWalk set f (take (length s - k) (drop k s))) where
+        walk-is : x ≡ setWalked (setRun f (drop (start f w) s))
+        walk-is = rw (tail-part, ek) at ex ∙ walk-run f (drop (start f w) s)
+
+        pub check-bad : {n p : ℕ} {r : Checked} → x ≡ Bad n p → r ≡ walkFault k x → r ≡ checkedOf (parse f s)
+        unfolding _>>=_ after
+        check-bad {n} {p} z e =
+            let q = walked-bad (setRun f (drop (start f w) s)) n p (sym z ∙ walk-is) in
+            e ∙ ap (walkFault k) z ∙ rw (parse-is, q, ek)
+
+        pub check-good : {b : Sizes} {m : Bool} {r : Checked} → Bytes s → x ≡ Good b m → r ≡ closingBy f s m b → r ≡ checkedOf (parse f s)
+        check-good {b} {m} h z e =
+            let d : List ℕ = drop (start f w) s in
+            let g = walked-good (setRun f d) b m (sym z ∙ walk-is) in
+            let read = set-says f d (g .es) (bytes-drop (start f w) s h) (g .ran) .1 in
+            e
+            ∙ ap (closingBy f s m) (sym (g .sizes-are))
+            ∙ ap (λ y. closingBy f s y (total (weightOfEntry set) (g .es .val))) (sym (g .mark-is))
+            ∙ close-set f s w (g .es .val) read
+            ∙ ap checkedOf (sym (parse-is ∙ bind-so _ (closes w) (g .es) (after-ok (start f w) (setRun f d) (g .es) (g .ran))))

@@ -1,0 +1,50 @@
+-- Where the code of the whole packet meets document 01: what its answers mean.
+use Prim.Native.Nat.{ℕ, _+_, _-_}
+use mathlib.Core.Bool.{Bool}
+use mathlib.Core.List.{List}
+use lib.ListN.{length, take, drop}
+use lib.Dec.{eqb}
+use Rattle.format.specs.Answer.{Ans, ok, refused, _>>=_, need, after}
+use Rattle.format.specs.Coding.{bytesNumber}
+use Rattle.format.specs.Table.{Form, embedded, standalone}
+use Rattle.format.specs.Packet.{checksum}
+use Rattle.coding.specs.declared.Num.{Num}
+use Rattle.coding.specs.declared.Num.the-variants.{Value, Refused}
+use Rattle.walks.specs.declared.Sizes.{Sizes}
+use Rattle.walks.specs.declared.Walked.{Walked}
+use Rattle.walks.specs.declared.Walked.the-variants.{Good, Bad}
+use Rattle.walks.specs.declared.Checked.{Checked}
+use Rattle.walks.specs.declared.Checked.the-variants.{Fine, Wrong}
+use Rattle.walks.specs.Meet.{sizes}
+
+-- how many bytes the outer length takes
+abbrev pub widthOf : Num → Ans ℕ
+widthOf (Value v n) = ok n
+widthOf (Refused n) = refused n 0
+
+-- a refusal passed up: of what opens a packet, and of a set that begins at k
+abbrev pub numFault : Num → Checked
+numFault (Value v n) = Wrong 0 0
+numFault (Refused n) = Wrong n 0
+
+abbrev pub walkFault : ℕ → Walked → Checked
+walkFault k (Good a m) = Wrong 0 0
+walkFault k (Bad n p) = Wrong n (k + p)
+
+-- a packet whose set has these sizes
+abbrev pub fineOf : Sizes → Checked
+fineOf a = Fine (sizes (3 + a .sheet) (a .rows))
+
+-- what closes a packet, where m says whether its set has a checksum
+abbrev pub sumBy : Form → List ℕ → Bool → Ans (Unit {0})
+sumBy embedded s m = ok tt
+sumBy standalone s m =
+    after (length s) (need m 14) >>= λ _.
+    after (length s - 4) (need (eqb (checksum (take (length s - 2) s)) (bytesNumber (drop (length s - 2) s))) 15)
+
+abbrev pub finish : Sizes → Ans (Unit {0}) → Checked
+finish a (ok c) = fineOf a
+finish a (refused n p) = Wrong n p
+
+abbrev pub closingBy : Form → List ℕ → Bool → Sizes → Checked
+closingBy f s m a = finish a (sumBy f s m)

@@ -107,12 +107,12 @@ item-peek b f seen u i e =
     bind-then _ _ _ e₁ λ _ _ e₂.
     rw (← ok-inj _ _ e₂, eh)
 
-deepen-plain : (l : Level) (f : Form) (i : Got Item) → isSet l && eqb (i .val .tag) 101 ≡ false → deepenAt l f i ≡ ok (got (plain (i .val)) (i .used))
+pub deepen-plain : (l : Level) (f : Form) (i : Got Item) → isSet l && eqb (i .val .tag) 101 ≡ false → deepenAt l f i ≡ ok (got (plain (i .val)) (i .used))
 unfolding deepenAt deepen
 deepen-plain set f i z = rw (z, deepen)
 deepen-plain pack f i z = refl
 
-deepen-series : (f : Form) (i : Got Item) → eqb (i .val .tag) 101 ≡ true
+pub deepen-series : (f : Form) (i : Got Item) → eqb (i .val .tag) 101 ≡ true
     → deepenAt set f i ≡ (after (i .used - length (i .val .value)) (run always idOfPack (onePack f) (i .val .value)) >>= λ ps. ok (got (series (i .val .width) (ps .val)) (i .used)))
 unfolding deepenAt deepen
 deepen-series f i z = rw (z, deepen)

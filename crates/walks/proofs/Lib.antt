@@ -9,3 +9,4 @@ pub mod Totals
 pub mod Openings
 pub mod Closings
 pub mod Packets
+pub mod Steps

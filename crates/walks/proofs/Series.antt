@@ -30,7 +30,7 @@ plain-step : (f : Form) (seen s : List ℕ) → stepAt pack f seen s ≡ (item p
 unfolding stepAt deepenAt
 plain-step f seen s = refl
 
-abbrev asEntries : Ans (Got (List Item)) → Ans (Got (List Entry))
+abbrev pub asEntries : Ans (Got (List Item)) → Ans (Got (List Entry))
 asEntries (ok rs) = ok (got (map plain (rs .val)) (rs .used))
 asEntries (refused n p) = refused n p
 
@@ -51,7 +51,7 @@ skip-plain f seen zero (b ∷ s) = go (λ i. skip-plain f (i .val .tag ∷ seen)
     go ih (ok i) e = unfold _>>=_ in (rw (plain-step f seen (b ∷ s), e, ih i) (inner (i .used) (i .val) _))
     go ih (refused n p) e = unfold _>>=_ in (rw (plain-step f seen (b ∷ s), e))
 
-run-plain : (f : Form) (s : List ℕ) → run always tagOfEntry (stepAt pack f) s ≡ asEntries (run always tagOfItem (item pack f) s)
+pub run-plain : (f : Form) (s : List ℕ) → run always tagOfEntry (stepAt pack f) s ≡ asEntries (run always tagOfItem (item pack f) s)
 unfolding run
 run-plain f s = skip-plain f [] 0 s
 

@@ -170,7 +170,7 @@ fn either(a: bool, b: bool) -> bool
     if a { true } else { b }
 }
 
-fn is_series(set: bool, tag: u64) -> bool
+pub fn is_series(set: bool, tag: u64) -> bool
     ensures { λ r. ⌜ r ≡ (set && eqb tag 101) ⌝ }
 {
     if set { tag == 101 } else { false }

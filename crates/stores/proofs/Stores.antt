@@ -1,0 +1,102 @@
+-- Laws of `sets`, numbers stored from an index on. Only `sets-start` asks that they fit.
+use Prim.Native.Nat.{ℕ, suc, _+_, _-_, _/_, _%_, _≤_, _<_}
+use mathlib.Core.Path.{_≡_, refl, _∙_, ap, sym}
+use mathlib.Core.List.{List, [], _∷_, _++_, append-nil}
+use native.Mathlib.Nat.{add-suc, add-zero, zero-add, le-refl, le-add-right}
+use native.Mathlib.Numerals.{add-one}
+use native.Mathlib.Omega.{arith}
+use lib.ListN.{length, take, drop, set, getD, take-append-drop, length-drop, length-set, drop-of-length-le}
+use lib.Seq.{sets, sets-eq, set-comm, take-set-le, drop-set-add, drop-cons, take-all}
+use borrow.Rule.Slice.PartMut.{putMid}
+use Rattle.format.specs.Coding.{fixed}
+use Rattle.format.proofs.coding.Digits.{length-fixed}
+
+-- one run after another
+pub sets-append : (l : List ℕ) (i : ℕ) (xs ys : List ℕ) → sets l i (xs ++ ys) ≡ sets (sets l i xs) (i + length xs) ys
+sets-append l i [] ys = ap (λ k. sets l k ys) (omega arith)
+sets-append l i (x ∷ xs) ys = sets-append (set l i x) (suc i) xs ys ∙ ap (λ k. sets (sets (set l i x) (suc i) xs) k ys) (omega arith)
+
+-- a run at the start
+pub sets-start : (l vs : List ℕ) → length vs ≤ length l → sets l 0 vs ≡ vs ++ drop (length vs) l
+sets-start l vs h = sets-eq vs l 0 (omega arith) ∙ ap (λ k. vs ++ drop k l) (zero-add (length vs))
+
+-- a store behind a run commutes with it
+pub sets-behind : (l : List ℕ) (i : ℕ) (xs : List ℕ) (j b : ℕ) → i + length xs ≤ j → set (sets l i xs) j b ≡ sets (set l j b) i xs
+sets-behind l i [] j b h = refl
+sets-behind l i (x ∷ xs) j b h = sets-behind (set l i x) (suc i) xs j b (omega arith) ∙ ap (λ r. sets r (suc i) xs) (set-comm l i j x b (λ e. omega arith))
+
+-- a run stored in the tail from n on, seen in the whole
+pub sets-tail : (n i : ℕ) (l vs : List ℕ) → take n l ++ sets (drop n l) i vs ≡ sets l (n + i) vs
+sets-tail n i l [] = take-append-drop n l
+sets-tail n i l (v ∷ vs) =
+    ap (λ r. take n l ++ sets r (suc i) vs) (sym (drop-set-add n l i v))
+    ∙ ap (λ r. r ++ sets (drop n (set l (n + i) v)) (suc i) vs) (sym (take-set-le n l (n + i) v (le-add-right n i)))
+    ∙ sets-tail n (suc i) (set l (n + i) v) vs
+    ∙ ap (λ k. sets (set l (n + i) v) k vs) (add-suc n i)
+
+-- the rest of l from p on is lent as `&mut l[p..]`
+module _ (l : List ℕ) (p : ℕ) where
+  pub tail-all : take (length l - p) (drop p l) ≡ drop p l
+  tail-all = take-all (length l - p) (drop p l) (simp length-drop (omega arith))
+
+  pub tail-length : length (take (length l - p) (drop p l)) ≡ length l - p
+  tail-length = ap length tail-all ∙ length-drop p l
+
+  -- and comes back with vs stored at its start
+  pub tail-stored : (e vs : List ℕ) → e ≡ sets (take (length l - p) (drop p l)) 0 vs → putMid p (length l - p) l e ≡ sets l p vs
+  tail-stored e vs q =
+      let none : drop (length l - p) (drop p l) ≡ [] = drop-of-length-le (drop p l) {i = length l - p} (simp length-drop (le-refl (length l - p))) in
+      rw (q, tail-all, none, append-nil)
+      (sets-tail p 0 l vs ∙ ap (λ k. sets l k vs) (add-zero p))
+
+-- a loop that copies s: what it still has to store, from the byte i on
+pub record CopyLeft (out₀ : List ℕ) (at : ℕ) (s out : List ℕ) (i : ℕ) : Type 0 where
+  pub to : i ≤ length s
+  pub same : length out ≡ length out₀
+  pub rest : sets out₀ at s ≡ sets out (at + i) (drop i s)
+
+pub copy-start : (out : List ℕ) (at : ℕ) (s : List ℕ) → CopyLeft out at s out 0
+copy-start out at s = record { to = omega arith; same = refl; rest = ap (λ k. sets out k s) (omega arith) }
+
+module _ (out₀ : List ℕ) (at : ℕ) (s out : List ℕ) (i : ℕ) (l : CopyLeft out₀ at s out i) where
+  pub copy-step : i < length s → CopyLeft out₀ at s (set out (at + i) (getD s i 0)) (i + 1)
+  copy-step g =
+      let one : sets out (at + i) (drop i s) ≡ sets (set out (at + i) (getD s i 0)) (at + (i + 1)) (drop (i + 1) s) = rw (drop-cons s i 0 g, add-one i, add-suc at i) in
+      record { to = omega arith; same = simp length-set (l .same); rest = l .rest ∙ one }
+
+  pub copy-done : length s ≤ i → out ≡ sets out₀ at s
+  copy-done g = sym (l .rest ∙ ap (λ r. sets out (at + i) r) (drop-of-length-le s {i = i} g))
+
+-- the last byte of a number first, the others in front of it later
+fixed-step : (out : List ℕ) (at i n : ℕ) → sets out at (fixed (suc i) n) ≡ sets (set out (at + i) (n % 256)) at (fixed i (n / 256))
+unfolding fixed
+fixed-step out at i n =
+    let len = length-fixed i (n / 256) in
+    sets-append out at (fixed i (n / 256)) (n % 256 ∷ [])
+    ∙ ap (λ k. set (sets out at (fixed i (n / 256))) (at + k) (n % 256)) len
+    ∙ sets-behind out at (fixed i (n / 256)) (at + i) (n % 256) (omega arith)
+
+-- a loop that stores v's k bytes from the last on: what it still has to store, the i bytes of n
+pub record NumberLeft (out₀ : List ℕ) (at v k : ℕ) (out : List ℕ) (i n : ℕ) : Type 0 where
+  pub to : i ≤ k
+  pub same : length out ≡ length out₀
+  pub rest : sets out₀ at (fixed k v) ≡ sets out at (fixed i n)
+
+pub number-start : (out : List ℕ) (at v k : ℕ) → NumberLeft out at v k out k v
+number-start out at v k = record { to = le-refl k; same = refl; rest = refl }
+
+module _ (out₀ : List ℕ) (at v k : ℕ) (out : List ℕ) (i n : ℕ) (l : NumberLeft out₀ at v k out i n) where
+  pub number-step : 0 < i → NumberLeft out₀ at v k (set out (at + (i - 1)) (n % 256)) (i - 1) (n / 256)
+  number-step g =
+      let e : i ≡ suc (i - 1) = omega arith in
+      record {
+        to = omega (arith, l .to);
+        same = simp length-set (l .same);
+        rest = l .rest ∙ ap (λ j. sets out at (fixed j n)) e ∙ fixed-step out at (i - 1) n;
+      }
+
+  pub number-done : i ≤ 0 → out ≡ sets out₀ at (fixed k v)
+  unfolding fixed
+  number-done g =
+      let none : i ≡ 0 = omega arith in
+      sym (l .rest ∙ ap (λ j. sets out at (fixed j n)) none)

@@ -98,7 +98,7 @@ told-series true f seen u tag from size small k z x e h =
     let t : tag ≡ 101 = eqb-true tag 101 z in
     subst (λ t. Told set f seen u t (from + size) (seriesFrom from x)) (sym t) (told-set f seen u from size small (subst (λ t. Stood set f seen u t from size small) t k) x e h)
 
-level-is : (b : Bool) → isSet (levelOf b) ≡ b
+pub level-is : (b : Bool) → isSet (levelOf b) ≡ b
 level-is true = refl
 level-is false = refl
 

@@ -10,3 +10,4 @@ pub mod Openings
 pub mod Closings
 pub mod Packets
 pub mod Steps
+pub mod Parsed

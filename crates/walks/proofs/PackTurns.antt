@@ -27,7 +27,7 @@ use Rattle.walks.proofs.Walks.{Going, going-start}
 use Rattle.walks.proofs.Series.{items-good, items-bad, pack-fault, PackStood, pack-stood, pack-peek, pack-10, pack-inside, pack-14, pack-good}
 use Rattle.walks.proofs.Turns.{Reads, within-more, turn-bad, turn-more}
 
-drop-take : (u n : ℕ) (s : List ℕ) → drop u (take n s) ≡ take (n - u) (drop u s)
+pub drop-take : (u n : ℕ) (s : List ℕ) → drop u (take n s) ≡ take (n - u) (drop u s)
 drop-take zero n s = let z : n - 0 ≡ n = omega arith in rw z
 drop-take (suc u) zero s = let z : 0 - suc u ≡ 0 = omega arith in rw z
 drop-take (suc u) (suc n) [] = sym (take-nil (suc n - suc u))

@@ -13,7 +13,7 @@ use Rattle.format.specs.Packet.{Entry, Packet, tagOfEntry}
 use Rattle.format.specs.Run.{run, always}
 use Rattle.format.specs.Table.{Form, set}
 use Rattle.format.specs.Read.{entry, limit, opening, start, closing, parse}
-use Rattle.format.proofs.words.Answers.{after-ok}
+use Rattle.format.proofs.words.Answers.{never, ok-inj, after-ok}
 use Rattle.format.proofs.words.Bytes.{bytes-drop}
 use Rattle.format.proofs.reading.Packets.{set-says}
 use Rattle.coding.specs.declared.Num.{Num}
@@ -27,6 +27,7 @@ use Rattle.walks.specs.declared.Checked.{Checked}
 use Rattle.walks.specs.declared.Checked.the-variants.{Wrong}
 use Rattle.walks.specs.Meet.{total, any, weightOfEntry, deepenAt, stepAt, walkedOf, levelWalk, Within, checkedOf}
 use Rattle.walks.specs.Whole.{widthOf, numFault, walkFault, closingBy}
+use Rattle.walks.proofs.Turns.{within-more}
 use Rattle.walks.proofs.Openings.{opening-room}
 use Rattle.walks.proofs.Closings.{packetOf, close-set}
 
@@ -62,16 +63,21 @@ walked-good (refused n p) a m e = absurd (let z : _≡_ {A = ℕ} 0 1 = cc in om
 pub bad-within : {x : Walked} {n p j : ℕ} → x ≡ Bad n p → Within x j → p ≤ j
 bad-within e h = rw e at h
 
-within-more : (x : Walked) {i j : ℕ} → Within x i → i ≤ j → Within x j
-within-more (Good a m) h l = (omega (arith, h .0), omega (arith, h .1))
-within-more (Bad n p) h l = omega arith
-
 module _ (s : List ℕ) (k : ℕ) (l : length s ≤ 8192) (x : Walked) (h : Within x (length (take (length s - k) (drop k s)))) where
   pub set-within : Within x 8192
-  set-within = within-more x h (rw (tail-part, length-drop) (omega arith))
+  set-within = within-more x (length (take (length s - k) (drop k s))) 8192 (rw (tail-part, length-drop) (omega arith)) h
 
   pub good-within : {a : Sizes} {m : Bool} → x ≡ Good a m → a .sheet ≤ 40960
   good-within {a} {m} e = let z : Within (Good a m) 8192 = rw e at set-within in omega (arith, z .0)
+
+-- ---- what opens it, by the answer on it
+
+module _ (f : Form) (s : List ℕ) {a : Num} (ea : widthOf a ≡ opening f s) where
+  pub not-opened : {X : Type 0} {n : ℕ} → a ≡ Refused n → (w : ℕ) → opening f s ≡ ok w → X
+  not-opened {n = n} t w e = never n 0 w (ap widthOf (sym t) ∙ ea ∙ e)
+
+  pub width-is : {v u : ℕ} → a ≡ Value v u → (w : ℕ) → opening f s ≡ ok w → {r : ℕ} → r ≡ start f u → r ≡ start f w
+  width-is t w e q = q ∙ ap (start f) (ok-inj _ _ (ap widthOf (sym t) ∙ ea ∙ e))
 
 -- ---- 1, what opens it, the set, what closes it
 

@@ -1,8 +1,9 @@
 // The whole packet: what opens it, its set, and what closes it.
 ghost use mathlib.Core.Path.{_≡_};
-ghost use Prim.Native.Nat.{_-_, _≤_};
+ghost use Prim.Native.Nat.{ℕ, _-_, _≤_};
 ghost use lib.ListN.{length, take, drop};
 ghost use lib.Dec.{eqb};
+ghost use Rattle.format.specs.Answer.{ok};
 ghost use Rattle.format.specs.Coding.{bytesNumber};
 ghost use Rattle.format.specs.Packet.{checksum};
 ghost use Rattle.format.specs.Table.{standalone};
@@ -156,4 +157,20 @@ pub fn check(s: &[u8], alone: bool) -> Checked
         return wrong_set(w, from);
     };
     closing_of(s, alone, mark, sizes)
+}
+
+// Where the set of a packet begins, if what opens it was accepted.
+pub fn set_start(s: &[u8], alone: bool) -> usize
+    requires { ⌜ length (now s) ≤ 8192 ⌝ }
+    ensures { λ r. ⌜ ((w : ℕ) → opening (formOf alone) (now (s .entry)) ≡ ok w → r ≡ start (formOf alone) w) ⌝ }
+{
+    let a = opening_of(s, alone);
+    let Num::Value {
+        value: _,
+        used: width,
+    } = a
+    else {
+        return 0;
+    };
+    start_of(alone, width)
 }

@@ -1,0 +1,151 @@
+-- The sheet's records, as they are stored one field after another; and the shortest form of a value, which is a tail of it.
+use mathlib.Core.Path.{_≡_, refl, sym, ap, _∙_}
+use Prim.Native.Nat.{ℕ, suc, _+_, _-_, _*_, _≤_}
+use native.Mathlib.Omega.{arith}
+use mathlib.Core.Bool.{Bool, true, false, not, _&&_}
+use mathlib.Core.List.{List, [], _∷_, _++_}
+use lib.Dec.{eqb}
+use borrow.Author.Tests.{ne-eqb}
+use lib.ListN.{length, take, drop, length-append, length-drop}
+use lib.Seq.{sets, length-sets}
+use borrow.Rule.Slice.PartMut.{putMid}
+use Rattle.format.specs.Coding.{fixed}
+use Rattle.format.specs.Lists.{none?}
+use Rattle.format.specs.Table.{Level, Rule, isSet, isNumber, ruleOf, strip, short}
+use Rattle.format.specs.Sheet.{valBytes, markOf, TG}
+use Rattle.format.proofs.coding.Digits.{length-fixed}
+use Rattle.coding.proofs.Rooms.{tail-part}
+use Rattle.items.specs.Meet.{levelOf}
+use Rattle.stores.proofs.Stores.{sets-append, tail-length, tail-stored}
+use Rattle.sheets.specs.Meet.{itemSheet}
+
+-- xs stored into o from a on: where they end, and what o is then
+abbrev pub Puts : List ℕ → ℕ → List ℕ → ℕ → List ℕ → Type 0
+Puts o a xs r o′ = (r ≡ a + length xs) × (o′ ≡ sets o a xs)
+
+pub puts-then : (o : List ℕ) (a : ℕ) (xs ys : List ℕ) {o₁ o₂ : List ℕ} {b r : ℕ} → Puts o a xs b o₁ → Puts o₁ b ys r o₂ → Puts o a (xs ++ ys) r o₂
+puts-then o a xs ys {b = b} p q =
+    (omega (arith, p .0, q .0, length-append xs ys), q .1 ∙ ap (λ x. sets x b ys) (p .1) ∙ ap (λ k. sets (sets o a xs) k ys) (p .0) ∙ sym (sets-append o a xs ys))
+
+pub puts-fixed : (o : List ℕ) (a k n : ℕ) {o₁ : List ℕ} {r : ℕ} → (r ≡ a + k) × (o₁ ≡ sets o a (fixed k n)) → Puts o a (fixed k n) r o₁
+puts-fixed o a k n p = (omega (arith, p .0, length-fixed k n), p .1)
+
+-- a tail of the output is lent: for what is stored at its start
+module _ (o : List ℕ) (a : ℕ) (xs ys : List ℕ) {o₁ : List ℕ} {m : ℕ} (p : Puts o a xs m o₁) where
+  pub tail-room : a + length (xs ++ ys) ≤ length o → length ys ≤ length (take (length o₁ - m) (drop m o₁))
+  tail-room h = rw tail-length (omega (arith, h, p .0, length-append xs ys, ap length (p .1), length-sets o a xs))
+
+  pub puts-tail : {r : ℕ} {e : List ℕ} → (r ≡ length ys) × (e ≡ sets (take (length o₁ - m) (drop m o₁)) 0 ys) → Puts o a (xs ++ ys) (m + r) (putMid m (length o₁ - m) o₁ e)
+  puts-tail {e = e} q = puts-then o a xs ys p (ap (λ k. m + k) (q .0), tail-stored o₁ m e ys (q .1))
+
+-- ---- an item
+
+pub mark-set : {b : Bool} → b ≡ true → 18772 ≡ 256 * (markOf (levelOf b) .0) + markOf (levelOf b) .1
+mark-set e = rw e
+
+pub mark-pack : {b : Bool} → b ≡ false → 21577 ≡ 256 * (markOf (levelOf b) .0) + markOf (levelOf b) .1
+mark-pack e = rw e
+
+mark-bytes : (b : Bool) → fixed 2 (256 * (markOf (levelOf b) .0) + markOf (levelOf b) .1) ≡ markOf (levelOf b) .0 ∷ markOf (levelOf b) .1 ∷ []
+unfolding fixed
+mark-bytes true = refl
+mark-bytes false = refl
+
+pub item-stored : (b : Bool) (tag : ℕ) (v o : List ℕ) (a : ℕ) {m : ℕ} → m ≡ 256 * (markOf (levelOf b) .0) + markOf (levelOf b) .1
+    → {o₁ o₂ o₃ o₄ : List ℕ} {a₁ a₂ a₃ r : ℕ} → (a₁ ≡ a + 2) × (o₁ ≡ sets o a (fixed 2 m)) → (a₂ ≡ a₁ + 2) × (o₂ ≡ sets o₁ a₁ (fixed 2 tag))
+    → (a₃ ≡ a₂ + 2) × (o₃ ≡ sets o₂ a₂ (fixed 2 (length v))) → Puts o₃ a₃ v r o₄
+    → (r ≡ a + (6 + length v)) × (o₄ ≡ sets o a (valBytes (levelOf b) (record { tag = tag; value = v })))
+unfolding valBytes
+item-stored b tag v o a {m = m} em {o₁ = o₁} {o₂ = o₂} {a₁ = a₁} {a₂ = a₂} p₁ p₂ p₃ p₄ =
+    let third = puts-then o₂ a₂ (fixed 2 (length v)) v (puts-fixed o₂ a₂ 2 (length v) p₃) p₄ in
+    let second = puts-then o₁ a₁ (fixed 2 tag) (fixed 2 (length v) ++ v) (puts-fixed o₁ a₁ 2 tag p₂) third in
+    let first = puts-then o a (fixed 2 m) (fixed 2 tag ++ (fixed 2 (length v) ++ v)) (puts-fixed o a 2 m p₁) second in
+    (omega (arith, p₁ .0, p₂ .0, p₃ .0, p₄ .0), rw (em, mark-bytes b) at (first .1))
+
+-- ---- a target
+
+target-mark : fixed 2 21575 ≡ TG .0 ∷ TG .1 ∷ []
+unfolding fixed
+target-mark = refl
+
+pub target-stored : (id : ℕ) (o : List ℕ) (a : ℕ) {o₁ o₂ : List ℕ} {a₁ r : ℕ} → (a₁ ≡ a + 2) × (o₁ ≡ sets o a (fixed 2 21575)) → (r ≡ a₁ + 8) × (o₂ ≡ sets o₁ a₁ (fixed 8 id))
+    → (r ≡ a + 10) × (o₂ ≡ sets o a (TG .0 ∷ TG .1 ∷ fixed 8 id))
+target-stored id o a {o₁ = o₁} {a₁ = a₁} p q =
+    let whole = puts-then o a (fixed 2 21575) (fixed 8 id) (puts-fixed o a 2 21575 p) (puts-fixed o₁ a₁ 8 id q) in
+    (omega (arith, p .0, q .0), rw target-mark at (whole .1))
+
+-- ---- the shortest form of a value
+
+-- a is what v ends with
+abbrev Tail : List ℕ → List ℕ → Type 0
+Tail v a = (k : ℕ) × (k ≤ length v) × (a ≡ drop k v)
+
+tail-of : (c : Bool) (v a b : List ℕ) → Tail v a → Tail v b → Tail v (elim c [ true ↦ a | false ↦ b ])
+tail-of true v a b p q = p
+tail-of false v a b p q = q
+
+whole-tail : (v : List ℕ) → Tail v v
+whole-tail v = (0, omega arith, refl)
+
+strip-tail : (v : List ℕ) → Tail v (strip v)
+unfolding strip
+strip-tail [] = whole-tail []
+strip-tail (x ∷ s) =
+    let (k, l, e) = strip-tail s in
+    tail-of (eqb x 0 && not (none? s)) (x ∷ s) (strip s) (x ∷ s) (suc k, omega arith, e) (whole-tail (x ∷ s))
+
+short-tail : (r : Rule) (v : List ℕ) → Tail v (short r v)
+unfolding short
+short-tail r v = tail-of (isNumber (r .kind)) v (strip v) v (strip-tail v) (whole-tail v)
+
+pub short-less : (r : Rule) (v : List ℕ) {n : ℕ} → n ≡ length (short r v) → n ≤ length v
+short-less r v h = let (k, l, e) = short-tail r v in omega (arith, ap length e, length-drop k v)
+
+short-is : (r : Rule) (v : List ℕ) → drop (length v - length (short r v)) v ≡ short r v
+short-is r v =
+    let (k, l, e) = short-tail r v in
+    let j : length v - length (short r v) ≡ k = omega (arith, l, ap length e, length-drop k v) in
+    ap (λ n. drop n v) j ∙ sym e
+
+-- ---- an item of a packet
+
+-- the set's checksum has no record
+pub seal-stored : {b : Bool} {tag : ℕ} (v o : List ℕ) (a : ℕ) → b ≡ true → tag ≡ 1 → Puts o a (itemSheet (levelOf b) tag v) a o
+unfolding itemSheet
+seal-stored v o a eb et = rw (eb, et) (omega arith, refl)
+
+abbrev pub NoSeal : Bool → ℕ → Type 0
+NoSeal b tag = isSet (levelOf b) && eqb tag 1 ≡ false
+
+pub other-tag : (b : Bool) (tag : ℕ) → (tag ≡ 1 → ⊥) → NoSeal b tag
+other-tag true tag h = ne-eqb tag 1 h
+other-tag false tag h = refl
+
+pub of-pack : (b : Bool) (tag : ℕ) → b ≡ false → NoSeal b tag
+of-pack b tag e = rw e
+
+val-long : (l : Level) (tag : ℕ) (v : List ℕ) → length (valBytes l (record { tag = tag; value = v })) ≡ 6 + length v
+unfolding valBytes
+val-long l tag v = simp (length-append, length-fixed) (omega arith)
+
+-- n bytes from the end of v, as they are lent
+abbrev lastOf : List ℕ → ℕ → List ℕ
+lastOf v n = take (length v - (length v - n)) (drop (length v - n) v)
+
+module _ (b : Bool) (tag : ℕ) (v : List ℕ) (h : NoSeal b tag) {r : Rule} (er : r ≡ ruleOf (levelOf b) tag) {n : ℕ} (en : n ≡ length (short r v)) where
+  last-is : lastOf v n ≡ short (ruleOf (levelOf b) tag) v
+  last-is = tail-part (length v - n) v ∙ rw en (short-is r v) ∙ ap (λ x. short x v) er
+
+  record-is : valBytes (levelOf b) (record { tag = tag; value = lastOf v n }) ≡ itemSheet (levelOf b) tag v
+  unfolding itemSheet
+  record-is = rw (h, itemSheet) (ap (λ x. valBytes (levelOf b) (record { tag = tag; value = x })) last-is)
+
+  record-long : 6 + length (lastOf v n) ≡ length (itemSheet (levelOf b) tag v)
+  record-long = sym (val-long (levelOf b) tag (lastOf v n)) ∙ ap length record-is
+
+  pub plain-room : (a : ℕ) {k : ℕ} → a + length (itemSheet (levelOf b) tag v) ≤ k → a + (6 + length (lastOf v n)) ≤ k
+  plain-room a l = omega (arith, record-long)
+
+  pub plain-stored : (o : List ℕ) (a : ℕ) {o′ : List ℕ} {k : ℕ} → (k ≡ a + (6 + length (lastOf v n))) × (o′ ≡ sets o a (valBytes (levelOf b) (record { tag = tag; value = lastOf v n })))
+      → Puts o a (itemSheet (levelOf b) tag v) k o′
+  plain-stored o a p = (p .0 ∙ ap (λ x. a + x) record-long, p .1 ∙ ap (sets o a) record-is)

@@ -1,0 +1,116 @@
+// A packet's sheet, written into a lent output as the item walk and the pack walk go over a packet that was checked.
+ghost use mathlib.Core.Path.{_≡_};
+ghost use Prim.Native.Nat.{_+_, _*_, _≤_, _<_};
+ghost use lib.ListN.{length};
+ghost use lib.Seq.{sets};
+ghost use mathlib.Core.List.{_∷_};
+ghost use Rattle.format.specs.Coding.{fixed};
+ghost use Rattle.format.specs.Sheet.{valBytes, markOf, TG};
+ghost use Rattle.items.specs.Meet.{formOf, levelOf};
+ghost use Rattle.sheets.specs.Meet.{itemSheet, levelSheet, seriesSheet};
+ghost use Rattle.walks.specs.Runs.{Ran, levelRun, seriesRun};
+use heads::Head;
+
+// ---- records
+
+// The mark of an item, as a number: `IT` in the set, `TI` in a target.
+fn mark_of(set: bool) -> u64
+    ensures { λ r. ⌜ r ≡ 256 * (markOf (levelOf set) .0) + markOf (levelOf set) .1 ⌝ }
+{
+    if set { 18772 } else { 21577 }
+}
+
+// An item's record; where it ends.
+fn put_item(out: &mut [u8], at: usize, set: bool, tag: u64, v: &[u8]) -> usize
+    requires { ⌜ at + (6 + length (now v)) ≤ length (now out) ⌝ }
+    ensures { λ r. ⌜ (r ≡ at + (6 + length (now (v .entry)))) × (now (out .exit) ≡ sets (now (out .entry)) at (valBytes (levelOf set) (record { tag = tag; value = now (v .entry) }))) ⌝ }
+{
+    let a = stores::put_number(out, at, mark_of(set), 2);
+    let b = stores::put_number(out, a, tag, 2);
+    let c = stores::put_number(out, b, v.len() as u64, 2);
+    stores::copy(out, c, v)
+}
+
+// An item's record from its value as it stands in the packet; where it ends. The set's checksum has none.
+fn put_plain(out: &mut [u8], at: usize, set: bool, tag: u64, v: &[u8]) -> usize
+    requires { ⌜ (0 < length (now v)) × (at + length (itemSheet (levelOf set) tag (now v)) ≤ length (now out)) ⌝ }
+    ensures { λ r. ⌜ (r ≡ at + length (itemSheet (levelOf set) tag (now (v .entry)))) × (now (out .exit) ≡ sets (now (out .entry)) at (itemSheet (levelOf set) tag (now (v .entry)))) ⌝ }
+{
+    if set {
+        if tag == 1 {
+            return at;
+        }
+    }
+    let rule = items::rule_of(set, tag);
+    let n = items::short_size(rule, v);
+    put_item(out, at, set, tag, &v[v.len() - n..])
+}
+
+// A target's mark and id; where they end.
+fn put_target(out: &mut [u8], at: usize, id: u64) -> usize
+    requires { ⌜ at + 10 ≤ length (now out) ⌝ }
+    ensures { λ r. ⌜ (r ≡ at + 10) × (now (out .exit) ≡ sets (now (out .entry)) at (TG .0 ∷ TG .1 ∷ fixed 8 id)) ⌝ }
+{
+    let a = stores::put_number(out, at, 21575, 2);
+    stores::put_number(out, a, id, 8)
+}
+
+// ---- the walks
+
+// The items of a level: the set, or a pack; how many bytes.
+pub fn item_sheet(s: &[u8], set: bool, alone: bool, out: &mut [u8]) -> usize
+    requires { ⌜ (length (now s) ≤ 8192) × Ran (levelRun (levelOf set) (formOf alone) (now s)) × (length (levelSheet (levelOf set) (formOf alone) (now s)) ≤ length (now out)) ⌝ }
+    ensures { λ r. ⌜ (r ≡ length (levelSheet (levelOf set) (formOf alone) (now (s .entry)))) × (now (out .exit) ≡ sets (now (out .entry)) 0 (levelSheet (levelOf set) (formOf alone) (now (s .entry)))) ⌝ }
+{
+    let mut p: usize = 0;
+    let mut k: usize = 0;
+    while p < s.len() {
+        let h = heads::item_head(&s[p..], set);
+        let Head::Whole {
+            key,
+            used,
+            width,
+            size,
+        } = h
+        else {
+            return k;
+        };
+        let from = p + used + width;
+        let next = from + size;
+        k = if walks::is_series(set, key) {
+            let m = stores::put_number(out, k, 21587, 2);
+            m + pack_sheet(&s[from..next], alone, &mut out[m..])
+        } else {
+            put_plain(out, k, set, key, &s[from..next])
+        };
+        p = next;
+    }
+    k
+}
+
+// The packs of a series; how many bytes.
+pub fn pack_sheet(s: &[u8], alone: bool, out: &mut [u8]) -> usize
+    requires { ⌜ (length (now s) ≤ 8192) × Ran (seriesRun (formOf alone) (now s)) × (length (seriesSheet (formOf alone) (now s)) ≤ length (now out)) ⌝ }
+    ensures { λ r. ⌜ (r ≡ length (seriesSheet (formOf alone) (now (s .entry)))) × (now (out .exit) ≡ sets (now (out .entry)) 0 (seriesSheet (formOf alone) (now (s .entry)))) ⌝ }
+{
+    let mut p: usize = 0;
+    let mut k: usize = 0;
+    while p < s.len() {
+        let h = heads::pack_head(&s[p..]);
+        let Head::Whole {
+            key,
+            used,
+            width,
+            size,
+        } = h
+        else {
+            return k;
+        };
+        let from = p + width + used;
+        let next = p + width + size;
+        let m = put_target(out, k, key);
+        k = m + item_sheet(&s[from..next], false, alone, &mut out[m..]);
+        p = next;
+    }
+    k
+}

@@ -1,0 +1,110 @@
+-- What a call's contract fixes: any two results that it allows are equal, and number and count are small.
+use mathlib.Core.Path.{_≡_, refl, sym, ap, _∙_}
+use Prim.Native.Nat.{ℕ, _+_, _*_, _≤_}
+use native.Mathlib.Omega.{arith}
+use mathlib.Core.Bool.{Bool, true, false}
+use mathlib.Core.List.{List, _++_}
+use lib.ListN.{length, drop, length-append}
+use lib.Dec.{leb}
+use borrow.Author.Tests.{leb-true}
+use Rattle.format.specs.Answer.{Ans, ok, refused, _>>=_, need}
+use Rattle.format.specs.Coding.{Bytes}
+use Rattle.format.specs.Packet.{Packet}
+use Rattle.format.specs.Table.{Form}
+use Rattle.format.specs.Read.{parse, limit}
+use Rattle.format.specs.Sheet.{content, sheetBytes}
+use Rattle.format.specs.Calls.{read}
+use Rattle.format.specs.Rows.{Row, rowsOf, locate}
+use Rattle.format.specs.Room.{Left, leaves, oneNumber}
+use Rattle.format.proofs.bounds.Packets.{parse-answers}
+use Rattle.format.proofs.demands.Sizes.{sizes}
+use Rattle.rows.specs.Meet.{numbers}
+use Rattle.rows.proofs.Numbers.{numbers-long}
+use Rattle.vmti.specs.declared.Answer.{Answer}
+use Rattle.vmti.specs.Meet.{leftOf, leavesRows}
+
+-- for `leaves` and `leavesRows` alike
+pub one-result : (a b : Answer) (x y : List ℕ) (l : Left ℕ) → leftOf a x ≡ l → leftOf b y ≡ l → (a ≡ b) × (x ≡ y)
+one-result a b x y l p q =
+    let e : leftOf a x ≡ leftOf b y = p ∙ sym q in
+    (λ i. record { number = e i .number; place = e i .place }, ap (λ z. z .lent) e)
+
+-- ---- a refusal
+
+refused-small : (f : Form) (s : List ℕ) (n p : ℕ) → parse f s ≡ refused n p → (1 ≤ n) × (n ≤ 19) × (p ≤ 8192)
+refused-small f s n p e = go (leb (length s) 8192) refl
+  where
+    long : leb (length s) 8192 ≡ false → parse f s ≡ refused 1 0
+    long z = unfold parse limit need _>>=_ in (rw z)
+
+    go : (b : Bool) → leb (length s) 8192 ≡ b → (1 ≤ n) × (n ≤ 19) × (p ≤ 8192)
+    go true z = let k = parse-answers f s .by n p e in (k .0, k .1, omega (arith, k .2, leb-true (length s) 8192 z))
+    go false z =
+        let q : _≡_ {A = Ans Packet} (refused 1 0) (refused n p) = sym (long z) ∙ e in
+        let a : 1 ≡ n = cc in
+        let b : 0 ≡ p = cc in
+        (omega arith, omega arith, omega arith)
+
+call-refused : {A : Type 0} (f : Form) (s : List ℕ) (g : Packet → A) (n p : ℕ) → (parse f s >>= λ k. ok (g k)) ≡ refused n p → (1 ≤ n) × (n ≤ 19) × (p ≤ 8192)
+unfolding _>>=_
+call-refused {A = A} f s g n p e = go (parse f s) refl e
+  where
+    go : (x : Ans Packet) → parse f s ≡ x → (x >>= λ k. ok (g k)) ≡ refused n p → (1 ≤ n) × (n ≤ 19) × (p ≤ 8192)
+    go (ok k) q e = absurd (let z : _≡_ {A = ℕ} 0 1 = cc in omega arith)
+    go (refused m j) q e =
+        let a : m ≡ n = cc in
+        let b : j ≡ p = cc in
+        refused-small f s n p (q ∙ ap (λ k. refused k j) a ∙ ap (refused n) b)
+
+-- ---- what the one number for C needs
+
+abbrev Small : ℕ → Answer → Type 0
+Small most a = (a .number ≤ 19) × (a .place ≤ most)
+
+-- from the same facts of what is left
+small-of : (most : ℕ) (a : Answer) (out : List ℕ) (l : Left ℕ) → leftOf a out ≡ l → l .number ≤ 19 → l .place ≤ most → Small most a
+small-of most a out l e n p = (omega (arith, ap (λ x. x .number) e), omega (arith, ap (λ x. x .place) e))
+
+left-small : (lent b : List ℕ) → (leaves lent (ok b) .number ≤ 19) × (leaves lent (ok b) .place ≡ length b)
+left-small lent b = go (leb (length b) (length lent)) refl
+  where
+    go : (z : Bool) → leb (length b) (length lent) ≡ z → (leaves lent (ok b) .number ≤ 19) × (leaves lent (ok b) .place ≡ length b)
+    go true z = unfold leaves in (rw (z, leaves) (omega arith, refl))
+    go false z = unfold leaves in (rw (z, leaves) (omega arith, refl))
+
+pub read-small : (f : Form) (s lent out : List ℕ) (a : Answer) → Bytes s → leftOf a out ≡ leaves lent (read f s) → Small 40963 a
+read-small f s lent out a b e = go (read f s) refl
+  where
+    go : (x : Ans (List ℕ)) → read f s ≡ x → Small 40963 a
+    go (refused n p) q =
+        let k = call-refused f s (λ k. sheetBytes (content k)) n p (unfold read in q) in
+        small-of 40963 a out (record { number = n; place = p; lent = lent }) (e ∙ unfold leaves in (rw q)) (k .1) (omega (arith, k .2))
+    go (ok y) q =
+        let k = left-small lent y in
+        small-of 40963 a out (leaves lent (ok y)) (e ∙ ap (leaves lent) q) (k .0) (omega (arith, k .1, sizes f s b .sheet y q .1))
+
+pub one-number : (a : Answer) (out : List ℕ) (l : Left ℕ) → leftOf a out ≡ l → (256 * a .place + a .number ≡ oneNumber l) × (out ≡ l .lent)
+unfolding oneNumber
+one-number a out l e = (ap oneNumber e, ap (λ x. x .lent) e)
+
+-- ---- what a program that prints the rows needs
+
+pub located-fits : (f : Form) (s lent out : List ℕ) (a : Answer) → leftOf a out ≡ leavesRows lent (locate f s) → a .number ≡ 0 → 4 * a .place ≤ length out
+located-fits f s lent out a e z = go (locate f s) refl
+  where
+    fits : (rs : List Row) → leftOf a out ≡ leavesRows lent (ok rs) → (y : Bool) → leb (4 * length rs) (length lent) ≡ y → 4 * a .place ≤ length out
+    fits rs e true y =
+        let left : leavesRows lent (ok rs) ≡ record { number = 0; place = length rs; lent = numbers rs ++ drop (4 * length rs) lent } = unfold leavesRows in (rw (y, leavesRows)) in
+        let count : a .place ≡ length rs = ap (λ x. x .place) (e ∙ left) in
+        let size = ap (λ x. length (x .lent)) (e ∙ left) ∙ length-append (numbers rs) (drop (4 * length rs) lent) in
+        omega (arith, count, size, numbers-long rs)
+    fits rs e false y =
+        let q : leavesRows lent (ok rs) .number ≡ 16 = unfold leavesRows in (rw (y, leavesRows)) in
+        absurd (omega (arith, ap (λ x. x .number) e ∙ q, z))
+
+    go : (x : Ans (List Row)) → locate f s ≡ x → 4 * a .place ≤ length out
+    go (refused n p) q =
+        let k = call-refused f s rowsOf n p (unfold locate in q) in
+        let m : leftOf a out ≡ record { number = n; place = p; lent = lent } = e ∙ unfold leavesRows in (rw q) in
+        absurd (omega (arith, k .0, ap (λ x. x .number) m, z))
+    go (ok rs) q = fits rs (e ∙ ap (leavesRows lent) q) _ refl

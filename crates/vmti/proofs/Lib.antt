@@ -1,0 +1,4 @@
+pub mod Opened
+pub mod Reading
+pub mod Locating
+pub mod Bounds

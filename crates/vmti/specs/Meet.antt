@@ -1,0 +1,39 @@
+-- Where the calls meet document 01: what they leave behind, for every input and every room.
+use Prim.Native.Nat.{ℕ, _*_}
+use mathlib.Core.Bool.{true, false, not}
+use mathlib.Core.List.{List, _++_}
+use lib.ListN.{length, drop}
+use lib.Dec.{leb, eqb}
+use Rattle.format.specs.Answer.{Ans, ok, refused}
+use Rattle.format.specs.Table.{Form}
+use Rattle.format.specs.Rows.{Row}
+use Rattle.format.specs.Room.{Left}
+use Rattle.items.specs.Meet.{formOf}
+use Rattle.walks.specs.declared.Checked.{Checked}
+use Rattle.walks.specs.declared.Checked.the-variants.{Fine, Wrong}
+use Rattle.rows.specs.Meet.{numbers}
+use Rattle.vmti.specs.declared.Answer.{Answer}
+
+-- an answer, with what was lent as it is then
+abbrev pub leftOf : Answer → List ℕ → Left ℕ
+leftOf a lent = record { number = a .number; place = a .place; lent = lent }
+
+abbrev pub answerOf : ℕ → ℕ → Answer
+answerOf n p = record { number = n; place = p }
+
+abbrev pub refusalOf : Checked → Answer
+refusalOf (Fine a) = answerOf 0 0
+refusalOf (Wrong n p) = answerOf n p
+
+-- rows lie in a lent slice of numbers, four to a row; their count is a count of rows
+unfoldable pub leavesRows : List ℕ → Ans (List Row) → Left ℕ
+leavesRows lent (refused n p) = record { number = n; place = p; lent = lent }
+leavesRows lent (ok rs) =
+    elim (leb (4 * length rs) (length lent)) [
+      | true ↦ record { number = 0; place = length rs; lent = numbers rs ++ drop (4 * length rs) lent }
+      | false ↦ record { number = 16; place = length rs; lent = lent }
+    ]
+
+-- the form that a number names
+abbrev pub formNamed : ℕ → Form
+formNamed n = formOf (not (eqb n 0))

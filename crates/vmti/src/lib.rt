@@ -1,0 +1,85 @@
+// The calls. Each ends with an answer for every input and every room lent, and a refusal changes nothing that was lent.
+ghost use mathlib.Core.Path.{_≡_};
+ghost use Prim.Native.Nat.{_+_, _*_, _≤_};
+ghost use lib.ListN.{length};
+ghost use Rattle.format.specs.Sheet.{formByte};
+ghost use Rattle.format.specs.Calls as Calls;
+ghost use Rattle.format.specs.Rows as Rows;
+ghost use Rattle.format.specs.Room.{leaves, oneNumber};
+ghost use Rattle.items.specs.Meet.{formOf};
+ghost use Rattle.vmti.specs.Meet.{leftOf, answerOf, refusalOf, leavesRows, formNamed};
+use walks::Checked;
+
+// A refusal's number and place; or 0, and how many bytes or rows were written.
+pub struct Answer {
+    pub number: u64,
+    pub place: usize,
+}
+
+fn answer_of(number: u64, place: usize) -> Answer
+    ensures { λ r. ⌜ r ≡ answerOf number place ⌝ }
+{
+    Answer { number, place }
+}
+
+// A refusal passed up.
+fn refusal(c: Checked) -> Answer
+    ensures { λ r. ⌜ r ≡ refusalOf c ⌝ }
+{
+    match c {
+        Checked::Fine(_) => answer_of(0, 0),
+        Checked::Wrong { number, place } => answer_of(number, place),
+    }
+}
+
+// `PK` and the form, as one number.
+fn head_of(alone: bool) -> u64
+    ensures { λ r. ⌜ r ≡ 5262080 + formByte (formOf alone) ⌝ }
+{
+    if alone { 5262081 } else { 5262080 }
+}
+
+// A packet to its sheet.
+pub fn read(packet: &[u8], alone: bool, sheet: &mut [u8]) -> Answer
+    ensures { λ r. ⌜ leftOf r (now (sheet .exit)) ≡ leaves (now (sheet .entry)) (Calls.read (formOf alone) (now (packet .entry))) ⌝ }
+{
+    let c = walks::whole::check(packet, alone);
+    let Checked::Fine(sizes) = c else {
+        return refusal(c);
+    };
+    if sheet.len() < sizes.sheet {
+        return answer_of(16, sizes.sheet);
+    }
+    let from = walks::whole::set_start(packet, alone);
+    stores::put_number(sheet, 0, head_of(alone), 3);
+    sheets::item_sheet(&packet[from..], true, alone, &mut sheet[3..]);
+    answer_of(0, sizes.sheet)
+}
+
+// A packet's rows, as numbers, four to a row.
+pub fn locate(packet: &[u8], alone: bool, rows: &mut [u64]) -> Answer
+    ensures { λ r. ⌜ leftOf r (now (rows .exit)) ≡ leavesRows (now (rows .entry)) (Rows.locate (formOf alone) (now (packet .entry))) ⌝ }
+{
+    let c = walks::whole::check(packet, alone);
+    let Checked::Fine(sizes) = c else {
+        return refusal(c);
+    };
+    if rows.len() < 4 * sizes.rows {
+        return answer_of(16, sizes.rows);
+    }
+    let from = walks::whole::set_start(packet, alone);
+    rows::item_rows(&packet[from..], from, 0, true, alone, rows);
+    answer_of(0, sizes.rows)
+}
+
+// ---- as C calls them
+
+// One number: 256 times the place or count, plus the refusal's number. Form 0 is embedded, any other standalone.
+#[no_mangle]
+pub extern "C" fn vmti_read(form: u64, packet: &[u8], sheet: &mut [u8]) -> u64
+    ensures { λ r. ⌜ (r ≡ oneNumber (leaves (now (sheet .entry)) (Calls.read (formNamed form) (now (packet .entry)))))
+        × (now (sheet .exit) ≡ leaves (now (sheet .entry)) (Calls.read (formNamed form) (now (packet .entry))) .lent) ⌝ }
+{
+    let a = read(packet, form != 0, sheet);
+    256 * (a.place as u64) + a.number
+}

@@ -1,4 +1,4 @@
-# `make` checks what there is; `make test` is the gate.
+# `make` proves every crate and builds the program that ./vmtirows runs; `make test` is the gate.
 
 .PHONY: all test clean
 

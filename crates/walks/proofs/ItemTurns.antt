@@ -122,51 +122,61 @@ module _ {b : Bool} (f : Form) {s : List ℕ} {p : ℕ} {sum : Sizes} {mark : Bo
   item-fault {n = n} t e =
       turn-bad g h n 0 (e ∙ ap (stopAt p) t ∙ ap (Bad n) (sym (add-zero p))) (step-fault (levelOf b) f (g .seen) (drop p s) n (sym t ∙ here)) (omega arith)
 
-  module _ {tag from size small : ℕ} (ta : a ≡ piece.Whole tag from size small) (bs : Bytes s) where
-    pub piece-stood : Stood (levelOf b) f (g .seen) (drop p s) tag from size small
-    piece-stood = stood (levelOf b) f (g .seen) (drop p s) tag from size small (bytes-drop p s bs) (sym ta ∙ here)
+-- an item that the code has read at p, in a level of no more bytes than a packet's
+pub record ItemAt (b : Bool) (f : Form) (s : List ℕ) (p : ℕ) (sum : Sizes) (mark : Bool) (top low tag from size small : ℕ) : Type 0 where
+  pub going : LevelGoing b f s p sum mark top low
+  pub here : p < length s
+  pub it : Piece
+  pub told : (seen : List ℕ) → Past false b s p top low seen → it ≡ pieceOf (levelOf b) (item (levelOf b) f seen (drop p s))
+  pub whole : it ≡ piece.Whole tag from size small
+  pub bytes : Bytes s
+  pub most : length s ≤ 8192
 
-    pub piece-room : p + from + size ≤ length s
-    piece-room = omega (arith, piece-stood .room, length-drop p s)
+module _ {b : Bool} {f : Form} {s : List ℕ} {p : ℕ} {sum : Sizes} {mark : Bool} {top low tag from size small : ℕ} (i : ItemAt b f s p sum mark top low tag from size small) where
+  pub piece-stood : Stood (levelOf b) f (i .going .seen) (drop p s) tag from size small
+  piece-stood = stood (levelOf b) f (i .going .seen) (drop p s) tag from size small (bytes-drop p s (i .bytes)) (sym (i .whole) ∙ i .told (i .going .seen) (i .going .past))
 
-    -- w is the code's answer on the entry
-    abbrev pub EntryTold : Walked → Type 0
-    EntryTold w = Told (levelOf b) f (g .seen) (drop p s) tag (from + size) w
+  pub piece-room : p + from + size ≤ length s
+  piece-room = omega (arith, piece-stood .room, length-drop p s)
 
-    pub item-told : {x : Bool} → x ≡ (b && eqb tag 101) → x ≡ false → {w : Walked} → w ≡ Good (itemSizes (levelOf b) tag small) (eqb tag (markTag (levelOf b))) → EntryTold w
-    item-told ex tx ew = subst EntryTold (sym ew) (told-plain (levelOf b) f (g .seen) (drop p s) tag from size small piece-stood (rw (level-is b) (sym ex ∙ tx)))
+  -- w is the code's answer on the entry
+  abbrev pub EntryTold : Walked → Type 0
+  EntryTold w = Told (levelOf b) f (i .going .seen) (drop p s) tag (from + size) w
 
-    pub value-long : length (take (p + from + size - (p + from)) (drop (p + from) s)) ≡ size
-    value-long = length-take-le (p + from + size - (p + from)) (drop (p + from) s) (rw length-drop (omega (arith, piece-room))) ∙ omega arith
+  pub item-told : {x : Bool} → x ≡ (b && eqb tag 101) → x ≡ false → {w : Walked} → w ≡ Good (itemSizes (levelOf b) tag small) (eqb tag (markTag (levelOf b))) → EntryTold w
+  item-told ex tx ew = subst EntryTold (sym ew) (told-plain (levelOf b) f (i .going .seen) (drop p s) tag from size small piece-stood (rw (level-is b) (sym ex ∙ tx)))
 
-    pub series-within : (y : Walked) → length s ≤ 8192 → Within y (length (take (p + from + size - (p + from)) (drop (p + from) s))) → Within y 8192 × (from ≤ 8192)
-    series-within y l h = (within-more y _ 8192 (omega (arith, value-long, piece-room)) h, omega (arith, piece-room))
+  pub value-long : length (take (p + from + size - (p + from)) (drop (p + from) s)) ≡ size
+  value-long = length-take-le (p + from + size - (p + from)) (drop (p + from) s) (rw length-drop (omega (arith, piece-room))) ∙ omega arith
 
-    pub series-told : {x : Bool} → x ≡ (b && eqb tag 101) → x ≡ true → {y : Walked}
-        → (y ≡ seriesWalk f (take (p + from + size - (p + from)) (drop (p + from) s))) × Within y (length (take (p + from + size - (p + from)) (drop (p + from) s)))
-        → {w : Walked} → w ≡ seriesFrom from y → EntryTold w
-    series-told ex tx {y = y} ey ew =
-        let part : take (p + from + size - (p + from)) (drop (p + from) s) ≡ take size (drop from (drop p s)) = mid-part (p + from) size s ∙ ap (take size) (sym (drop-drop from p s)) in
-        let long : length (take size (drop from (drop p s))) ≡ size = length-take-le size _ (rw length-drop (omega (arith, piece-stood .room))) in
-        subst EntryTold (sym ew) (told-series b f (g .seen) (drop p s) tag from size small piece-stood (sym ex ∙ tx) y (rw part at (ey .0)) (rw (part, long) at (ey .1)))
+  pub series-within : (y : Walked) → Within y (length (take (p + from + size - (p + from)) (drop (p + from) s))) → Within y 8192 × (from ≤ 8192)
+  series-within y h = (within-more y _ 8192 (omega (arith, value-long, piece-room, i .most)) h, omega (arith, piece-room, i .most))
 
-    module _ {w : Walked} (k : EntryTold w) where
-      pub entry-bad : {n q : ℕ} {r : Walked} → w ≡ Bad n q → r ≡ laterBy p w → (r ≡ levelWalk (levelOf b) f s) × Within r (length s)
-      entry-bad {n = n} {q = q} t e =
-          let (j, l) = k .bad n q t in
-          turn-bad g h n q (e ∙ ap (laterBy p) t) j (omega (arith, l, piece-room))
+  pub series-told : {x : Bool} → x ≡ (b && eqb tag 101) → x ≡ true → {y : Walked}
+      → (y ≡ seriesWalk f (take (p + from + size - (p + from)) (drop (p + from) s))) × Within y (length (take (p + from + size - (p + from)) (drop (p + from) s)))
+      → {w : Walked} → w ≡ seriesFrom from y → EntryTold w
+  series-told ex tx {y = y} ey ew =
+      let part : take (p + from + size - (p + from)) (drop (p + from) s) ≡ take size (drop from (drop p s)) = mid-part (p + from) size s ∙ ap (take size) (sym (drop-drop from p s)) in
+      let long : length (take size (drop from (drop p s))) ≡ size = length-take-le size _ (rw length-drop (omega (arith, piece-stood .room))) in
+      subst EntryTold (sym ew) (told-series b f (i .going .seen) (drop p s) tag from size small piece-stood (sym ex ∙ tx) y (rw part at (ey .0)) (rw (part, long) at (ey .1)))
 
-      pub bad-within : {n q : ℕ} → length s ≤ 8192 → w ≡ Bad n q → Within w 8192 × (p ≤ 8192)
-      bad-within {n = n} {q = q} l t = (within-of 8192 t (omega (arith, k .bad n q t .1, piece-room)), omega arith)
+  module _ {w : Walked} (k : EntryTold w) where
+    pub entry-bad : {n q : ℕ} {r : Walked} → w ≡ Bad n q → r ≡ laterBy p w → (r ≡ levelWalk (levelOf b) f s) × Within r (length s)
+    entry-bad {n = n} {q = q} t e =
+        let (j, l) = k .bad n q t in
+        turn-bad (i .going) (i .here) n q (e ∙ ap (laterBy p) t) j (omega (arith, l, piece-room))
 
-      pub good-few : {z : Sizes} {m : Bool} → length s ≤ 8192 → w ≡ Good z m → (sum .sheet + z .sheet ≤ 65536) × (sum .rows + z .rows ≤ 65536)
-      good-few {z = z} {m = m} l t =
-          let y = k .good z m t .few in
-          (omega (arith, g .few .sheet, y .sheet, piece-room), omega (arith, g .few .rows, y .rows, piece-room))
+    pub bad-within : {n q : ℕ} → w ≡ Bad n q → Within w 8192 × (p ≤ 8192)
+    bad-within {n = n} {q = q} t = (within-of 8192 t (omega (arith, k .bad n q t .1, piece-room, i .most)), omega (arith, i .here, i .most))
 
-      pub entry-more : {z : Sizes} {m : Bool} → w ≡ Good z m → {sum′ : Sizes} → sum′ ≡ plusSizes sum z → {mark′ : Bool} → mark′ ≡ (mark || m)
-          → {top′ : ℕ} → (top ≤ top′) × (tag ≤ top′) → {low′ : ℕ} → (low′ ≤ low) × (low′ ≤ tag)
-          → LevelGoing b f s (p + from + size) sum′ mark′ top′ low′
-      entry-more {z = z} {m = m} t ea em et el =
-          let i = piece-stood in
-          turn-more g h (k .good z m t) (item-peek b f (g .seen) (drop p s) (i .it) (i .read) ∙ rw (i .tag-is, i .used-is)) (omega (arith, i .some)) (p + from + size) (add-assoc p from size) piece-room ea em et el
+    pub good-few : {z : Sizes} {m : Bool} → w ≡ Good z m → (sum .sheet + z .sheet ≤ 65536) × (sum .rows + z .rows ≤ 65536)
+    good-few {z = z} {m = m} t =
+        let y = k .good z m t .few in
+        (omega (arith, i .going .few .sheet, y .sheet, piece-room, i .most), omega (arith, i .going .few .rows, y .rows, piece-room, i .most))
+
+    pub entry-more : {z : Sizes} {m : Bool} → w ≡ Good z m → {sum′ : Sizes} → sum′ ≡ plusSizes sum z → {mark′ : Bool} → mark′ ≡ (mark || m)
+        → {top′ : ℕ} → (top ≤ top′) × (tag ≤ top′) → {low′ : ℕ} → (low′ ≤ low) × (low′ ≤ tag)
+        → LevelGoing b f s (p + from + size) sum′ mark′ top′ low′
+    entry-more {z = z} {m = m} t ea em et el =
+        let j = piece-stood in
+        turn-more (i .going) (i .here) (k .good z m t) (item-peek b f (i .going .seen) (drop p s) (j .it) (j .read) ∙ rw (j .tag-is, j .used-is)) (omega (arith, j .some)) (p + from + size) (add-assoc p from size) piece-room ea em et el

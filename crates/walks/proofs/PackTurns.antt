@@ -40,89 +40,99 @@ pub series-start : (f : Form) (s : List ℕ) → SeriesGoing f s 0 (sizes 0 0) 0
 unfolding seriesWalk
 series-start f s = going-start _ _ _ _ _ _ _ s (past-none true false s) refl
 
-module _ (f : Form) {s : List ℕ} {p : ℕ} {sum : Sizes} {top low : ℕ} (g : SeriesGoing f s p sum top low) (h : p < length s)
-    (a : Head) (ea : packHeadOf a ≡ packHead (take (length s - p) (drop p s))) where
-  pub here : packHeadOf a ≡ packHead (drop p s)
-  here = rw tail-part at ea
+module _ (f : Form) {s : List ℕ} {p : ℕ} {sum : Sizes} {top low : ℕ} (g : SeriesGoing f s p sum top low) (h : p < length s) where
+  pub head-fault : (a : Head) → packHeadOf a ≡ packHead (take (length s - p) (drop p s)) → {n : ℕ} {d : Piece} {r : Walked} → a ≡ heads.Fault n → d ≡ pieceFault a → r ≡ stopAt p d
+      → (r ≡ seriesWalk f s) × Within r (length s)
+  head-fault a ea {n = n} t ed e =
+      turn-bad g h n 0
+      (e ∙ ap (stopAt p) (ed ∙ ap pieceFault t) ∙ ap (Bad n) (sym (add-zero p)))
+      (pack-fault f (g .seen) (drop p s) n (sym (ap packHeadOf t) ∙ rw tail-part at ea))
+      (omega arith)
 
-  pub head-fault : {n : ℕ} {d : Piece} {r : Walked} → a ≡ heads.Fault n → d ≡ pieceFault a → r ≡ stopAt p d → (r ≡ seriesWalk f s) × Within r (length s)
-  head-fault {n = n} t ed e =
-      turn-bad g h n 0 (e ∙ ap (stopAt p) (ed ∙ ap pieceFault t) ∙ ap (Bad n) (sym (add-zero p))) (pack-fault f (g .seen) (drop p s) n (sym (ap packHeadOf t) ∙ here)) (omega arith)
+-- a pack whose head the code has read at p, in a series of no more bytes than a packet's
+pub record PackAt (f : Form) (s : List ℕ) (p : ℕ) (sum : Sizes) (top low k u w n : ℕ) : Type 0 where
+  pub going : SeriesGoing f s p sum top low
+  pub here : p < length s
+  pub it : Head
+  pub told : packHeadOf it ≡ packHead (take (length s - p) (drop p s))
+  pub is : it ≡ heads.Whole k u w n
+  pub bytes : Bytes s
+  pub most : length s ≤ 8192
 
-  module _ {k u w n : ℕ} (ta : a ≡ heads.Whole k u w n) where
-    pub whole : packHeadOf (heads.Whole k u w n) ≡ packHead (drop p s)
-    whole = sym (ap packHeadOf ta) ∙ here
+module _ {f : Form} {s : List ℕ} {p : ℕ} {sum : Sizes} {top low k u w n : ℕ} (i : PackAt f s p sum top low k u w n) where
+  pub whole : packHeadOf (heads.Whole k u w n) ≡ packHead (drop p s)
+  whole = sym (ap packHeadOf (i .is)) ∙ rw tail-part at (i .told)
 
-    pub head-stood : Bytes s → PackStood f (g .seen) (drop p s) k u w n whole
-    head-stood bs = pack-stood f (g .seen) (drop p s) k u w n whole (bytes-drop p s bs)
+  pub head-stood : PackStood f (i .going .seen) (drop p s) k u w n whole
+  head-stood = pack-stood f (i .going .seen) (drop p s) k u w n whole (bytes-drop p s (i .bytes))
 
-    pub head-room : Bytes s → p + w + n ≤ length s
-    head-room bs = omega (arith, head-stood bs .room, length-drop p s)
+  pub head-room : p + w + n ≤ length s
+  head-room = omega (arith, head-stood .room, length-drop p s)
 
-    -- x: a pack before it has this id
-    module _ {x : Bool} (ex : (seen : List ℕ) → Past true false s p top low seen → x ≡ has k seen) where
-      pub id-again : {r : Walked} → x ≡ true → r ≡ Bad 10 p → (r ≡ seriesWalk f s) × Within r (length s)
-      id-again t e =
-          turn-bad g h 10 0 (e ∙ ap (Bad 10) (sym (add-zero p))) (pack-10 f (g .seen) (drop p s) k u w n whole (sym t ∙ ex (g .seen) (g .past))) (omega arith)
+  -- x: a pack before it has this id
+  module _ {x : Bool} (ex : (seen : List ℕ) → Past true false s p top low seen → x ≡ has k seen) where
+    pub id-again : {r : Walked} → x ≡ true → r ≡ Bad 10 p → (r ≡ seriesWalk f s) × Within r (length s)
+    id-again t e =
+        turn-bad (i .going) (i .here) 10 0 (e ∙ ap (Bad 10) (sym (add-zero p))) (pack-10 f (i .going .seen) (drop p s) k u w n whole (sym t ∙ ex (i .going .seen) (i .going .past))) (omega arith)
 
-      module _ (tx : x ≡ false) (bs : Bytes s) where
-        first : false ≡ has k (g .seen)
-        first = sym tx ∙ ex (g .seen) (g .past)
+    module _ (tx : x ≡ false) where
+      first : false ≡ has k (i .going .seen)
+      first = sym tx ∙ ex (i .going .seen) (i .going .past)
 
-        -- the pack's items, as the code lends them and as document 01 has them
-        abbrev pub lent : List ℕ
-        lent = take (p + w + n - (p + w + u)) (drop (p + w + u) s)
+      -- the pack's items, as the code lends them and as document 01 has them
+      abbrev pub lent : List ℕ
+      lent = take (p + w + n - (p + w + u)) (drop (p + w + u) s)
 
-        lent-is : lent ≡ drop u (take n (drop w (drop p s)))
-        lent-is =
-            let z : p + w + n - (p + w + u) ≡ n - u = omega arith in
-            rw (z, drop-take u n (drop w (drop p s)), drop-drop u w (drop p s), drop-drop (w + u) p s, ← add-assoc p w u)
+      lent-is : lent ≡ drop u (take n (drop w (drop p s)))
+      lent-is =
+          let z : p + w + n - (p + w + u) ≡ n - u = omega arith in
+          rw (z, drop-take u n (drop w (drop p s)), drop-drop u w (drop p s), drop-drop (w + u) p s, ← add-assoc p w u)
 
-        pub lent-long : length lent ≡ n - u
-        lent-long = length-take-le (p + w + n - (p + w + u)) (drop (p + w + u) s) (rw length-drop (omega (arith, head-room bs))) ∙ omega (arith, head-stood bs .body)
+      pub lent-long : length lent ≡ n - u
+      lent-long = length-take-le (p + w + n - (p + w + u)) (drop (p + w + u) s) (rw length-drop (omega (arith, head-room))) ∙ omega (arith, head-stood .body)
 
-        module _ {y : Walked} (ey : (y ≡ levelWalk pack f lent) × Within y (length lent)) where
-          pub items-within : length s ≤ 8192 → Within y 8192 × (p + w + u ≤ 8192)
-          items-within l = (within-more y _ 8192 (omega (arith, lent-long, head-room bs)) (ey .1), omega (arith, head-room bs, head-stood bs .body))
+      module _ {y : Walked} (ey : (y ≡ levelWalk pack f lent) × Within y (length lent)) where
+        pub items-within : Within y 8192 × (p + w + u ≤ 8192)
+        items-within = (within-more y _ 8192 (omega (arith, lent-long, head-room, i .most)) (ey .1), omega (arith, head-room, head-stood .body, i .most))
 
-          pub items-fault : {m q : ℕ} {r : Walked} → y ≡ Bad m q → r ≡ laterBy (p + w + u) y → (r ≡ seriesWalk f s) × Within r (length s)
-          items-fault {m = m} {q = q} t e =
-              let j : Bad m q ≡ levelWalk pack f (drop u (take n (drop w (drop p s)))) = rw lent-is at (sym t ∙ ey .0) in
-              let l : q ≤ length lent = subst (λ v. Within v (length lent)) t (ey .1) in
-              let o : p + w + u + q ≡ p + (w + u + q) = omega arith in
-              turn-bad g h m (w + u + q) (e ∙ ap (laterBy (p + w + u)) t ∙ ap (Bad m) o) (pack-inside f (g .seen) (drop p s) k u w n whole first m q (items-bad f _ m q j))
-              (omega (arith, l, lent-long, head-room bs, head-stood bs .body))
+        pub items-fault : {m q : ℕ} {r : Walked} → y ≡ Bad m q → r ≡ laterBy (p + w + u) y → (r ≡ seriesWalk f s) × Within r (length s)
+        items-fault {m = m} {q = q} t e =
+            let j : Bad m q ≡ levelWalk pack f (drop u (take n (drop w (drop p s)))) = rw lent-is at (sym t ∙ ey .0) in
+            let l : q ≤ length lent = subst (λ v. Within v (length lent)) t (ey .1) in
+            let o : p + w + u + q ≡ p + (w + u + q) = omega arith in
+            turn-bad (i .going) (i .here) m (w + u + q) (e ∙ ap (laterBy (p + w + u)) t ∙ ap (Bad m) o) (pack-inside f (i .going .seen) (drop p s) k u w n whole first m q (items-bad f _ m q j))
+            (omega (arith, l, lent-long, head-room, head-stood .body))
 
-          module _ {z : Sizes} {m : Bool} (ty : y ≡ Good z m) where
-            few : (z .sheet ≤ 5 * (n - u)) × (z .rows ≤ n - u)
-            few = rw lent-long at (subst (λ v. Within v (length lent)) ty (ey .1))
+        module _ {z : Sizes} {m : Bool} (ty : y ≡ Good z m) where
+          few : (z .sheet ≤ 5 * (n - u)) × (z .rows ≤ n - u)
+          few = rw lent-long at (subst (λ v. Within v (length lent)) ty (ey .1))
 
-            good : Good z m ≡ levelWalk pack f (drop u (take n (drop w (drop p s))))
-            good = rw lent-is at (sym ty ∙ ey .0)
+          good : Good z m ≡ levelWalk pack f (drop u (take n (drop w (drop p s))))
+          good = rw lent-is at (sym ty ∙ ey .0)
 
-            -- v: no location is wanted, or there is one
-            module _ {v : Bool} (ev : v ≡ (not (isAlone f) || m)) where
-              pub no-location : {r : Walked} → v ≡ false → r ≡ Bad 14 p → (r ≡ seriesWalk f s) × Within r (length s)
-              no-location tv e =
-                  items-good f _ z m good λ is ei ez em.
-                  turn-bad g h 14 0 (e ∙ ap (Bad 14) (sym (add-zero p))) (pack-14 f (g .seen) (drop p s) k u w n whole first is ei (rw em (sym ev ∙ tv))) (omega arith)
+          -- v: no location is wanted, or there is one
+          module _ {v : Bool} (ev : v ≡ (not (isAlone f) || m)) where
+            pub no-location : {r : Walked} → v ≡ false → r ≡ Bad 14 p → (r ≡ seriesWalk f s) × Within r (length s)
+            no-location tv e =
+                items-good f _ z m good λ is ei ez em.
+                turn-bad (i .going) (i .here) 14 0 (e ∙ ap (Bad 14) (sym (add-zero p))) (pack-14 f (i .going .seen) (drop p s) k u w n whole first is ei (rw em (sym ev ∙ tv))) (omega arith)
 
-              pub pack-few : length s ≤ 8192 → (sum .sheet + (10 + z .sheet) ≤ 65536) × (sum .rows + (1 + z .rows) ≤ 65536)
-              pack-few l =
-                  let i = head-stood bs in
-                  (omega (arith, g .few .sheet, few .0, i .body, head-room bs), omega (arith, g .few .rows, few .1, i .body, head-room bs))
+            pub pack-few : (sum .sheet + (10 + z .sheet) ≤ 65536) × (sum .rows + (1 + z .rows) ≤ 65536)
+            pack-few =
+                let j = head-stood in
+                (omega (arith, i .going .few .sheet, few .0, j .body, head-room, i .most), omega (arith, i .going .few .rows, few .1, j .body, head-room, i .most))
 
-              pub pack-more : v ≡ true → {sum′ : Sizes} → sum′ ≡ plusSizes sum (packSizes z) → {top′ : ℕ} → (top ≤ top′) × (k ≤ top′) → {low′ : ℕ} → (low′ ≤ low) × (low′ ≤ k)
-                  → SeriesGoing f s (p + w + n) sum′ top′ low′
-              pack-more tv es et el =
-                  items-good f _ z m good λ is ei ez em.
-                  let i = head-stood bs in
-                  let read : Reads weightOfPack (λ p. false) idOfPack (onePack f (g .seen) (drop p s)) k (w + n) (packSizes z) false = record {
-                    it = record { width = w; id = k; items = is .val };
-                    reads = pack-good f (g .seen) (drop p s) k u w n whole first is ei (rw em (sym ev ∙ tv));
-                    key-is = refl;
-                    weighs = ap packSizes ez;
-                    marks = refl;
-                    few = record { sheet = omega (arith, few .0, i .len, i .key, i .body); rows = omega (arith, few .1, i .len, i .key, i .body) };
-                  } in
-                  turn-more g h read (pack-peek f (g .seen) (drop p s) k u w n whole false) (omega (arith, i .len)) (p + w + n) (add-assoc p w n) (head-room bs) es refl et el
+            pub pack-more : v ≡ true → {sum′ : Sizes} → sum′ ≡ plusSizes sum (packSizes z) → {top′ : ℕ} → (top ≤ top′) × (k ≤ top′) → {low′ : ℕ} → (low′ ≤ low) × (low′ ≤ k)
+                → SeriesGoing f s (p + w + n) sum′ top′ low′
+            pack-more tv es et el =
+                items-good f _ z m good λ is ei ez em.
+                let j = head-stood in
+                let read : Reads weightOfPack (λ p. false) idOfPack (onePack f (i .going .seen) (drop p s)) k (w + n) (packSizes z) false = record {
+                  it = record { width = w; id = k; items = is .val };
+                  reads = pack-good f (i .going .seen) (drop p s) k u w n whole first is ei (rw em (sym ev ∙ tv));
+                  key-is = refl;
+                  weighs = ap packSizes ez;
+                  marks = refl;
+                  few = record { sheet = omega (arith, few .0, j .len, j .key, j .body); rows = omega (arith, few .1, j .len, j .key, j .body) };
+                } in
+                turn-more (i .going) (i .here) read (pack-peek f (i .going .seen) (drop p s) k u w n whole false) (omega (arith, j .len)) (p + w + n) (add-assoc p w n) (head-room) es refl et el

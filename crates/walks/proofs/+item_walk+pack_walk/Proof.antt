@@ -12,8 +12,8 @@ use borrow.Fn.PlainCycle.{Measures, is, falls, and}
 use Rattle.format.specs.Table.{isAlone}
 use Rattle.items.specs.Meet.{formOf}
 use Rattle.walks.proofs.Turns.{turn-done}
-use Rattle.walks.proofs.ItemTurns.{LevelGoing, level-start, depth, series-deep, value-long, item-fault, piece-stood, piece-room, EntryTold, item-told, series-within, series-told, entry-bad, bad-within, good-few, entry-more}
-use Rattle.walks.proofs.PackTurns.{SeriesGoing, lent-long, series-start, head-fault, head-stood, head-room, id-again, items-within, items-fault, no-location, pack-few, pack-more}
+use Rattle.walks.proofs.ItemTurns.{ItemAt, LevelGoing, level-start, depth, series-deep, value-long, item-fault, piece-stood, piece-room, EntryTold, item-told, series-within, series-told, entry-bad, bad-within, good-few, entry-more}
+use Rattle.walks.proofs.PackTurns.{PackAt, SeriesGoing, lent-long, series-start, head-fault, head-stood, head-room, id-again, items-within, items-fault, no-location, pack-few, pack-more}
 use Rattle.walks.proofs.item_walk.Reads as item-walk
 use Rattle.walks.proofs.item_walk.Kinds as item-walk-kinds
 use Rattle.walks.proofs.+item_walk+pack_walk.Lts-item_walk as item-walk-lts
@@ -72,18 +72,31 @@ item-walk-Inv-loop s set alone p₀ sum₀ mark₀ top₀ low₀ p sum mark top 
 abbrev item-walk-μ-loop : item-walk-lts.MeasureT-loop
 item-walk-μ-loop s set alone p₀ sum₀ mark₀ top₀ low₀ p sum mark top low = length s - p
 
--- an item lies within the bytes lent
+-- an item, where it was read
+item-here : (t : ℕ) (a : item-walk-lts.After-a (item-claims t) (item-walk-at t) item-walk.Post item-walk-Inv-loop item-walk-μ-loop)
+    → ItemAt (a .before .before .before .before .before .before .args .set) (formOf (a .before .before .before .before .before .before .args .alone)) (a .before .before .before .before .before .before .args .s .now) (a .before .before .before .before .loop .p) (a .before .before .before .before .loop .sum) (a .before .before .before .before .loop .mark) (a .before .before .before .before .loop .top) (a .before .before .before .before .loop .low) (a .a .given .0 .0) (a .a .given .0 .1 .0) (a .a .given .0 .1 .1 .0) (a .a .given .0 .1 .1 .1 .0)
+item-here t a = record {
+  going = a .before .before .before .before .loop .inv;
+  here = a .before .before .before .loop-test .taken;
+  it = a .before .before .item-at .result;
+  told = a .before .before .item-at .ensures;
+  whole = a .a .given .1;
+  bytes = λ i. a .before .before .before .before .before .shared-slice-known .given i .fits;
+  most = a .before .before .before .before .before .before .pre .1;
+}
+
+-- it lies within the bytes lent
 item-room : (t : ℕ) (a : item-walk-lts.After-a (item-claims t) (item-walk-at t) item-walk.Post item-walk-Inv-loop item-walk-μ-loop)
     → a .before .before .before .before .loop .p + a .a .given .0 .1 .0 + a .a .given .0 .1 .1 .0 ≤ length (a .before .before .before .before .before .before .args .s .now)
-item-room t a = piece-room _ (a .before .before .before .before .loop .inv) (a .before .before .before .loop-test .taken) (a .before .before .item-at .ensures) (a .a .given .1) (λ i. a .before .before .before .before .before .shared-slice-known .given i .fits)
+item-room t a = piece-room (item-here t a)
 
 -- what one entry says, whichever way it was walked
-item-told-at : (t : ℕ) (j : item-walk-lts.Joined1 (item-claims t) (item-walk-at t) item-walk.Post item-walk-Inv-loop item-walk-μ-loop) → EntryTold _ (j .before .before .before .before .before .before .before .loop .inv) (j .before .before .before .before .before .before .loop-test .taken) (j .before .before .before .before .before .item-at .ensures) (j .before .before .before .a .given .1) (λ i. j .before .before .before .before .before .before .before .before .shared-slice-known .given i .fits) (j .if1 .w)
+item-told-at : (t : ℕ) (j : item-walk-lts.Joined1 (item-claims t) (item-walk-at t) item-walk.Post item-walk-Inv-loop item-walk-μ-loop) → EntryTold (item-here t (j .before .before .before)) (j .if1 .w)
 item-told-at t j =
     let a = j .before .before .before in
     ⊎-elim
-    (λ x. series-told _ (a .before .before .before .before .loop .inv) (a .before .before .before .loop-test .taken) (a .before .before .item-at .ensures) (a .a .given .1) (λ i. a .before .before .before .before .before .shared-slice-known .given i .fits) (j .before .is-series .ensures) (x .0 .taken) (x .2 .ensures) (x .4 ∙ x .3 .ensures))
-    (λ x. item-told _ (a .before .before .before .before .loop .inv) (a .before .before .before .loop-test .taken) (a .before .before .item-at .ensures) (a .a .given .1) (λ i. a .before .before .before .before .before .shared-slice-known .given i .fits) (j .before .is-series .ensures) (x .0 .left) (x .2 ∙ x .1 .ensures))
+    (λ x. series-told (item-here t a) (j .before .is-series .ensures) (x .0 .taken) (x .2 .ensures) (x .4 ∙ x .3 .ensures))
+    (λ x. item-told (item-here t a) (j .before .is-series .ensures) (x .0 .left) (x .2 ∙ x .1 .ensures))
     (j .if1 .came)
 
 item-walk-loop-holds : (t : ℕ) → item-walk-lts.Need-loop-holds (item-claims t) (item-walk-at t) item-walk.Post item-walk-Inv-loop item-walk-μ-loop
@@ -126,18 +139,18 @@ item-walk-pack-walk-requires : (t : ℕ) → item-walk-lts.Need-pack-walk-requir
 item-walk-pack-walk-requires t c κs =
     let a = c .before .before .before .before in (
       omega (arith, series-deep (a .before .before .before .before .before .before .args .set) (a .a .given .0 .0) (c .before .before .is-series .ensures) (c .before .if1 .taken), a .before .before .before .before .before .before .pre .0),
-      omega (arith, value-long _ (a .before .before .before .before .loop .inv) (a .before .before .before .loop-test .taken) (a .before .before .item-at .ensures) (a .a .given .1) (λ i. a .before .before .before .before .before .shared-slice-known .given i .fits), item-room t a, a .before .before .before .before .before .before .pre .1),
+      omega (arith, value-long (item-here t a), item-room t a, a .before .before .before .before .before .before .pre .1),
     )
 
 item-walk-series-of-requires : (t : ℕ) → item-walk-lts.Need-series-of-requires (item-claims t) (item-walk-at t) item-walk.Post item-walk-Inv-loop item-walk-μ-loop
 item-walk-series-of-requires t c κs =
     let a = c .before .before .before .before .before in
-    series-within _ (a .before .before .before .before .loop .inv) (a .before .before .before .loop-test .taken) (a .before .before .item-at .ensures) (a .a .given .1) (λ i. a .before .before .before .before .before .shared-slice-known .given i .fits) (c .pack-walk .result) (a .before .before .before .before .before .before .pre .1) (c .pack-walk .ensures .1)
+    series-within (item-here t a) (c .pack-walk .result) (c .pack-walk .ensures .1)
 
 item-walk-one-item-requires : (t : ℕ) → item-walk-lts.Need-one-item-requires (item-claims t) (item-walk-at t) item-walk.Post item-walk-Inv-loop item-walk-μ-loop
 item-walk-one-item-requires t c κs =
     let a = c .before .before .before in
-    let k = piece-stood _ (a .before .before .before .before .loop .inv) (a .before .before .before .loop-test .taken) (a .before .before .item-at .ensures) (a .a .given .1) (λ i. a .before .before .before .before .before .shared-slice-known .given i .fits) in
+    let k = piece-stood (item-here t a) in
     omega (arith, k .short-less, item-room t a, a .before .before .before .before .before .before .pre .1)
 
 item-walk-enum-known-w : (t : ℕ) → item-walk-lts.Need-enum-known-w (item-claims t) (item-walk-at t) item-walk.Post item-walk-Inv-loop item-walk-μ-loop
@@ -149,17 +162,17 @@ item-walk-enum-told-2 t c = search needs
 item-walk-later-requires : (t : ℕ) → item-walk-lts.Need-later-requires (item-claims t) (item-walk-at t) item-walk.Post item-walk-Inv-loop item-walk-μ-loop
 item-walk-later-requires t c κs =
     let a = c .before .before .before .before .before in
-    bad-within _ (a .before .before .before .before .loop .inv) (a .before .before .before .loop-test .taken) (a .before .before .item-at .ensures) (a .a .given .1) (λ i. a .before .before .before .before .before .shared-slice-known .given i .fits) (item-told-at t (c .before .before)) (a .before .before .before .before .before .before .pre .1) (c .enum-told2 .given .1)
+    bad-within (item-here t a) (item-told-at t (c .before .before)) (c .enum-told2 .given .1)
 
 item-walk-returns-2 : (t : ℕ) → item-walk-lts.Need-returns-2 (item-claims t) (item-walk-at t) item-walk.Post item-walk-Inv-loop item-walk-μ-loop
 item-walk-returns-2 t c =
     let a = c .before .before .before .before .before .before in
-    entry-bad _ (a .before .before .before .before .loop .inv) (a .before .before .before .loop-test .taken) (a .before .before .item-at .ensures) (a .a .given .1) (λ i. a .before .before .before .before .before .shared-slice-known .given i .fits) (item-told-at t (c .before .before .before)) (c .before .enum-told2 .given .1) (c .later .ensures)
+    entry-bad (item-here t a) (item-told-at t (c .before .before .before)) (c .before .enum-told2 .given .1) (c .later .ensures)
 
 item-walk-plus-requires : (t : ℕ) → item-walk-lts.Need-plus-requires (item-claims t) (item-walk-at t) item-walk.Post item-walk-Inv-loop item-walk-μ-loop
 item-walk-plus-requires t c κs =
     let a = c .before .before .before .before .before .before in
-    good-few _ (a .before .before .before .before .loop .inv) (a .before .before .before .loop-test .taken) (a .before .before .item-at .ensures) (a .a .given .1) (λ i. a .before .before .before .before .before .shared-slice-known .given i .fits) (item-told-at t (c .before .before .before)) (a .before .before .before .before .before .before .pre .1) (c .before .w .given .1)
+    good-few (item-here t a) (item-told-at t (c .before .before .before)) (c .before .w .given .1)
 
 item-walk-either-requires : (t : ℕ) → item-walk-lts.Need-either-requires (item-claims t) (item-walk-at t) item-walk.Post item-walk-Inv-loop item-walk-μ-loop
 item-walk-either-requires t c κs = search needs
@@ -173,13 +186,13 @@ item-walk-smaller-requires t c κs = search needs
 item-walk-loop-less : (t : ℕ) → item-walk-lts.Need-loop-less (item-claims t) (item-walk-at t) item-walk.Post item-walk-Inv-loop item-walk-μ-loop
 item-walk-loop-less t c =
     let a = c .before .before .before .before .before .before .before .before .before .before in
-    let k = piece-stood _ (a .before .before .before .before .loop .inv) (a .before .before .before .loop-test .taken) (a .before .before .item-at .ensures) (a .a .given .1) (λ i. a .before .before .before .before .before .shared-slice-known .given i .fits) in
+    let k = piece-stood (item-here t a) in
     omega (arith, k .some, a .before .before .before .loop-test .taken)
 
 item-walk-loop-again : (t : ℕ) → item-walk-lts.Need-loop-again (item-claims t) (item-walk-at t) item-walk.Post item-walk-Inv-loop item-walk-μ-loop
 item-walk-loop-again t c =
     let a = c .before .before .before .before .before .before .before .before .before .before in
-    entry-more _ (a .before .before .before .before .loop .inv) (a .before .before .before .loop-test .taken) (a .before .before .item-at .ensures) (a .a .given .1) (λ i. a .before .before .before .before .before .shared-slice-known .given i .fits) (item-told-at t (c .before .before .before .before .before .before .before)) (c .before .before .before .before .before .w .given .1) (c .before .before .before .plus .ensures) (c .before .before .either .ensures) (c .before .larger .ensures) (c .smaller .ensures)
+    entry-more (item-here t a) (item-told-at t (c .before .before .before .before .before .before .before)) (c .before .before .before .before .before .w .given .1) (c .before .before .before .plus .ensures) (c .before .before .either .ensures) (c .before .larger .ensures) (c .smaller .ensures)
 
 item-walk-returns-3 : (t : ℕ) → item-walk-lts.Need-returns-3 (item-claims t) (item-walk-at t) item-walk.Post item-walk-Inv-loop item-walk-μ-loop
 item-walk-returns-3 t c = turn-done (c .before .loop .inv) (c .loop-test .left)
@@ -192,13 +205,26 @@ pack-walk-Inv-loop s alone p₀ sum₀ top₀ low₀ p sum top low = SeriesGoing
 abbrev pack-walk-μ-loop : pack-walk-lts.MeasureT-loop
 pack-walk-μ-loop s alone p₀ sum₀ top₀ low₀ p sum top low = length s - p
 
--- a pack lies within the bytes lent, and its id within the pack
+-- a pack, where its head was read
+pack-here : (t : ℕ) (a : pack-walk-lts.After-h (pack-claims t) (pack-walk-at t) pack-walk.Post pack-walk-Inv-loop pack-walk-μ-loop)
+    → PackAt (formOf (a .before .before .before .before .before .before .before .args .alone)) (a .before .before .before .before .before .before .before .args .s .now) (a .before .before .before .before .before .loop .p) (a .before .before .before .before .before .loop .sum) (a .before .before .before .before .before .loop .top) (a .before .before .before .before .before .loop .low) (a .h .given .0 .0) (a .h .given .0 .1 .0) (a .h .given .0 .1 .1 .0) (a .h .given .0 .1 .1 .1 .0)
+pack-here t a = record {
+  going = a .before .before .before .before .before .loop .inv;
+  here = a .before .before .before .before .loop-test .taken;
+  it = a .before .before .pack-head .result;
+  told = a .before .before .pack-head .ensures;
+  is = a .h .given .1;
+  bytes = λ i. a .before .before .before .before .before .before .shared-slice-known .given i .fits;
+  most = a .before .before .before .before .before .before .before .pre .1;
+}
+
+-- it lies within the bytes lent, and its id within the pack
 pack-room : (t : ℕ) (a : pack-walk-lts.After-h (pack-claims t) (pack-walk-at t) pack-walk.Post pack-walk-Inv-loop pack-walk-μ-loop)
     → a .before .before .before .before .before .loop .p + a .h .given .0 .1 .1 .0 + a .h .given .0 .1 .1 .1 .0 ≤ length (a .before .before .before .before .before .before .before .args .s .now)
-pack-room t a = head-room _ (a .before .before .before .before .before .loop .inv) (a .before .before .before .before .loop-test .taken) _ (a .before .before .pack-head .ensures) (a .h .given .1) (λ i. a .before .before .before .before .before .before .shared-slice-known .given i .fits)
+pack-room t a = head-room (pack-here t a)
 
 pack-body : (t : ℕ) (a : pack-walk-lts.After-h (pack-claims t) (pack-walk-at t) pack-walk.Post pack-walk-Inv-loop pack-walk-μ-loop) → a .h .given .0 .1 .0 ≤ a .h .given .0 .1 .1 .1 .0
-pack-body t a = head-stood _ (a .before .before .before .before .before .loop .inv) (a .before .before .before .before .loop-test .taken) _ (a .before .before .pack-head .ensures) (a .h .given .1) (λ i. a .before .before .before .before .before .before .shared-slice-known .given i .fits) .body
+pack-body t a = head-stood (pack-here t a) .body
 
 -- `either(!alone, mark)`, of the form
 either-is : (alone m : Bool) {v : Bool} → v ≡ (not alone || m) → v ≡ (not (isAlone (formOf alone)) || m)
@@ -241,7 +267,7 @@ pack-walk-is-seen-requires t c κs = search needs
 pack-walk-returns-2 : (t : ℕ) → pack-walk-lts.Need-returns-2 (pack-claims t) (pack-walk-at t) pack-walk.Post pack-walk-Inv-loop pack-walk-μ-loop
 pack-walk-returns-2 t c =
     let a = c .before .before .before in
-    id-again _ (a .before .before .before .before .before .loop .inv) (a .before .before .before .before .loop-test .taken) _ (a .before .before .pack-head .ensures) (a .h .given .1) (c .before .is-seen .ensures) (c .if1 .taken) refl
+    id-again (pack-here t a) (c .before .is-seen .ensures) (c .if1 .taken) refl
 
 pack-walk-add-from : (t : ℕ) → pack-walk-lts.Need-add-from (pack-claims t) (pack-walk-at t) pack-walk.Post pack-walk-Inv-loop pack-walk-μ-loop
 pack-walk-add-from t c =
@@ -282,7 +308,7 @@ pack-walk-item-walk-requires : (t : ℕ) → pack-walk-lts.Need-item-walk-requir
 pack-walk-item-walk-requires t c κs =
     let e = c .before in
     let a = e .before .before .before in
-    (omega (arith, a .before .before .before .before .before .before .before .pre .0), omega (arith, lent-long _ (a .before .before .before .before .before .loop .inv) (a .before .before .before .before .loop-test .taken) _ (a .before .before .pack-head .ensures) (a .h .given .1) (e .before .is-seen .ensures) (e .if1 .left) (λ i. a .before .before .before .before .before .before .shared-slice-known .given i .fits), pack-room t a, a .before .before .before .before .before .before .before .pre .1))
+    (omega (arith, a .before .before .before .before .before .before .before .pre .0), omega (arith, lent-long (pack-here t a) (e .before .is-seen .ensures) (e .if1 .left), pack-room t a, a .before .before .before .before .before .before .before .pre .1))
 
 pack-walk-enum-known-w : (t : ℕ) → pack-walk-lts.Need-enum-known-w (pack-claims t) (pack-walk-at t) pack-walk.Post pack-walk-Inv-loop pack-walk-μ-loop
 pack-walk-enum-known-w t c = search needs
@@ -294,13 +320,13 @@ pack-walk-later-requires : (t : ℕ) → pack-walk-lts.Need-later-requires (pack
 pack-walk-later-requires t c κs =
     let e = c .before .before .before .before in
     let a = e .before .before .before in
-    items-within _ (a .before .before .before .before .before .loop .inv) (a .before .before .before .before .loop-test .taken) _ (a .before .before .pack-head .ensures) (a .h .given .1) (e .before .is-seen .ensures) (e .if1 .left) (λ i. a .before .before .before .before .before .before .shared-slice-known .given i .fits) (c .before .before .item-walk .ensures) (a .before .before .before .before .before .before .before .pre .1)
+    items-within (pack-here t a) (e .before .is-seen .ensures) (e .if1 .left) (c .before .before .item-walk .ensures)
 
 pack-walk-returns-3 : (t : ℕ) → pack-walk-lts.Need-returns-3 (pack-claims t) (pack-walk-at t) pack-walk.Post pack-walk-Inv-loop pack-walk-μ-loop
 pack-walk-returns-3 t c =
     let e = c .before .before .before .before .before in
     let a = e .before .before .before in
-    items-fault _ (a .before .before .before .before .before .loop .inv) (a .before .before .before .before .loop-test .taken) _ (a .before .before .pack-head .ensures) (a .h .given .1) (e .before .is-seen .ensures) (e .if1 .left) (λ i. a .before .before .before .before .before .before .shared-slice-known .given i .fits) (c .before .before .before .item-walk .ensures) (c .before .enum-told2 .given .1) (c .later .ensures)
+    items-fault (pack-here t a) (e .before .is-seen .ensures) (e .if1 .left) (c .before .before .before .item-walk .ensures) (c .before .enum-told2 .given .1) (c .later .ensures)
 
 pack-walk-either-requires : (t : ℕ) → pack-walk-lts.Need-either-requires (pack-claims t) (pack-walk-at t) pack-walk.Post pack-walk-Inv-loop pack-walk-μ-loop
 pack-walk-either-requires t c κs = search needs
@@ -309,21 +335,21 @@ pack-walk-add-t28 : (t : ℕ) → pack-walk-lts.Need-add-t28 (pack-claims t) (pa
 pack-walk-add-t28 t c =
     let e = c .before .before .before .before .before .before .before .before in
     let a = e .before .before .before in
-    let k = pack-few _ (a .before .before .before .before .before .loop .inv) (a .before .before .before .before .loop-test .taken) _ (a .before .before .pack-head .ensures) (a .h .given .1) (e .before .is-seen .ensures) (e .if1 .left) (λ i. a .before .before .before .before .before .before .shared-slice-known .given i .fits) (c .before .before .before .before .before .before .item-walk .ensures) (c .before .before .before .before .w .given .1) (either-is (a .before .before .before .before .before .before .before .args .alone) _ (c .before .before .either .ensures)) (a .before .before .before .before .before .before .before .pre .1) in
+    let k = pack-few (pack-here t a) (e .before .is-seen .ensures) (e .if1 .left) (c .before .before .before .before .before .before .item-walk .ensures) (c .before .before .before .before .w .given .1) (either-is (a .before .before .before .before .before .before .before .args .alone) _ (c .before .before .either .ensures)) in
     omega (arith, k)
 
 pack-walk-add-t29 : (t : ℕ) → pack-walk-lts.Need-add-t29 (pack-claims t) (pack-walk-at t) pack-walk.Post pack-walk-Inv-loop pack-walk-μ-loop
 pack-walk-add-t29 t c =
     let e = c .before .before .before .before .before .before .before .before .before in
     let a = e .before .before .before in
-    let k = pack-few _ (a .before .before .before .before .before .loop .inv) (a .before .before .before .before .loop-test .taken) _ (a .before .before .pack-head .ensures) (a .h .given .1) (e .before .is-seen .ensures) (e .if1 .left) (λ i. a .before .before .before .before .before .before .shared-slice-known .given i .fits) (c .before .before .before .before .before .before .before .item-walk .ensures) (c .before .before .before .before .before .w .given .1) (either-is (a .before .before .before .before .before .before .before .args .alone) _ (c .before .before .before .either .ensures)) (a .before .before .before .before .before .before .before .pre .1) in
+    let k = pack-few (pack-here t a) (e .before .is-seen .ensures) (e .if1 .left) (c .before .before .before .before .before .before .before .item-walk .ensures) (c .before .before .before .before .before .w .given .1) (either-is (a .before .before .before .before .before .before .before .args .alone) _ (c .before .before .before .either .ensures)) in
     omega (arith, k)
 
 pack-walk-plus-requires : (t : ℕ) → pack-walk-lts.Need-plus-requires (pack-claims t) (pack-walk-at t) pack-walk.Post pack-walk-Inv-loop pack-walk-μ-loop
 pack-walk-plus-requires t c κs =
     let e = c .before .before .before .before .before .before .before .before .before in
     let a = e .before .before .before in
-    pack-few _ (a .before .before .before .before .before .loop .inv) (a .before .before .before .before .loop-test .taken) _ (a .before .before .pack-head .ensures) (a .h .given .1) (e .before .is-seen .ensures) (e .if1 .left) (λ i. a .before .before .before .before .before .before .shared-slice-known .given i .fits) (c .before .before .before .before .before .before .before .item-walk .ensures) (c .before .before .before .before .before .w .given .1) (either-is (a .before .before .before .before .before .before .before .args .alone) _ (c .before .before .before .either .ensures)) (a .before .before .before .before .before .before .before .pre .1)
+    pack-few (pack-here t a) (e .before .is-seen .ensures) (e .if1 .left) (c .before .before .before .before .before .before .before .item-walk .ensures) (c .before .before .before .before .before .w .given .1) (either-is (a .before .before .before .before .before .before .before .args .alone) _ (c .before .before .before .either .ensures))
 
 pack-walk-larger-requires : (t : ℕ) → pack-walk-lts.Need-larger-requires (pack-claims t) (pack-walk-at t) pack-walk.Post pack-walk-Inv-loop pack-walk-μ-loop
 pack-walk-larger-requires t c κs = search needs
@@ -334,20 +360,20 @@ pack-walk-smaller-requires t c κs = search needs
 pack-walk-loop-less : (t : ℕ) → pack-walk-lts.Need-loop-less (pack-claims t) (pack-walk-at t) pack-walk.Post pack-walk-Inv-loop pack-walk-μ-loop
 pack-walk-loop-less t c =
     let a = c .before .before .before .before .before .before .before .before .before .before .before .before .before .before .before in
-    let k = head-stood _ (a .before .before .before .before .before .loop .inv) (a .before .before .before .before .loop-test .taken) _ (a .before .before .pack-head .ensures) (a .h .given .1) (λ i. a .before .before .before .before .before .before .shared-slice-known .given i .fits) in
+    let k = head-stood (pack-here t a) in
     omega (arith, k .len, a .before .before .before .before .loop-test .taken)
 
 pack-walk-loop-again : (t : ℕ) → pack-walk-lts.Need-loop-again (pack-claims t) (pack-walk-at t) pack-walk.Post pack-walk-Inv-loop pack-walk-μ-loop
 pack-walk-loop-again t c =
     let e = c .before .before .before .before .before .before .before .before .before .before .before .before in
     let a = e .before .before .before in
-    pack-more _ (a .before .before .before .before .before .loop .inv) (a .before .before .before .before .loop-test .taken) _ (a .before .before .pack-head .ensures) (a .h .given .1) (e .before .is-seen .ensures) (e .if1 .left) (λ i. a .before .before .before .before .before .before .shared-slice-known .given i .fits) (c .before .before .before .before .before .before .before .before .before .before .item-walk .ensures) (c .before .before .before .before .before .before .before .before .w .given .1) (either-is (a .before .before .before .before .before .before .before .args .alone) _ (c .before .before .before .before .before .before .either .ensures)) (c .before .before .before .before .before .if2 .taken) (c .before .before .plus .ensures) (c .before .larger .ensures) (c .smaller .ensures)
+    pack-more (pack-here t a) (e .before .is-seen .ensures) (e .if1 .left) (c .before .before .before .before .before .before .before .before .before .before .item-walk .ensures) (c .before .before .before .before .before .before .before .before .w .given .1) (either-is (a .before .before .before .before .before .before .before .args .alone) _ (c .before .before .before .before .before .before .either .ensures)) (c .before .before .before .before .before .if2 .taken) (c .before .before .plus .ensures) (c .before .larger .ensures) (c .smaller .ensures)
 
 pack-walk-returns-4 : (t : ℕ) → pack-walk-lts.Need-returns-4 (pack-claims t) (pack-walk-at t) pack-walk.Post pack-walk-Inv-loop pack-walk-μ-loop
 pack-walk-returns-4 t c =
     let e = c .before .before .before .before .before .before .before in
     let a = e .before .before .before in
-    no-location _ (a .before .before .before .before .before .loop .inv) (a .before .before .before .before .loop-test .taken) _ (a .before .before .pack-head .ensures) (a .h .given .1) (e .before .is-seen .ensures) (e .if1 .left) (λ i. a .before .before .before .before .before .before .shared-slice-known .given i .fits) (c .before .before .before .before .before .item-walk .ensures) (c .before .before .before .w .given .1) (either-is (a .before .before .before .before .before .before .before .args .alone) _ (c .before .either .ensures)) (c .if2 .left) refl
+    no-location (pack-here t a) (e .before .is-seen .ensures) (e .if1 .left) (c .before .before .before .before .before .item-walk .ensures) (c .before .before .before .w .given .1) (either-is (a .before .before .before .before .before .before .before .args .alone) _ (c .before .either .ensures)) (c .if2 .left) refl
 
 pack-walk-returns-5 : (t : ℕ) → pack-walk-lts.Need-returns-5 (pack-claims t) (pack-walk-at t) pack-walk.Post pack-walk-Inv-loop pack-walk-μ-loop
 pack-walk-returns-5 t c = turn-done (c .before .loop .inv) (c .loop-test .left)
@@ -356,64 +382,20 @@ pub +item-walk+pack-walk-spec : {M : Type 1} → statement M
 +item-walk+pack-walk-spec =
     close μ-item-walk μ-pack-walk
     (λ t. item-walk-lts.spec (item-claims t) (item-walk-at t) item-walk.Post item-walk-Inv-loop item-walk-μ-loop
-    (item-walk-loop-holds t)
-    (item-walk-item-at-requires t)
-    (item-walk-enum-known-a t)
-    (item-walk-enum-told t)
-    (item-walk-stop-requires t)
-    (item-walk-returns t)
-    (item-walk-add-at t)
-    (item-walk-add-next t)
-    (item-walk-is-series-requires t)
-    (item-walk-sub-pack-walk t)
-    (item-walk-part-pack-walk-start t)
-    (item-walk-part-pack-walk-end t)
-    (item-walk-pack-walk-requires t)
-    (item-walk-series-of-requires t)
-    (item-walk-one-item-requires t)
-    (item-walk-enum-known-w t)
-    (item-walk-enum-told-2 t)
-    (item-walk-later-requires t)
-    (item-walk-returns-2 t)
-    (item-walk-plus-requires t)
-    (item-walk-either-requires t)
-    (item-walk-larger-requires t)
-    (item-walk-smaller-requires t)
-    (item-walk-loop-less t)
-    (item-walk-loop-again t)
-    (item-walk-returns-3 t))
+    (item-walk-loop-holds t) (item-walk-item-at-requires t) (item-walk-enum-known-a t) (item-walk-enum-told t)
+    (item-walk-stop-requires t) (item-walk-returns t) (item-walk-add-at t) (item-walk-add-next t)
+    (item-walk-is-series-requires t) (item-walk-sub-pack-walk t) (item-walk-part-pack-walk-start t) (item-walk-part-pack-walk-end t)
+    (item-walk-pack-walk-requires t) (item-walk-series-of-requires t) (item-walk-one-item-requires t) (item-walk-enum-known-w t)
+    (item-walk-enum-told-2 t) (item-walk-later-requires t) (item-walk-returns-2 t) (item-walk-plus-requires t)
+    (item-walk-either-requires t) (item-walk-larger-requires t) (item-walk-smaller-requires t) (item-walk-loop-less t)
+    (item-walk-loop-again t) (item-walk-returns-3 t))
     (λ t. pack-walk-lts.spec (pack-claims t) (pack-walk-at t) pack-walk.Post pack-walk-Inv-loop pack-walk-μ-loop
-    (pack-walk-loop-holds t)
-    (pack-walk-sub-pack-head t)
-    (pack-walk-part-pack-head-start t)
-    (pack-walk-part-pack-head-end t)
-    (pack-walk-pack-head-requires t)
-    (pack-walk-enum-known-h t)
-    (pack-walk-enum-told t)
-    (pack-walk-piece-fault-requires t)
-    (pack-walk-stop-requires t)
-    (pack-walk-returns t)
-    (pack-walk-is-seen-requires t)
-    (pack-walk-returns-2 t)
-    (pack-walk-add-from t)
-    (pack-walk-add-from-2 t)
-    (pack-walk-add-next t)
-    (pack-walk-add-next-2 t)
-    (pack-walk-sub-item-walk t)
-    (pack-walk-part-item-walk-start t)
-    (pack-walk-part-item-walk-end t)
-    (pack-walk-item-walk-requires t)
-    (pack-walk-enum-known-w t)
-    (pack-walk-enum-told-2 t)
-    (pack-walk-later-requires t)
-    (pack-walk-returns-3 t)
-    (pack-walk-either-requires t)
-    (pack-walk-add-t28 t)
-    (pack-walk-add-t29 t)
-    (pack-walk-plus-requires t)
-    (pack-walk-larger-requires t)
-    (pack-walk-smaller-requires t)
-    (pack-walk-loop-less t)
-    (pack-walk-loop-again t)
-    (pack-walk-returns-4 t)
-    (pack-walk-returns-5 t))
+    (pack-walk-loop-holds t) (pack-walk-sub-pack-head t) (pack-walk-part-pack-head-start t) (pack-walk-part-pack-head-end t)
+    (pack-walk-pack-head-requires t) (pack-walk-enum-known-h t) (pack-walk-enum-told t) (pack-walk-piece-fault-requires t)
+    (pack-walk-stop-requires t) (pack-walk-returns t) (pack-walk-is-seen-requires t) (pack-walk-returns-2 t)
+    (pack-walk-add-from t) (pack-walk-add-from-2 t) (pack-walk-add-next t) (pack-walk-add-next-2 t)
+    (pack-walk-sub-item-walk t) (pack-walk-part-item-walk-start t) (pack-walk-part-item-walk-end t) (pack-walk-item-walk-requires t)
+    (pack-walk-enum-known-w t) (pack-walk-enum-told-2 t) (pack-walk-later-requires t) (pack-walk-returns-3 t)
+    (pack-walk-either-requires t) (pack-walk-add-t28 t) (pack-walk-add-t29 t) (pack-walk-plus-requires t)
+    (pack-walk-larger-requires t) (pack-walk-smaller-requires t) (pack-walk-loop-less t) (pack-walk-loop-again t)
+    (pack-walk-returns-4 t) (pack-walk-returns-5 t))

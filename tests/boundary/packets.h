@@ -1,0 +1,47 @@
+/* The packets that bench.c and stack.c are given, a file each, NAME.packet. */
+#ifndef PACKETS_H
+#define PACKETS_H
+
+#include <stdio.h>
+#include <stdlib.h>
+#include <string.h>
+#include "vmti.h"
+
+struct packet {
+    char name[64];
+    uint64_t form;
+    size_t size;
+    uint8_t bytes[VMTI_PACKET_MOST];
+};
+
+static uint8_t sheet[VMTI_SHEET_MOST];
+
+static void die(const char *why, const char *of)
+{
+    fprintf(stderr, "%s: %s\n", of, why);
+    exit(2);
+}
+
+/* Standalone if the key opens it, else embedded; it must be accepted. */
+static void get_packet(struct packet *p, const char *path)
+{
+    static const uint8_t key[16] = {0x06, 0x0E, 0x2B, 0x34, 0x02, 0x0B, 0x01, 0x01,
+                                    0x0E, 0x01, 0x03, 0x03, 0x06, 0x00, 0x00, 0x00};
+    const char *slash = strrchr(path, '/'), *name = slash != NULL ? slash + 1 : path;
+    const size_t letters = strcspn(name, ".");
+    FILE *file = fopen(path, "rb");
+
+    if (file == NULL || letters >= sizeof p->name)
+        die("no such packet", path);
+    memcpy(p->name, name, letters);
+    p->name[letters] = 0;
+    p->size = fread(p->bytes, 1, sizeof p->bytes, file);
+    if (getc(file) != EOF)
+        die("a packet too long", path);
+    fclose(file);
+    p->form = p->size >= sizeof key && memcmp(p->bytes, key, sizeof key) == 0 ? VMTI_STANDALONE : VMTI_EMBEDDED;
+    if (VMTI_NUMBER(vmti_read(p->form, p->bytes, p->size, sheet, sizeof sheet)) != 0)
+        die("refused", path);
+}
+
+#endif

@@ -14,7 +14,7 @@
 #include <sys/mman.h>
 #include "vmti.h"
 
-enum { PAGE = 4096, SPAN = 32 * PAGE, AROUND = 64, ROOMS = 4, SHOWN = 5, LAST_OF_READING = 16 };
+enum { PAGE = 4096, SPAN = 32 * PAGE, AROUND = 64, ROOMS = 2, SHOWN = 5, LAST_OF_READING = 16 };
 
 /* What the sheet is filled with, and what stands around both: no two bytes near each other are alike. */
 static uint8_t pattern[SPAN + 256];

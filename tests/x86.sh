@@ -1,6 +1,6 @@
 # shellcheck shell=bash disable=SC2034
 # The proved code is x86-64 alone. Sourced by the tests that run it, on an x86-64 or another machine:
-#   x86_cc WORD..         gcc for x86-64
+#   x86_cc WORD..         compiles and links C for x86-64
 #   x86_run PROGRAM..     runs what x86_cc linked
 #   x86_kit_run PROGRAM.. runs what rt linked, under the kit's loader and C library
 #   x86_archive           sees to target/staticlib/libvmti.a
@@ -8,26 +8,22 @@ kit=${RATTLE_HOME:-$(dirname "$(readlink -f "$(command -v rt)")")/..}/on/$(uname
 emulator=$kit/bin/qemu-x86_64
 warnings='-std=c11 -O2 -g -Wall -Wextra -Werror -Iinclude'
 
+x86_kit_run() { ${emulator:+"$emulator"} "$kit/lib/ld-linux-x86-64.so.2" --library-path "$kit/lib" "$@"; }
+
 if [ "$(uname -m)" = x86_64 ]; then
   emulator=''
   # the archive need not be position independent
   x86_cc() { gcc -no-pie "$@"; }
+  x86_run() { "$@"; }
 else
-  # static: the emulator then needs no C library of the other machine
-  x86_cc() { x86_compiler && x86_64-linux-gnu-gcc -static "$@"; }
+  # The kit's compiler and C library, with this machine's headers of C: what the tests take from them is alike on both.
+  x86_cc() {
+    "$kit/bin/clang" --target=x86_64-unknown-linux-gnu -fPIE -pie -fuse-ld=lld -nostdlib -nostdinc \
+      -isystem "$(gcc -print-file-name=include)" -isystem "/usr/include/$(gcc -dumpmachine)" -isystem /usr/include \
+      "$kit"/lib/{Scrt1.o,crti.o,crtbeginS.o} "$@" "$kit"/lib/{libc.so.6,libc_nonshared.a,libgcc.a,crtendS.o,crtn.o}
+  }
+  x86_run() { x86_kit_run "$@"; }
 fi
-
-x86_compiler() {
-  command -v x86_64-linux-gnu-gcc > /dev/null && return
-  local root=''
-  [ "$(id -u)" = 0 ] || root=sudo
-  { $root apt-get update && $root apt-get install -y --no-install-recommends gcc-x86-64-linux-gnu libc6-dev-amd64-cross; } > target/log/x86-compiler 2>&1 \
-    || { echo 'no gcc for x86-64, and apt-get has none (target/log/x86-compiler)'; return 1; }
-}
-
-x86_run() { ${emulator:+"$emulator"} "$@"; }
-
-x86_kit_run() { x86_run "$kit/lib/ld-linux-x86-64.so.2" --library-path "$kit/lib" "$@"; }
 
 x86_archive() {
   local archive=target/staticlib/libvmti.a

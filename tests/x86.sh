@@ -4,6 +4,8 @@
 #   x86_run PROGRAM..     runs what x86_cc linked
 #   x86_kit_run PROGRAM.. runs what rt linked, under the kit's loader and C library
 #   x86_archive           sees to target/staticlib/libvmti.a
+#   native_archive FILE   the same code for this machine, to time it; on x86-64 that is the archive itself
+#   native_cc WORD..      compiles and links C with it
 kit=${RATTLE_HOME:-$(dirname "$(readlink -f "$(command -v rt)")")/..}/on/$(uname -m)/toolchain
 emulator=$kit/bin/qemu-x86_64
 warnings='-std=c11 -O2 -g -Wall -Wextra -Werror -Iinclude'
@@ -15,6 +17,7 @@ if [ "$(uname -m)" = x86_64 ]; then
   # the archive need not be position independent
   x86_cc() { gcc -no-pie "$@"; }
   x86_run() { "$@"; }
+  native_cc() { x86_cc "$@"; }
 else
   # The kit's compiler and C library, with this machine's headers of C: what the tests take from them is alike on both.
   x86_cc() {
@@ -23,6 +26,7 @@ else
       "$kit"/lib/{Scrt1.o,crti.o,crtbeginS.o} "$@" "$kit"/lib/{libc.so.6,libc_nonshared.a,libgcc.a,crtendS.o,crtn.o}
   }
   x86_run() { x86_kit_run "$@"; }
+  native_cc() { gcc "$@"; }
 fi
 
 x86_archive() {
@@ -31,4 +35,36 @@ x86_archive() {
   if [ ! -f "$archive" ] || [ -n "$(find crates crates.txt -newer "$archive" -print -quit)" ]; then
     rt staticlib vmti > target/staticlib.log 2>&1 || { tail -n 5 target/staticlib.log; return 1; }
   fi
+}
+
+# On another machine the LLVM module that rt hands to the kit's compiler is kept and compiled once more, for this machine. No
+# proof is about what comes of it: it is for timing alone.
+native_archive() {
+  if [ -z "$emulator" ]; then
+    x86_archive
+    cp target/staticlib/libvmti.a "$1"
+    return
+  fi
+  local home kept=target/native
+  home=$(cd "$kit/../../.." && pwd)
+  rm -rf "$kept"
+  mkdir -p "$kept/on/$(uname -m)/toolchain/bin"
+  link_all "$home" "$kept" on
+  link_all "$home/on/$(uname -m)" "$kept/on/$(uname -m)" toolchain
+  link_all "$kit" "$kept/on/$(uname -m)/toolchain" bin
+  link_all "$kit/bin" "$kept/on/$(uname -m)/toolchain/bin" clang
+  printf '#!/bin/sh\nfor word in "$@"; do case $word in *.bc) cp "$word" "%s/module.bc" ;; esac; done\nexec "%s/bin/clang" "$@"\n' \
+    "$PWD/$kept" "$kit" > "$kept/on/$(uname -m)/toolchain/bin/clang"
+  chmod +x "$kept/on/$(uname -m)/toolchain/bin/clang"
+  RATTLE_HOME=$PWD/$kept rt staticlib vmti > target/staticlib.log 2>&1 || { tail -n 5 target/staticlib.log; return 1; }
+  "$kit/bin/clang" --target="$(uname -m)-unknown-linux-gnu" --no-default-config -Wno-override-module -O3 -fPIC -c -x ir \
+    "$kept/module.bc" -o "$1" 2> "$kept/log" || { cat "$kept/log"; return 1; }
+}
+
+# link_all FROM TO BUT: each file of a folder linked in another, but for one
+link_all() {
+  local file
+  for file in "$1"/*; do
+    [ "$(basename "$file")" = "$3" ] || ln -s "$file" "$2/"
+  done
 }

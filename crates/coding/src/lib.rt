@@ -162,3 +162,5 @@ pub fn sum_of(s: &[u8], n: usize) -> u64
     }
     t % 65536
 }
+
+pub mod widths; // widths.rt: how many bytes what is coded takes

@@ -12,113 +12,120 @@ use Rattle.format.specs.Answer.{Ans, ok, refused, Got, got}
 use Rattle.format.specs.Lists.{has}
 use Rattle.format.specs.Read.{headOf, PackHead, packHead}
 use Rattle.format.specs.Read as Read
-use Rattle.format.proofs.bounds.Packets.{head-room}
+use Rattle.format.proofs.bounds.Packets.{head-room, pack-head-room}
 use Rattle.coding.proofs.Rooms.{tail-part}
 use Rattle.items.specs.Meet.{levelOf}
+use Rattle.heads.specs.Records.{peekRecord}
 use Rattle.heads.specs.Meet.{itemHeadOf, packHeadOf, peekItem, peekPack, peek, Peeked, Heads, Past}
 use Rattle.heads.specs.declared.Head.{Head}
 use Rattle.heads.specs.declared.Head.the-variants.{Whole, Fault}
-use Rattle.heads.proofs.Heads.{pack-head-room}
+use Rattle.heads.proofs.Spans.{record-room}
 
 -- ---- what is next
 
 module _ (set : Bool) (s : List ℕ) where
-  pub item-peek : (h : Read.Head) → headOf (levelOf set) s ≡ ok h → peek false set s ≡ got (h .tag) (h .from + h .size)
+  pub item-peek : (h : Read.Head) → headOf (levelOf set) s ≡ ok h → peek false false set s ≡ got (h .tag) (h .from + h .size)
   unfolding peek
   item-peek h e = ap peekItem e
 
-  pub pack-peek : (h : PackHead) → packHead s ≡ ok h → peek true set s ≡ got (h .id) (h .width + h .size)
+  pub pack-peek : (h : PackHead) → packHead s ≡ ok h → peek false true set s ≡ got (h .id) (h .width + h .size)
   unfolding peek
   pack-peek h e = ap peekPack e
 
   -- as the code reads it
-  module _ {ids : Bool} (i : ids ≡ true) {h : Head} (e : packHeadOf h ≡ packHead s) where
-    pub no-pack-next : {n : ℕ} → h ≡ Fault n → Peeked ids set s 0 0
-    unfolding peek
-    no-pack-next t = rw (i, ← e, t) (refl, refl)
+  pub record-next : {sheet : Bool} (ids : Bool) → sheet ≡ true → (k u : ℕ) → Peeked (peekRecord ids set) s k u → Peeked (peek sheet ids set) s k u
+  unfolding peek
+  record-next ids i k u p = rw i p
 
-    pub pack-next : {k u w n : ℕ} → h ≡ Whole k u w n → Peeked ids set s k (w + n)
+  module _ {sheet ids : Bool} (o : sheet ≡ false) (i : ids ≡ true) {h : Head} (e : packHeadOf h ≡ packHead s) where
+    pub no-pack-next : {n : ℕ} → h ≡ Fault n → Peeked (peek sheet ids set) s 0 0
     unfolding peek
-    pack-next t = rw (i, ← e, t) (refl, refl)
+    no-pack-next t = rw (o, i, ← e, t) (refl, refl)
 
-  module _ {ids : Bool} (i : ids ≡ false) {h : Head} (e : itemHeadOf h ≡ headOf (levelOf set) s) where
-    pub no-item-next : {n : ℕ} → h ≡ Fault n → Peeked ids set s 0 0
+    pub pack-next : {k u w n : ℕ} → h ≡ Whole k u w n → Peeked (peek sheet ids set) s k (w + n)
     unfolding peek
-    no-item-next t = rw (i, ← e, t) (refl, refl)
+    pack-next t = rw (o, i, ← e, t) (refl, refl)
 
-    pub item-next : {k u w n : ℕ} → h ≡ Whole k u w n → Peeked ids set s k (u + w + n)
+  module _ {sheet ids : Bool} (o : sheet ≡ false) (i : ids ≡ false) {h : Head} (e : itemHeadOf h ≡ headOf (levelOf set) s) where
+    pub no-item-next : {n : ℕ} → h ≡ Fault n → Peeked (peek sheet ids set) s 0 0
     unfolding peek
-    item-next t = rw (i, ← e, t) (refl, refl)
+    no-item-next t = rw (o, i, ← e, t) (refl, refl)
 
-peek-room : (ids set : Bool) (s : List ℕ) → peek ids set s .used ≤ length s
+    pub item-next : {k u w n : ℕ} → h ≡ Whole k u w n → Peeked (peek sheet ids set) s k (u + w + n)
+    unfolding peek
+    item-next t = rw (o, i, ← e, t) (refl, refl)
+
+-- what a look finds lies within the bytes
+abbrev pub Looks : (List ℕ → Got ℕ) → Type 0
+Looks look = (s : List ℕ) → look s .used ≤ length s
+
+pub peek-room : (sheet ids set : Bool) → Looks (peek sheet ids set)
 unfolding peek
-peek-room true set s = by (packHead s) refl
+peek-room true ids set s = record-room ids set s
+peek-room false true set s = by (packHead s) refl
   where
     by : (a : Ans PackHead) → packHead s ≡ a → peekPack a .used ≤ length s
     by (ok h) e = pack-head-room s h e
     by (refused n p) e = omega arith
-peek-room false set s = by (headOf (levelOf set) s) refl
+peek-room false false set s = by (headOf (levelOf set) s) refl
   where
     by : (a : Ans Read.Head) → headOf (levelOf set) s ≡ a → peekItem a .used ≤ length s
     by (ok h) e = head-room (levelOf set) s h e
     by (refused n p) e = omega arith
 
-next-room : (ids set : Bool) (s : List ℕ) (k u : ℕ) → Peeked ids set s k u → u ≤ length s
-next-room ids set s k u e = rw (e .1) (peek-room ids set s)
-
 -- ---- looking back
 
 -- the keys that head the first p bytes begin with the one that is next
-heads-next : (ids set : Bool) (s : List ℕ) (p k u : ℕ) → Peeked ids set s k u → 0 < p → (ks : List ℕ) → Heads ids set s p ks
-    → (js : List ℕ) × (ks ≡ k ∷ js) × (0 < u) × Heads ids set (drop u s) (p - u) js
-heads-next ids set s p k u e g [] h = absurd (omega arith)
-heads-next ids set s p k u e g (j ∷ js) (v, q, z, y, h) =
+heads-next : (look : List ℕ → Got ℕ) (s : List ℕ) (p k u : ℕ) → Peeked look s k u → 0 < p → (ks : List ℕ) → Heads look s p ks
+    → (js : List ℕ) × (ks ≡ k ∷ js) × (0 < u) × Heads look (drop u s) (p - u) js
+heads-next look s p k u e g [] h = absurd (omega arith)
+heads-next look s p k u e g (j ∷ js) (v, q, z, y, h) =
     let a : k ≡ j = e .0 ∙ ap (λ (x : Got ℕ). x .val) q in
     let b : u ≡ v = e .1 ∙ ap (λ (x : Got ℕ). x .used) q in
     (js, rw a, rw b z, rw b h)
 
-heads-none : (ids set : Bool) (s : List ℕ) (p : ℕ) → p ≡ 0 → (ks : List ℕ) → Heads ids set s p ks → ks ≡ []
-heads-none ids set s p e [] h = refl
-heads-none ids set s p e (k ∷ ks) (u, q, z, y, h) = absurd (omega arith)
+heads-none : (look : List ℕ → Got ℕ) (s : List ℕ) (p : ℕ) → p ≡ 0 → (ks : List ℕ) → Heads look s p ks → ks ≡ []
+heads-none look s p e [] h = refl
+heads-none look s p e (k ∷ ks) (u, q, z, y, h) = absurd (omega arith)
 
 -- the key is among those that head the first p bytes just where it is among those from q on
-pub record Left (ids set : Bool) (s : List ℕ) (p key q : ℕ) : Type 0 where
+pub record Left (look : List ℕ → Got ℕ) (s : List ℕ) (p key q : ℕ) : Type 0 where
   pub within : q ≤ length s
-  pub rest : (ks : List ℕ) → Heads ids set s p ks → (js : List ℕ) × Heads ids set (drop q s) (p - q) js × (has key ks ≡ has key js)
+  pub rest : (ks : List ℕ) → Heads look s p ks → (js : List ℕ) × Heads look (drop q s) (p - q) js × (has key ks ≡ has key js)
 
-pub left-start : (ids set : Bool) (s : List ℕ) (p key : ℕ) → Left ids set s p key 0
-left-start ids set s p key = let e : p - 0 ≡ p = omega arith in record { within = omega arith; rest = λ ks h. (ks, rw e h, refl) }
+pub left-start : (look : List ℕ → Got ℕ) (s : List ℕ) (p key : ℕ) → Left look s p key 0
+left-start look s p key = let e : p - 0 ≡ p = omega arith in record { within = omega arith; rest = λ ks h. (ks, rw e h, refl) }
 
-module _ (ids set : Bool) (s : List ℕ) (p key q : ℕ) (l : Left ids set s p key q) where
-  pub left-done : p ≤ q → (ks : List ℕ) → Heads ids set s p ks → false ≡ has key ks
+module _ (look : List ℕ → Got ℕ) (s : List ℕ) (p key q : ℕ) (l : Left look s p key q) where
+  pub left-done : p ≤ q → (ks : List ℕ) → Heads look s p ks → false ≡ has key ks
   unfolding has
   left-done g ks h =
       let (js, d, e) = l .rest ks h in
-      sym (e ∙ rw (heads-none ids set (drop q s) (p - q) (omega arith) js d))
+      sym (e ∙ rw (heads-none look (drop q s) (p - q) (omega arith) js d))
 
-  module _ (g : q < p) (k u : ℕ) (n : Peeked ids set (take (length s - q) (drop q s)) k u) where
-    next : Peeked ids set (drop q s) k u
+  module _ (g : q < p) (k u : ℕ) (n : Peeked look (take (length s - q) (drop q s)) k u) where
+    next : Peeked look (drop q s) k u
     next = rw tail-part at n
 
-    step : (ks : List ℕ) → Heads ids set s p ks → (js : List ℕ) × (has key ks ≡ has key (k ∷ js)) × (0 < u) × Heads ids set (drop (q + u) s) (p - (q + u)) js
+    step : (ks : List ℕ) → Heads look s p ks → (js : List ℕ) × (has key ks ≡ has key (k ∷ js)) × (0 < u) × Heads look (drop (q + u) s) (p - (q + u)) js
     step ks h =
         let (js, d, e) = l .rest ks h in
-        let (is, a, z, f) = heads-next ids set (drop q s) (p - q) k u next (omega arith) js d in
+        let (is, a, z, f) = heads-next look (drop q s) (p - q) k u next (omega arith) js d in
         let w : p - q - u ≡ p - (q + u) = omega arith in
         (is, e ∙ ap (has key) a, z, rw (drop-drop u q s, w) at f)
 
     -- nothing is next, so no keys head the first p bytes
-    pub left-gone : u ≡ 0 → (b : Bool) (ks : List ℕ) → Heads ids set s p ks → b ≡ has key ks
+    pub left-gone : u ≡ 0 → (b : Bool) (ks : List ℕ) → Heads look s p ks → b ≡ has key ks
     left-gone z b ks h = absurd (omega (arith, step ks h .2))
 
-    pub left-found : k ≡ key → (ks : List ℕ) → Heads ids set s p ks → true ≡ has key ks
+    pub left-found : k ≡ key → (ks : List ℕ) → Heads look s p ks → true ≡ has key ks
     unfolding has
     left-found y ks h = sym (step ks h .1 ∙ rw (eq-eqb k key y))
 
-    pub left-passed : (k ≡ key → ⊥) → Left ids set s p key (q + u)
+    pub left-passed : Looks look → (k ≡ key → ⊥) → Left look s p key (q + u)
     unfolding has
-    left-passed y = record {
-      within = omega (arith, l .within, next-room ids set (drop q s) k u next, length-drop q s);
+    left-passed room y = record {
+      within = omega (arith, l .within, room (drop q s), next .1, length-drop q s);
       rest = λ ks h. let (js, e, z, f) = step ks h in (js, f, e ∙ rw (ne-eqb k key y));
     }
 
@@ -135,26 +142,26 @@ has-snoc j k (i ∷ is) = rw (has-snoc j k is) (swap (eqb i j) (eqb k j) (has j 
     swap false true c = refl
     swap false false c = refl
 
-heads-more : (ids set : Bool) (ks s : List ℕ) (p k u : ℕ) → Heads ids set s p ks → peek ids set (drop p s) ≡ got k u → 0 < u → Heads ids set s (p + u) (ks ++ k ∷ [])
-heads-more ids set [] s p k u h e z = (u, rw h at e, z, omega arith, omega arith)
-heads-more ids set (j ∷ js) s p k u (v, q, y, x, h) e z =
+heads-more : (look : List ℕ → Got ℕ) (ks s : List ℕ) (p k u : ℕ) → Heads look s p ks → look (drop p s) ≡ got k u → 0 < u → Heads look s (p + u) (ks ++ k ∷ [])
+heads-more look [] s p k u h e z = (u, rw h at e, z, omega arith, omega arith)
+heads-more look (j ∷ js) s p k u (v, q, y, x, h) e z =
     let a : v + (p - v) ≡ p = omega arith in
     let b : p - v + u ≡ p + u - v = omega arith in
-    (v, q, y, omega arith, rw b at (heads-more ids set js (drop v s) (p - v) k u h (rw (drop-drop (p - v) v s, a) e) z))
+    (v, q, y, omega arith, rw b at (heads-more look js (drop v s) (p - v) k u h (rw (drop-drop (p - v) v s, a) e) z))
 
-module _ (ids set : Bool) (s : List ℕ) where
+module _ (look : List ℕ → Got ℕ) (s : List ℕ) where
   -- 2^64 - 1 is the greatest number that the code has for a key
-  pub past-none : Past ids set s 0 0 18446744073709551615 []
+  pub past-none : Past look s 0 0 18446744073709551615 []
   unfolding has
   past-none = record { keys = []; heads = refl; same = λ k. refl; under = λ k h. refl; over = λ k h. refl; first = refl }
 
-  pub past-more : (p top low : ℕ) (seen : List ℕ) → Past ids set s p top low seen
-      → (k u top′ low′ : ℕ) → peek ids set (drop p s) ≡ got k u → 0 < u → top ≤ top′ → k ≤ top′ → low′ ≤ low → low′ ≤ k
-      → Past ids set s (p + u) top′ low′ (k ∷ seen)
+  pub past-more : (p top low : ℕ) (seen : List ℕ) → Past look s p top low seen
+      → (k u top′ low′ : ℕ) → look (drop p s) ≡ got k u → 0 < u → top ≤ top′ → k ≤ top′ → low′ ≤ low → low′ ≤ k
+      → Past look s (p + u) top′ low′ (k ∷ seen)
   unfolding has
   past-more p top low seen a k u top′ low′ e z t kt w kw = record {
     keys = a .keys ++ k ∷ [];
-    heads = heads-more ids set (a .keys) s p k u (a .heads) e z;
+    heads = heads-more look (a .keys) s p k u (a .heads) e z;
     same = λ j. rw (has-snoc j k (a .keys), a .same j);
     under = λ j h. rw (ne-eqb k j (λ x. omega arith)) (a .under j (omega arith));
     over = λ j h. rw (ne-eqb k j (λ x. omega arith)) (a .over j (omega arith));

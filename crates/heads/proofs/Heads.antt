@@ -6,14 +6,13 @@ use mathlib.Core.Bool.{Bool, true, false, not, _&&_, _||_}
 use mathlib.Core.List.{List}
 use lib.ListN.{length, take, drop, length-drop}
 use lib.Dec.{leb, eqb}
-use borrow.Author.Tests.{leb-true, le-leb, lt-leb, not-true, not-false}
-use Rattle.format.specs.Answer.{Ans, ok, refused, Got, _>>=_, need}
+use borrow.Author.Tests.{le-leb, lt-leb, not-true, not-false}
+use Rattle.format.specs.Answer.{Ans, refused, Got, _>>=_, need}
 use Rattle.format.specs.Coding.{Bytes, tagOf, idOf, lenOf}
 use Rattle.format.specs.Table.{Level, isSet}
-use Rattle.format.specs.Read.{headOf, PackHead, packHead}
-use Rattle.format.proofs.words.Answers.{bind-then, need-then, ok-inj}
+use Rattle.format.specs.Read.{headOf, packHead}
 use Rattle.format.proofs.words.Bytes.{bytes-drop}
-use Rattle.format.proofs.bounds.Packets.{head-room}
+use Rattle.format.proofs.bounds.Packets.{head-room, pack-head-room}
 use Rattle.coding.specs.Code.{numOf}
 use Rattle.coding.specs.declared.Num.{Num}
 use Rattle.coding.specs.declared.Num.the-variants.{Value, Refused}
@@ -101,14 +100,6 @@ module _ (s : List ℕ) {b : Num} (eb : numOf b ≡ lenOf s) where
         pack-head-whole e = sym (bind-so _ _ _ (said eb tb) ∙ need-so _ _ _ (le-leb (w + n) (length s) (omega arith)) ∙ bind-so _ _ _ (mid-said s w n ea e))
 
 -- ---- room: a head lies within the bytes with all that it heads
-
-pub pack-head-room : (s : List ℕ) (h : PackHead) → packHead s ≡ ok h → h .width + h .size ≤ length s
-unfolding packHead
-pack-head-room s h e =
-    bind-then _ _ _ e λ n _ e₁.
-    need-then _ _ _ _ e₁ λ r e₂.
-    bind-then _ _ _ e₂ λ i _ e₃.
-    rw (← ok-inj _ _ e₃) (leb-true _ _ r)
 
 module _ (s : List ℕ) {h : Head} {k u w n : ℕ} (t : h ≡ Whole k u w n) where
   pub item-within : (l : Level) → itemHeadOf h ≡ headOf l s → u + w + n ≤ length s

@@ -12,6 +12,7 @@ use Rattle.format.specs.Read as Read
 use Rattle.coding.specs.declared.Num.{Num}
 use Rattle.coding.specs.declared.Num.the-variants.{Value, Refused}
 use Rattle.items.specs.Meet.{levelOf}
+use Rattle.heads.specs.Records.{peekRecord}
 use Rattle.heads.specs.declared.Head.{Head}
 use Rattle.heads.specs.declared.Head.the-variants.{Whole, Fault}
 
@@ -37,23 +38,25 @@ abbrev pub peekPack : Ans Read.PackHead → Got ℕ
 peekPack (ok h) = got (h .id) (h .width + h .size)
 peekPack (refused n p) = got 0 0
 
--- a key and the bytes of all that it heads, none where there is no such thing
-unfoldable pub peek : Bool → Bool → List ℕ → Got ℕ
-peek true set s = peekPack (packHead s)
-peek false set s = peekItem (headOf (levelOf set) s)
+-- a key and the bytes of all that it heads, none where there is no such thing: in a sheet or in a packet, an id or a tag
+unfoldable pub peek : Bool → Bool → Bool → List ℕ → Got ℕ
+peek true ids set s = peekRecord ids set s
+peek false true set s = peekPack (packHead s)
+peek false false set s = peekItem (headOf (levelOf set) s)
 
-abbrev pub Peeked : Bool → Bool → List ℕ → ℕ → ℕ → Type 0
-Peeked ids set s k u = (k ≡ peek ids set s .val) × (u ≡ peek ids set s .used)
+-- a look finds a key and the bytes of all that it heads
+abbrev pub Peeked : (List ℕ → Got ℕ) → List ℕ → ℕ → ℕ → Type 0
+Peeked look s k u = (k ≡ look s .val) × (u ≡ look s .used)
 
 -- these keys, in order, head the first p bytes
-abbrev pub Heads : Bool → Bool → List ℕ → ℕ → List ℕ → Type 0
-Heads ids set s p [] = p ≡ 0
-Heads ids set s p (k ∷ ks) = (u : ℕ) × (peek ids set s ≡ got k u) × (0 < u) × (u ≤ p) × Heads ids set (drop u s) (p - u) ks
+abbrev pub Heads : (List ℕ → Got ℕ) → List ℕ → ℕ → List ℕ → Type 0
+Heads look s p [] = p ≡ 0
+Heads look s p (k ∷ ks) = (u : ℕ) × (look s ≡ got k u) × (0 < u) × (u ≤ p) × Heads look (drop u s) (p - u) ks
 
 -- seen are the keys before the place p, none of them above top or below low
-pub record Past (ids set : Bool) (s : List ℕ) (p top low : ℕ) (seen : List ℕ) : Type 0 where
+pub record Past (look : List ℕ → Got ℕ) (s : List ℕ) (p top low : ℕ) (seen : List ℕ) : Type 0 where
   pub keys : List ℕ
-  pub heads : Heads ids set s p keys
+  pub heads : Heads look s p keys
   pub same : (k : ℕ) → has k seen ≡ has k keys
   pub under : (k : ℕ) → top < k → has k seen ≡ false
   pub over : (k : ℕ) → k < low → has k seen ≡ false

@@ -10,7 +10,7 @@ ghost use Rattle.format.specs.Lists.{has};
 ghost use Rattle.format.specs.Table.{isSet, isAlone};
 ghost use Rattle.format.specs.Read.{headOf, item, packHead};
 ghost use Rattle.items.specs.Meet.{formOf, levelOf};
-ghost use Rattle.heads.specs.Meet.{faultOf, itemHeadOf, packHeadOf, Peeked, Heads, Past};
+ghost use Rattle.heads.specs.Meet.{faultOf, itemHeadOf, packHeadOf, peek, Peeked, Heads, Past};
 use coding::Num;
 
 // What heads an item or a pack: its key, how many bytes the key and the length take, and the length.
@@ -115,9 +115,12 @@ pub struct Next {
     pub used: usize,
 }
 
-fn next_of(s: &[u8], ids: bool, set: bool) -> Next
-    ensures { λ r. ⌜ Peeked ids set (now (s .entry)) (r .key) (r .used) ⌝ }
+fn next_of(s: &[u8], sheet: bool, ids: bool, set: bool) -> Next
+    ensures { λ r. ⌜ Peeked (peek sheet ids set) (now (s .entry)) (r .key) (r .used) ⌝ }
 {
+    if sheet {
+        return records::record_next(s, ids, set);
+    }
     if ids {
         let h = pack_head(s);
         let Head::Whole {
@@ -151,13 +154,13 @@ fn next_of(s: &[u8], ids: bool, set: bool) -> Next
 }
 
 // Whether key heads something that begins in the first p bytes.
-fn seen_before(s: &[u8], p: usize, key: u64, ids: bool, set: bool) -> bool
+fn seen_before(s: &[u8], p: usize, key: u64, sheet: bool, ids: bool, set: bool) -> bool
     requires { ⌜ p ≤ length (now s) ⌝ }
-    ensures { λ r. ⌜ ((ks : List ℕ) → Heads ids set (now (s .entry)) p ks → r ≡ has key ks) ⌝ }
+    ensures { λ r. ⌜ ((ks : List ℕ) → Heads (peek sheet ids set) (now (s .entry)) p ks → r ≡ has key ks) ⌝ }
 {
     let mut q: usize = 0;
     while q < p {
-        let n = next_of(&s[q..], ids, set);
+        let n = next_of(&s[q..], sheet, ids, set);
         if n.used == 0 {
             return false;
         }
@@ -170,9 +173,18 @@ fn seen_before(s: &[u8], p: usize, key: u64, ids: bool, set: bool) -> bool
 }
 
 // The same, where no key before p is above top or below low.
-pub fn is_seen(s: &[u8], p: usize, top: u64, low: u64, key: u64, ids: bool, set: bool) -> bool
+pub fn is_seen(
+    s: &[u8],
+    p: usize,
+    top: u64,
+    low: u64,
+    key: u64,
+    sheet: bool,
+    ids: bool,
+    set: bool,
+) -> bool
     requires { ⌜ p ≤ length (now s) ⌝ }
-    ensures { λ r. ⌜ ((seen : List ℕ) → Past ids set (now (s .entry)) p top low seen → r ≡ has key seen) ⌝ }
+    ensures { λ r. ⌜ ((seen : List ℕ) → Past (peek sheet ids set) (now (s .entry)) p top low seen → r ≡ has key seen) ⌝ }
 {
     if top < key {
         return false;
@@ -180,5 +192,7 @@ pub fn is_seen(s: &[u8], p: usize, top: u64, low: u64, key: u64, ids: bool, set:
     if key < low {
         return false;
     }
-    seen_before(s, p, key, ids, set)
+    seen_before(s, p, key, sheet, ids, set)
 }
+
+pub mod records; // records.rt: what heads the records of a sheet

@@ -1,41 +1,35 @@
 -- The code's table is document 01's, by one computed test for each level.
-use mathlib.Core.Path.{_≡_, refl}
-use Prim.Native.Nat.{ℕ, zero, suc, _+_, _≤_, _<_}
-use native.Mathlib.Nat.{add-zero, add-suc, suc-add}
+use mathlib.Core.Path.{_≡_, refl, sym, ap, _∙_}
+use Prim.Native.Nat.{ℕ, zero, suc, _+_, _*_, _≤_, _<_}
+use native.Mathlib.Nat.{add-zero, add-assoc}
 use native.Mathlib.Omega.{arith}
 use mathlib.Core.Bool.{Bool, true, false, _&&_}
 use mathlib.Core.List.{List, [], _∷_}
-use lib.ListN.{length, getD}
+use lib.ListN.{length, drop, getD}
+use lib.Seq.{getD-drop}
 use lib.Dec.{ltb, eqb}
 use borrow.Author.Tests.{ltb-true, ne-eqb}
 use Rattle.format.specs.Table.{Level, set, pack, Rule, unlisted, rules, find, ruleOf}
 use Rattle.format.proofs.words.Answers.{and-both}
-use Rattle.items.specs.declared.Rule as declared
-use Rattle.items.specs.Meet.{ruleFrom}
+use Rattle.items.specs.Meet.{rowFrom, itemTable}
 
-abbrev at : ℕ → ℕ → ℕ → ℕ → declared.Rule
-at t k a b = (t, k, a, b)
+-- of n rows each is the rule of its place, counted from k
+abbrev Rows : Level → ℕ → ℕ → List ℕ → Type 0
+Rows l k zero t = Unit {0}
+Rows l k (suc n) t = (rowFrom t 0 ≡ ruleOf l k) × Rows l (suc k) n (drop 4 t)
 
-unfoldable pub setItems : List declared.Rule
-setItems =
-    at 0 0 1 0 ∷ at 1 1 2 2 ∷ at 2 1 8 8 ∷ at 3 1 1 32 ∷ at 4 2 1 2 ∷ at 5 2 1 3 ∷ at 6 2 1 3 ∷ at 7 0 1 0 ∷ at 8 2 1 3 ∷ at 9 2 1 3
-    ∷ at 10 1 1 128 ∷ at 11 1 2 2 ∷ at 12 1 2 2 ∷ []
+row-next : (n : ℕ) (t : List ℕ) (i : ℕ) → rowFrom (drop n t) i ≡ rowFrom t (n + i)
+row-next n t i =
+    let at : (k : ℕ) → getD (drop n t) (i + k) 0 ≡ getD t (n + i + k) 0 = λ k. getD-drop n t (i + k) 0 ∙ ap (λ m. getD t m 0) (sym (add-assoc n i k)) in
+    rw (at 1, at 2, at 3)
 
-unfoldable pub packItems : List declared.Rule
-packItems =
-    at 0 0 1 0 ∷ at 1 3 1 6 ∷ at 2 3 1 6 ∷ at 3 3 1 6 ∷ at 4 1 1 1 ∷ at 5 1 1 1 ∷ at 6 2 1 2 ∷ at 7 1 1 1 ∷ at 8 1 3 3 ∷ at 9 2 1 3
-    ∷ at 10 1 3 3 ∷ at 11 1 3 3 ∷ at 12 1 2 2 ∷ at 13 1 3 3 ∷ at 14 1 3 3 ∷ at 15 1 3 3 ∷ at 16 1 3 3 ∷ at 17 4 10 22 ∷ at 18 0 1 0
-    ∷ at 19 3 1 4 ∷ at 20 3 1 4 ∷ at 21 0 1 0 ∷ at 22 2 1 3 ∷ at 23 1 1 1 ∷ []
-
--- each row is the rule of its place, counted from k
-abbrev Rows : Level → ℕ → List declared.Rule → Type 0
-Rows l k [] = Unit {0}
-Rows l k (r ∷ rs) = (ruleFrom r ≡ ruleOf l k) × Rows l (suc k) rs
-
-row-at : (l : Level) (k i : ℕ) (rs : List declared.Rule) (d : declared.Rule) → Rows l k rs → i < length rs → ruleFrom (getD rs i d) ≡ ruleOf l (k + i)
-row-at l k i [] d h g = absurd (omega arith)
-row-at l k zero (r ∷ rs) d h g = rw add-zero (h .0)
-row-at l k (suc i) (r ∷ rs) d h g = rw (add-suc, ← suc-add) (row-at l (suc k) i rs d (h .1) (omega arith))
+rows-at : (l : Level) (k n i : ℕ) (t : List ℕ) → Rows l k n t → i < n → rowFrom t (4 * i) ≡ ruleOf l (k + i)
+rows-at l k zero i t h g = absurd (omega arith)
+rows-at l k (suc n) zero t h g = rw add-zero (h .0)
+rows-at l k (suc n) (suc i) t h g =
+    let e : 4 * suc i ≡ 4 + 4 * i = omega arith in
+    let f : suc k + i ≡ k + suc i = omega arith in
+    ap (rowFrom t) e ∙ sym (row-next 4 t (4 * i)) ∙ rows-at l (suc k) n i (drop 4 t) (h .1) (omega arith) ∙ ap (ruleOf l) f
 
 -- a tag above all that are listed
 abbrev below : ℕ → List (ℕ × Rule) → Bool
@@ -53,17 +47,17 @@ find-none n tag (e ∷ es) h g =
 zero-plus : (n : ℕ) → 0 + n ≡ n
 zero-plus n = omega arith
 
-pub set-row : (i : ℕ) (d : declared.Rule) → i < 13 → ruleFrom (getD setItems i d) ≡ ruleOf set i
-set-row i d h = rw zero-plus at (row-at set 0 i setItems d rows (unfold setItems in h))
+pub set-row : (tag : ℕ) → tag < 13 → rowFrom itemTable (4 * tag) ≡ ruleOf set tag
+set-row tag h = rw zero-plus at (rows-at set 0 13 tag itemTable rows h)
   where
-    rows : Rows set 0 setItems
-    rows = unfold setItems ruleOf rules find in (refl, (refl, (refl, (refl, (refl, (refl, (refl, (refl, (refl, (refl, (refl, (refl, (refl, tt)))))))))))))
+    rows : Rows set 0 13 itemTable
+    rows = unfold itemTable ruleOf rules find in (refl, (refl, (refl, (refl, (refl, (refl, (refl, (refl, (refl, (refl, (refl, (refl, (refl, tt)))))))))))))
 
-pub pack-row : (i : ℕ) (d : declared.Rule) → i < 24 → ruleFrom (getD packItems i d) ≡ ruleOf pack i
-pack-row i d h = rw zero-plus at (row-at pack 0 i packItems d rows (unfold packItems in h))
+pub pack-row : (tag : ℕ) → tag < 24 → rowFrom itemTable (52 + 4 * tag) ≡ ruleOf pack tag
+pack-row tag h = rw (zero-plus, row-next) at (rows-at pack 0 24 tag (drop 52 itemTable) rows h)
   where
-    rows : Rows pack 0 packItems
-    rows = unfold packItems ruleOf rules find in
+    rows : Rows pack 0 24 (drop 52 itemTable)
+    rows = unfold itemTable ruleOf rules find in
         (refl, (refl, (refl, (refl, (refl, (refl, (refl, (refl, (refl, (refl, (refl, (refl, (refl, (refl, (refl, (refl, (refl, (refl, (refl, (refl, (refl, (refl, (refl, (refl, tt))))))))))))))))))))))))
 
 pub set-over : (tag : ℕ) → 13 ≤ tag → unlisted ≡ ruleOf set tag
@@ -73,3 +67,7 @@ set-over tag h = find-none 13 tag (rules set) refl h
 pub pack-over : (tag : ℕ) → 24 ≤ tag → unlisted ≡ ruleOf pack tag
 unfolding ruleOf rules
 pack-over tag h = find-none 24 tag (rules pack) refl h
+
+pub table-long : (t : List ℕ) → t ≡ itemTable → length t ≡ 148
+unfolding itemTable
+table-long t e = ap length e

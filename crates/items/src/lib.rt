@@ -7,67 +7,191 @@ ghost use lib.ListN.{length};
 ghost use lib.Dec.{eqb};
 ghost use Rattle.format.specs.Lists.{has, none?};
 ghost use Rattle.format.specs.Table.{isAlone, isSet, ruleOf, nameable, mayStand, mayBegin, standing, sized, valued, short};
-ghost use Rattle.items.specs.Meet.{formOf, levelOf, ruleFrom, answerOf, zeros, offsets, shortSize};
+ghost use Rattle.items.specs.Meet.{formOf, levelOf, ruleFrom, rowFrom, itemTable, answerOf, zeros, offsets, shortSize};
 
-// A row: tag, kind, least and greatest length. Kinds: 0 not listed (one or more bytes), 1 bytes, 2 a number, 3 a pixel,
+// A row of the table: tag, kind, least and greatest length. Kinds: 0 not listed (one or more bytes), 1 bytes, 2 a number, 3 a pixel,
 // 4 a location (10, 16 or 22 bytes).
 pub struct Rule(pub u8, pub u8, pub u8, pub u8);
 
-// The rows of the set and of a pack, each at its tag.
-const SET_ITEMS: [Rule; 13] = [
-    Rule(0, 0, 1, 0),
-    Rule(1, 1, 2, 2),
-    Rule(2, 1, 8, 8),
-    Rule(3, 1, 1, 32),
-    Rule(4, 2, 1, 2),
-    Rule(5, 2, 1, 3),
-    Rule(6, 2, 1, 3),
-    Rule(7, 0, 1, 0),
-    Rule(8, 2, 1, 3),
-    Rule(9, 2, 1, 3),
-    Rule(10, 1, 1, 128),
-    Rule(11, 1, 2, 2),
-    Rule(12, 1, 2, 2),
+// The rows of the set, then those of a pack, each at its tag.
+const ITEMS: [u8; 148] = [
+    0,
+    0,
+    1,
+    0, // of the set
+    1,
+    1,
+    2,
+    2, //
+    2,
+    1,
+    8,
+    8, //
+    3,
+    1,
+    1,
+    32, //
+    4,
+    2,
+    1,
+    2, //
+    5,
+    2,
+    1,
+    3, //
+    6,
+    2,
+    1,
+    3, //
+    7,
+    0,
+    1,
+    0, //
+    8,
+    2,
+    1,
+    3, //
+    9,
+    2,
+    1,
+    3, //
+    10,
+    1,
+    1,
+    128, //
+    11,
+    1,
+    2,
+    2, //
+    12,
+    1,
+    2,
+    2, //
+    0,
+    0,
+    1,
+    0, // of a pack
+    1,
+    3,
+    1,
+    6, //
+    2,
+    3,
+    1,
+    6, //
+    3,
+    3,
+    1,
+    6, //
+    4,
+    1,
+    1,
+    1, //
+    5,
+    1,
+    1,
+    1, //
+    6,
+    2,
+    1,
+    2, //
+    7,
+    1,
+    1,
+    1, //
+    8,
+    1,
+    3,
+    3, //
+    9,
+    2,
+    1,
+    3, //
+    10,
+    1,
+    3,
+    3, //
+    11,
+    1,
+    3,
+    3, //
+    12,
+    1,
+    2,
+    2, //
+    13,
+    1,
+    3,
+    3, //
+    14,
+    1,
+    3,
+    3, //
+    15,
+    1,
+    3,
+    3, //
+    16,
+    1,
+    3,
+    3, //
+    17,
+    4,
+    10,
+    22, //
+    18,
+    0,
+    1,
+    0, //
+    19,
+    3,
+    1,
+    4, //
+    20,
+    3,
+    1,
+    4, //
+    21,
+    0,
+    1,
+    0, //
+    22,
+    2,
+    1,
+    3, //
+    23,
+    1,
+    1,
+    1, //
 ];
 
-const PACK_ITEMS: [Rule; 24] = [
-    Rule(0, 0, 1, 0),
-    Rule(1, 3, 1, 6),
-    Rule(2, 3, 1, 6),
-    Rule(3, 3, 1, 6),
-    Rule(4, 1, 1, 1),
-    Rule(5, 1, 1, 1),
-    Rule(6, 2, 1, 2),
-    Rule(7, 1, 1, 1),
-    Rule(8, 1, 3, 3),
-    Rule(9, 2, 1, 3),
-    Rule(10, 1, 3, 3),
-    Rule(11, 1, 3, 3),
-    Rule(12, 1, 2, 2),
-    Rule(13, 1, 3, 3),
-    Rule(14, 1, 3, 3),
-    Rule(15, 1, 3, 3),
-    Rule(16, 1, 3, 3),
-    Rule(17, 4, 10, 22),
-    Rule(18, 0, 1, 0),
-    Rule(19, 3, 1, 4),
-    Rule(20, 3, 1, 4),
-    Rule(21, 0, 1, 0),
-    Rule(22, 2, 1, 3),
-    Rule(23, 1, 1, 1),
-];
+// A constant array is laid out anew wherever it is named, so a call asks for it once and lends it to all that it calls.
+pub fn table() -> [u8; 148]
+    ensures { λ r. ⌜ r ≡ itemTable ⌝ }
+{
+    ITEMS
+}
+
+// The row that begins at i.
+fn row_at(table: &[u8], i: usize) -> Rule
+    requires { ⌜ i + 4 ≤ length (now table) ⌝ }
+    ensures { λ r. ⌜ ruleFrom r ≡ rowFrom (now (table .entry)) i ⌝ }
+{
+    Rule(table[i], table[i + 1], table[i + 2], table[i + 3])
+}
 
 // The rule of a tag, for the set or for a pack.
-pub fn rule_of(set: bool, tag: u64) -> Rule
+pub fn rule_of(table: &[u8], set: bool, tag: u64) -> Rule
+    requires { ⌜ now table ≡ itemTable ⌝ }
     ensures { λ r. ⌜ ruleFrom r ≡ ruleOf (levelOf set) tag ⌝ }
 {
     if set {
         if tag < 13 {
-            return SET_ITEMS[tag as usize];
+            return row_at(table, 4 * (tag as usize));
         }
     } else {
         if tag < 24 {
-            return PACK_ITEMS[tag as usize];
+            return row_at(table, 52 + 4 * (tag as usize));
         }
     }
     Rule(0, 0, 1, 0)
@@ -170,6 +294,25 @@ pub fn stands(set: bool, alone: bool, tag: u64, last: bool) -> bool
     }
     if alone {
         return !is_offset(tag);
+    }
+    true
+}
+
+// What a record of a sheet may name: never the set's checksum or its series.
+pub fn nameable_of(set: bool, tag: u64) -> bool
+    ensures { λ r. ⌜ r ≡ nameable (levelOf set) tag ⌝ }
+{
+    if tag == 0 {
+        return false;
+    }
+    if 16383 < tag {
+        return false;
+    }
+    if set {
+        if tag == 1 {
+            return false;
+        }
+        return tag != 101;
     }
     true
 }

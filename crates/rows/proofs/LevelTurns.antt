@@ -30,10 +30,11 @@ use Rattle.walks.specs.Meet.{stepAt}
 use Rattle.walks.specs.Runs.{Ran, levelRun, seriesRun, madeOf}
 use Rattle.walks.proofs.ItemTurns.{level-is}
 use Rattle.walks.proofs.Steps.{EntryHere, entry-here, no-head-entry}
+use Rattle.stores.proofs.Puts.{tail-room, puts-tail}
 use Rattle.stores.proofs.Writing.{Writing, writing-start, writing-done, Next, next-here, next-room, writing-more}
 use Rattle.rows.specs.Meet.{numbers, levelNumbers, seriesNumbers}
 use Rattle.rows.proofs.Numbers.{entryNumbers, entryNext, entriesNumbers, entries-emit, entry-four}
-use Rattle.rows.proofs.Tails.{ran-ok, ok-ran, same-row, row-then, row-room}
+use Rattle.rows.proofs.Tails.{ran-ok, ok-ran, same-row}
 
 pub record LevelWriting (b : Bool) (f : Form) (target at : ℕ) (s out₀ out : List ℕ) (p k : ℕ) : Type 0 where
   pub writes : Writing (entriesNumbers target) tagOfEntry (stepAt (levelOf b) f) (levelNumbers (levelOf b) f target at s) s out₀ out (at + p) p k
@@ -78,7 +79,10 @@ module _ {b : Bool} {f : Form} {target at : ℕ} {s out₀ out : List ℕ} {p k 
   pub entry-room : p + used + width + size ≤ length s
   entry-room = omega (arith, e .entry .room, length-drop p s)
 
-  -- what it stores
+  -- its row, and all that it stores
+  abbrev row : List ℕ
+  row = target ∷ key ∷ (at + (p + used + width)) ∷ size ∷ []
+
   abbrev stored : List ℕ
   stored = entryNumbers target (at + p) (e .next .it .val)
 
@@ -89,10 +93,10 @@ module _ {b : Bool} {f : Form} {target at : ℕ} {s out₀ out : List ℕ} {p k 
   entry-fits l = omega (arith, stored-fits l, entry-four target (at + p) (e .next .it .val))
 
   -- where its row ends
-  pub entry-end : length (levelNumbers (levelOf b) f target at s) ≤ length out₀ → {m : ℕ} {o : List ℕ} → (m ≡ k + 4) × (o ≡ sets out k (target ∷ key ∷ (at + (p + used + width)) ∷ size ∷ []))
+  pub entry-end : length (levelNumbers (levelOf b) f target at s) ≤ length out₀ → {m : ℕ} {o : List ℕ} → (m ≡ k + 4) × (o ≡ sets out k row)
       → (m ≤ length o) × (length o ≡ length out₀)
   entry-end l q =
-      let z = ap length (q .1) ∙ length-sets out k (target ∷ key ∷ (at + (p + used + width)) ∷ size ∷ []) in
+      let z = ap length (q .1) ∙ length-sets out k row in
       (omega (arith, z, q .0, entry-fits l), z ∙ e .writing .writes .same)
 
   stored-more : {out′ : List ℕ} {k′ : ℕ} → out′ ≡ sets out k stored → k′ ≡ k + length stored → LevelWriting b f target at s out₀ out′ (p + used + width + size) k′
@@ -116,13 +120,13 @@ module _ {b : Bool} {f : Form} {target at : ℕ} {s out₀ out : List ℕ} {p k 
 
   module _ {x : Bool} (ex : x ≡ (b && eqb key 101)) where
     module _ (tx : x ≡ false) where
-      item-is : stored ≡ target ∷ key ∷ (at + (p + used + width)) ∷ size ∷ []
+      item-is : stored ≡ row
       item-is =
           let o : at + p + length (oidBytes key) + width ≡ at + (p + used + width) = omega (arith, e .entry .oid) in
           let n : length (take size (drop (used + width) (drop p s))) ≡ size = ap length (sym value-is) ∙ value-long in
           ap (entryNumbers target (at + p)) (e .entry .one (rw (level-is b) (sym ex ∙ tx))) ∙ rw (o, n)
 
-      pub item-more : {m : ℕ} {o : List ℕ} → (m ≡ k + 4) × (o ≡ sets out k (target ∷ key ∷ (at + (p + used + width)) ∷ size ∷ []))
+      pub item-more : {m : ℕ} {o : List ℕ} → (m ≡ k + 4) × (o ≡ sets out k row)
           → LevelWriting b f target at s out₀ o (p + used + width + size) m
       item-more q = stored-more (q .1 ∙ ap (sets out k) (sym item-is)) (omega (arith, q .0, ap length item-is))
 
@@ -148,13 +152,15 @@ module _ {b : Bool} {f : Form} {target at : ℕ} {s out₀ out : List ℕ} {p k 
           let i : inside ≡ numbers (packRows 1 (at + (p + used + width)) (ps .val)) = ap (madeOf (λ qs. numbers (packRows 1 (at + (p + used + width)) qs))) r in
           ap (entryNumbers target (at + p)) v ∙ same-row (sym tag-is) o n (ap (λ j. numbers (packRows 1 j (ps .val))) o ∙ sym i)
 
-      module _ {m : ℕ} {o : List ℕ} (q : (m ≡ k + 4) × (o ≡ sets out k (target ∷ key ∷ (at + (p + used + width)) ∷ size ∷ []))) where
+      module _ {m : ℕ} {o : List ℕ} (q : (m ≡ k + 4) × (o ≡ sets out k row)) where
         pub series-fits : length (levelNumbers (levelOf b) f target at s) ≤ length out₀ → length inside ≤ length (take (length o - m) (drop m o))
-        series-fits l = row-room out k _ _ _ _ (length inside) (omega (arith, stored-fits l, ap length series-is)) (q .0) (q .1)
+        series-fits l = tail-room out k row inside q (omega (arith, stored-fits l, ap length series-is))
 
         pub series-end : length (levelNumbers (levelOf b) f target at s) ≤ length out₀ → m + length inside ≤ length out₀
         series-end l = omega (arith, stored-fits l, ap length series-is, q .0, e .writing .writes .same)
 
         pub series-more : {n : ℕ} {o′ : List ℕ} → (n ≡ length inside) × (o′ ≡ sets (take (length o - m) (drop m o)) 0 inside)
             → LevelWriting b f target at s out₀ (putMid m (length o - m) o o′) (p + used + width + size) (m + n)
-        series-more r = stored-more (row-then out k _ _ _ _ inside (q .0) (q .1) (r .1) ∙ ap (sets out k) (sym series-is)) (omega (arith, q .0, r .0, ap length series-is))
+        series-more r =
+            let w = puts-tail out k row inside q r in
+            stored-more (w .1 ∙ ap (sets out k) (sym series-is)) (w .0 ∙ ap (λ x. k + length x) (sym series-is))

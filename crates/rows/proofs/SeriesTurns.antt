@@ -22,10 +22,11 @@ use Rattle.heads.specs.Meet.{packHeadOf}
 use Rattle.walks.specs.Runs.{Ran, levelRun, seriesRun, madeOf}
 use Rattle.walks.proofs.PackTurns.{drop-take}
 use Rattle.walks.proofs.Steps.{PackHere, pack-here, no-head-pack}
+use Rattle.stores.proofs.Puts.{tail-room, puts-tail}
 use Rattle.stores.proofs.Writing.{Writing, writing-start, writing-done, Next, next-here, next-room, writing-more}
 use Rattle.rows.specs.Meet.{numbers, levelNumbers, seriesNumbers}
 use Rattle.rows.proofs.Numbers.{level-pack, entriesNumbers, packNumbers, packsNumbers, packs-emit}
-use Rattle.rows.proofs.Tails.{ran-ok, ok-ran, same-row, row-then, row-room}
+use Rattle.rows.proofs.Tails.{ran-ok, ok-ran, same-row}
 
 -- n is the number of the pack that comes; as each takes a byte, it is small
 pub record SeriesWriting (f : Form) (at : ℕ) (s out₀ out : List ℕ) (p k n : ℕ) : Type 0 where
@@ -109,13 +110,16 @@ module _ {f : Form} {at : ℕ} {s out₀ out : List ℕ} {p k n key used width s
   pub pack-fits : length (seriesNumbers f at s) ≤ length out₀ → k + 4 ≤ length out
   pack-fits l = omega (arith, packed-fits l)
 
-  module _ {m : ℕ} {o : List ℕ} (q : (m ≡ k + 4) × (o ≡ sets out k (n ∷ 0 ∷ (at + p + width) ∷ size ∷ []))) where
+  abbrev row : List ℕ
+  row = n ∷ 0 ∷ (at + p + width) ∷ size ∷ []
+
+  module _ {m : ℕ} {o : List ℕ} (q : (m ≡ k + 4) × (o ≡ sets out k row)) where
     pub items-fit : length (seriesNumbers f at s) ≤ length out₀ → length held ≤ length (take (length o - m) (drop m o))
-    items-fit l = row-room out k _ _ _ _ (length held) (packed-fits l) (q .0) (q .1)
+    items-fit l = tail-room out k row held q (omega (arith, packed-fits l))
 
     pub pack-end : length (seriesNumbers f at s) ≤ length out₀ → (m ≤ length o) × (length o ≡ length out₀)
     pack-end l =
-        let z = ap length (q .1) ∙ length-sets out k (n ∷ 0 ∷ (at + p + width) ∷ size ∷ []) in
+        let z = ap length (q .1) ∙ length-sets out k row in
         (omega (arith, z, q .0, pack-fits l), z ∙ e .writing .writes .same)
 
     pub items-end : length (seriesNumbers f at s) ≤ length out₀ → m + length held ≤ length out₀
@@ -125,9 +129,10 @@ module _ {f : Form} {at : ℕ} {s out₀ out : List ℕ} {p k n key used width s
         → SeriesWriting f at s out₀ (putMid m (length o - m) o o′) (p + width + size) (m + j) (n + 1)
     pack-more r =
         let i = e .pack-is in
+        let w = puts-tail out k row held q r in
         let z : at + (p + width + size) ≡ at + p + length (flatPack (e .next .it .val)) = omega (arith, i .flat-is, i .used-is) in
         record {
           writes = writing-more packs-emit _ _ _ _ _ (e .writing .writes) (e .next) (omega (arith, i .used-is, i .len)) (omega (arith, i .used-is, pack-room))
-              (row-then out k _ _ _ _ held (q .0) (q .1) (r .1) ∙ ap (sets out k) (sym packed-is)) (rw (z, add-one n)) (omega (arith, i .used-is)) (omega (arith, q .0, r .0, ap length packed-is));
+              (w .1 ∙ ap (sets out k) (sym packed-is)) (rw (z, add-one n)) (omega (arith, i .used-is)) (w .0 ∙ ap (λ x. k + length x) (sym packed-is));
           few = omega (arith, e .writing .few, i .len);
         }

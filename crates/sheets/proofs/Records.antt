@@ -7,8 +7,7 @@ use mathlib.Core.List.{List, [], _∷_, _++_}
 use lib.Dec.{eqb}
 use borrow.Author.Tests.{ne-eqb}
 use lib.ListN.{length, take, drop, length-append, length-drop}
-use lib.Seq.{sets, length-sets}
-use borrow.Rule.Slice.PartMut.{putMid}
+use lib.Seq.{sets}
 use Rattle.format.specs.Coding.{fixed}
 use Rattle.format.specs.Lists.{none?}
 use Rattle.format.specs.Table.{Level, Rule, isSet, isNumber, ruleOf, strip, short}
@@ -16,27 +15,8 @@ use Rattle.format.specs.Sheet.{valBytes, markOf, TG}
 use Rattle.format.proofs.coding.Digits.{length-fixed}
 use Rattle.coding.proofs.Rooms.{tail-part}
 use Rattle.items.specs.Meet.{levelOf}
-use Rattle.stores.proofs.Stores.{sets-append, tail-length, tail-stored}
+use Rattle.stores.proofs.Puts.{Puts, puts-then, puts-fixed}
 use Rattle.sheets.specs.Meet.{itemSheet}
-
--- xs stored into o from a on: where they end, and what o is then
-abbrev pub Puts : List ℕ → ℕ → List ℕ → ℕ → List ℕ → Type 0
-Puts o a xs r o′ = (r ≡ a + length xs) × (o′ ≡ sets o a xs)
-
-pub puts-then : (o : List ℕ) (a : ℕ) (xs ys : List ℕ) {o₁ o₂ : List ℕ} {b r : ℕ} → Puts o a xs b o₁ → Puts o₁ b ys r o₂ → Puts o a (xs ++ ys) r o₂
-puts-then o a xs ys {b = b} p q =
-    (omega (arith, p .0, q .0, length-append xs ys), q .1 ∙ ap (λ x. sets x b ys) (p .1) ∙ ap (λ k. sets (sets o a xs) k ys) (p .0) ∙ sym (sets-append o a xs ys))
-
-pub puts-fixed : (o : List ℕ) (a k n : ℕ) {o₁ : List ℕ} {r : ℕ} → (r ≡ a + k) × (o₁ ≡ sets o a (fixed k n)) → Puts o a (fixed k n) r o₁
-puts-fixed o a k n p = (omega (arith, p .0, length-fixed k n), p .1)
-
--- a tail of the output is lent: for what is stored at its start
-module _ (o : List ℕ) (a : ℕ) (xs ys : List ℕ) {o₁ : List ℕ} {m : ℕ} (p : Puts o a xs m o₁) where
-  pub tail-room : a + length (xs ++ ys) ≤ length o → length ys ≤ length (take (length o₁ - m) (drop m o₁))
-  tail-room h = rw tail-length (omega (arith, h, p .0, length-append xs ys, ap length (p .1), length-sets o a xs))
-
-  pub puts-tail : {r : ℕ} {e : List ℕ} → (r ≡ length ys) × (e ≡ sets (take (length o₁ - m) (drop m o₁)) 0 ys) → Puts o a (xs ++ ys) (m + r) (putMid m (length o₁ - m) o₁ e)
-  puts-tail {e = e} q = puts-then o a xs ys p (ap (λ k. m + k) (q .0), tail-stored o₁ m e ys (q .1))
 
 -- ---- an item
 

@@ -29,9 +29,9 @@ use Rattle.walks.specs.Runs.{Ran, madeOf, levelRun, seriesRun}
 use Rattle.walks.proofs.ItemTurns.{level-is}
 use Rattle.walks.proofs.PackTurns.{drop-take}
 use Rattle.walks.proofs.Steps.{EntryHere, entry-here, no-head-entry, PackHere, pack-here, no-head-pack}
+use Rattle.stores.proofs.Puts.{Puts, puts-fixed, tail-room, puts-tail}
 use Rattle.stores.proofs.Writing.{Emits, Writing, writing-start, writing-done, Next, next-here, next-room, writing-more}
 use Rattle.sheets.specs.Meet.{itemSheet, entrySheet, packSheet, levelSheet, seriesSheet}
-use Rattle.sheets.proofs.Records.{Puts, puts-fixed, tail-room, puts-tail}
 
 each : {X : Type 0} (emit : X → List ℕ) → Emits {X = X} {S = Unit {0}} (λ _. emit) (λ _ _. tt) (λ _. flatAll emit)
 unfolding flatAll

@@ -6,7 +6,7 @@ ghost use lib.Seq.{sets};
 ghost use mathlib.Core.List.{_∷_};
 ghost use Rattle.format.specs.Coding.{fixed};
 ghost use Rattle.format.specs.Sheet.{valBytes, markOf, TG};
-ghost use Rattle.items.specs.Meet.{formOf, levelOf};
+ghost use Rattle.items.specs.Meet.{formOf, levelOf, itemTable};
 ghost use Rattle.sheets.specs.Meet.{itemSheet, levelSheet, seriesSheet};
 ghost use Rattle.walks.specs.Runs.{Ran, levelRun, seriesRun};
 use heads::Head;
@@ -32,8 +32,8 @@ fn put_item(out: &mut [u8], at: usize, set: bool, tag: u64, v: &[u8]) -> usize
 }
 
 // An item's record from its value as it stands in the packet; where it ends. The set's checksum has none.
-fn put_plain(out: &mut [u8], at: usize, set: bool, tag: u64, v: &[u8]) -> usize
-    requires { ⌜ (0 < length (now v)) × (at + length (itemSheet (levelOf set) tag (now v)) ≤ length (now out)) ⌝ }
+fn put_plain(table: &[u8], out: &mut [u8], at: usize, set: bool, tag: u64, v: &[u8]) -> usize
+    requires { ⌜ (now table ≡ itemTable) × ((0 < length (now v)) × (at + length (itemSheet (levelOf set) tag (now v)) ≤ length (now out))) ⌝ }
     ensures { λ r. ⌜ (r ≡ at + length (itemSheet (levelOf set) tag (now (v .entry)))) × (now (out .exit) ≡ sets (now (out .entry)) at (itemSheet (levelOf set) tag (now (v .entry)))) ⌝ }
 {
     if set {
@@ -41,7 +41,7 @@ fn put_plain(out: &mut [u8], at: usize, set: bool, tag: u64, v: &[u8]) -> usize
             return at;
         }
     }
-    let rule = items::rule_of(set, tag);
+    let rule = items::rule_of(table, set, tag);
     let n = items::short_size(rule, v);
     put_item(out, at, set, tag, &v[v.len() - n..])
 }
@@ -58,8 +58,8 @@ fn put_target(out: &mut [u8], at: usize, id: u64) -> usize
 // ---- the walks
 
 // The items of a level: the set, or a pack; how many bytes.
-pub fn item_sheet(s: &[u8], set: bool, alone: bool, out: &mut [u8]) -> usize
-    requires { ⌜ (length (now s) ≤ 8192) × Ran (levelRun (levelOf set) (formOf alone) (now s)) × (length (levelSheet (levelOf set) (formOf alone) (now s)) ≤ length (now out)) ⌝ }
+pub fn item_sheet(table: &[u8], s: &[u8], set: bool, alone: bool, out: &mut [u8]) -> usize
+    requires { ⌜ (now table ≡ itemTable) × ((length (now s) ≤ 8192) × Ran (levelRun (levelOf set) (formOf alone) (now s)) × (length (levelSheet (levelOf set) (formOf alone) (now s)) ≤ length (now out))) ⌝ }
     ensures { λ r. ⌜ (r ≡ length (levelSheet (levelOf set) (formOf alone) (now (s .entry)))) × (now (out .exit) ≡ sets (now (out .entry)) 0 (levelSheet (levelOf set) (formOf alone) (now (s .entry)))) ⌝ }
 {
     let mut p: usize = 0;
@@ -79,9 +79,9 @@ pub fn item_sheet(s: &[u8], set: bool, alone: bool, out: &mut [u8]) -> usize
         let next = from + size;
         k = if walks::is_series(set, key) {
             let m = stores::put_number(out, k, 21587, 2);
-            m + pack_sheet(&s[from..next], alone, &mut out[m..])
+            m + pack_sheet(table, &s[from..next], alone, &mut out[m..])
         } else {
-            put_plain(out, k, set, key, &s[from..next])
+            put_plain(table, out, k, set, key, &s[from..next])
         };
         p = next;
     }
@@ -89,8 +89,8 @@ pub fn item_sheet(s: &[u8], set: bool, alone: bool, out: &mut [u8]) -> usize
 }
 
 // The packs of a series; how many bytes.
-pub fn pack_sheet(s: &[u8], alone: bool, out: &mut [u8]) -> usize
-    requires { ⌜ (length (now s) ≤ 8192) × Ran (seriesRun (formOf alone) (now s)) × (length (seriesSheet (formOf alone) (now s)) ≤ length (now out)) ⌝ }
+pub fn pack_sheet(table: &[u8], s: &[u8], alone: bool, out: &mut [u8]) -> usize
+    requires { ⌜ (now table ≡ itemTable) × ((length (now s) ≤ 8192) × Ran (seriesRun (formOf alone) (now s)) × (length (seriesSheet (formOf alone) (now s)) ≤ length (now out))) ⌝ }
     ensures { λ r. ⌜ (r ≡ length (seriesSheet (formOf alone) (now (s .entry)))) × (now (out .exit) ≡ sets (now (out .entry)) 0 (seriesSheet (formOf alone) (now (s .entry)))) ⌝ }
 {
     let mut p: usize = 0;
@@ -109,7 +109,7 @@ pub fn pack_sheet(s: &[u8], alone: bool, out: &mut [u8]) -> usize
         let from = p + width + used;
         let next = p + width + size;
         let m = put_target(out, k, key);
-        k = m + item_sheet(&s[from..next], false, alone, &mut out[m..]);
+        k = m + item_sheet(table, &s[from..next], false, alone, &mut out[m..]);
         p = next;
     }
     k

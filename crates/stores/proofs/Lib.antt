@@ -1,2 +1,4 @@
 pub mod Stores
+pub mod Puts
+pub mod Codings
 pub mod Writing

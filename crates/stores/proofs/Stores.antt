@@ -1,14 +1,14 @@
 -- Laws of `sets`, numbers stored from an index on. Only `sets-start` asks that they fit.
-use Prim.Native.Nat.{ℕ, suc, _+_, _-_, _/_, _%_, _≤_, _<_}
+use Prim.Native.Nat.{ℕ, zero, suc, _+_, _-_, _/_, _%_, _≤_, _<_}
 use mathlib.Core.Path.{_≡_, refl, _∙_, ap, sym}
 use mathlib.Core.List.{List, [], _∷_, _++_, append-nil}
 use native.Mathlib.Nat.{add-suc, add-zero, zero-add, le-refl, le-add-right}
 use native.Mathlib.Numerals.{add-one}
 use native.Mathlib.Omega.{arith}
-use lib.ListN.{length, take, drop, set, getD, take-append-drop, length-drop, length-set, drop-of-length-le}
+use lib.ListN.{length, take, drop, set, getD, take-append-drop, length-append, length-drop, length-set, drop-of-length-le}
 use lib.Seq.{sets, sets-eq, set-comm, take-set-le, drop-set-add, drop-cons, take-all}
 use borrow.Rule.Slice.PartMut.{putMid}
-use Rattle.format.specs.Coding.{fixed}
+use Rattle.format.specs.Coding.{digits, fixed}
 use Rattle.format.proofs.coding.Digits.{length-fixed}
 
 -- one run after another
@@ -24,6 +24,10 @@ sets-start l vs h = sets-eq vs l 0 (omega arith) ∙ ap (λ k. vs ++ drop k l) (
 pub sets-behind : (l : List ℕ) (i : ℕ) (xs : List ℕ) (j b : ℕ) → i + length xs ≤ j → set (sets l i xs) j b ≡ sets (set l j b) i xs
 sets-behind l i [] j b h = refl
 sets-behind l i (x ∷ xs) j b h = sets-behind (set l i x) (suc i) xs j b (omega arith) ∙ ap (λ r. sets r (suc i) xs) (set-comm l i j x b (λ e. omega arith))
+
+-- the last of a run first, the others in front of it later
+pub sets-snoc : (l : List ℕ) (i : ℕ) (xs : List ℕ) (x : ℕ) {k : ℕ} → length xs ≡ k → sets l i (xs ++ (x ∷ [])) ≡ sets (set l (i + k) x) i xs
+sets-snoc l i xs x {k = k} e = sets-append l i xs (x ∷ []) ∙ ap (λ j. set (sets l i xs) (i + j) x) e ∙ sets-behind l i xs (i + k) x (omega arith)
 
 -- a run stored in the tail from n on, seen in the whole
 pub sets-tail : (n i : ℕ) (l vs : List ℕ) → take n l ++ sets (drop n l) i vs ≡ sets l (n + i) vs
@@ -67,36 +71,58 @@ module _ (out₀ : List ℕ) (at : ℕ) (s out : List ℕ) (i : ℕ) (l : CopyLe
   pub copy-done : length s ≤ i → out ≡ sets out₀ at s
   copy-done g = sym (l .rest ∙ ap (λ r. sets out (at + i) r) (drop-of-length-le s {i = i} g))
 
--- the last byte of a number first, the others in front of it later
-fixed-step : (out : List ℕ) (at i n : ℕ) → sets out at (fixed (suc i) n) ≡ sets (set out (at + i) (n % 256)) at (fixed i (n / 256))
-unfolding fixed
-fixed-step out at i n =
-    let len = length-fixed i (n / 256) in
-    sets-append out at (fixed i (n / 256)) (n % 256 ∷ [])
-    ∙ ap (λ k. set (sets out at (fixed i (n / 256))) (at + k) (n % 256)) len
-    ∙ sets-behind out at (fixed i (n / 256)) (at + i) (n % 256) (omega arith)
-
--- a loop that stores v's k bytes from the last on: what it still has to store, the i bytes of n
-pub record NumberLeft (out₀ : List ℕ) (at v k : ℕ) (out : List ℕ) (i n : ℕ) : Type 0 where
-  pub to : i ≤ k
+-- a loop that stores `whole` from its last number to its first: what it still has to store, the numbers ds in front
+pub record BackLeft (out₀ : List ℕ) (at : ℕ) (whole out ds : List ℕ) : Type 0 where
   pub same : length out ≡ length out₀
-  pub rest : sets out₀ at (fixed k v) ≡ sets out at (fixed i n)
+  pub rest : sets out₀ at whole ≡ sets out at ds
 
-pub number-start : (out : List ℕ) (at v k : ℕ) → NumberLeft out at v k out k v
-number-start out at v k = record { to = le-refl k; same = refl; rest = refl }
+pub back-start : (out : List ℕ) (at : ℕ) (whole : List ℕ) → BackLeft out at whole out whole
+back-start out at whole = record { same = refl; rest = refl }
 
-module _ (out₀ : List ℕ) (at v k : ℕ) (out : List ℕ) (i n : ℕ) (l : NumberLeft out₀ at v k out i n) where
-  pub number-step : 0 < i → NumberLeft out₀ at v k (set out (at + (i - 1)) (n % 256)) (i - 1) (n / 256)
+module _ (out₀ : List ℕ) (at : ℕ) (whole out ds : List ℕ) (l : BackLeft out₀ at whole out ds) where
+  pub back-step : (ds′ : List ℕ) (d : ℕ) → ds ≡ ds′ ++ (d ∷ []) → {i : ℕ} → length ds′ ≡ i → BackLeft out₀ at whole (set out (at + i) d) ds′
+  back-step ds′ d e len = record { same = simp length-set (l .same); rest = l .rest ∙ ap (sets out at) e ∙ sets-snoc out at ds′ d len }
+
+  pub back-done : length ds ≡ 0 → out ≡ sets out₀ at whole
+  back-done e = sym (l .rest ∙ none ds e)
+    where
+      none : (ds : List ℕ) → length ds ≡ 0 → sets out at ds ≡ out
+      none [] e = refl
+      none (d ∷ ds) e = absurd (omega arith)
+
+-- the bytes of a number
+module _ (out₀ : List ℕ) (at : ℕ) (whole out : List ℕ) (i n : ℕ) (l : BackLeft out₀ at whole out (fixed i n)) where
+  pub number-step : 0 < i → BackLeft out₀ at whole (set out (at + (i - 1)) (n % 256)) (fixed (i - 1) (n / 256))
+  unfolding fixed
   number-step g =
       let e : i ≡ suc (i - 1) = omega arith in
-      record {
-        to = omega (arith, l .to);
-        same = simp length-set (l .same);
-        rest = l .rest ∙ ap (λ j. sets out at (fixed j n)) e ∙ fixed-step out at (i - 1) n;
-      }
+      back-step out₀ at whole out (fixed i n) l (fixed (i - 1) (n / 256)) (n % 256) (ap (λ j. fixed j n) e) (length-fixed (i - 1) (n / 256))
 
-  pub number-done : i ≤ 0 → out ≡ sets out₀ at (fixed k v)
-  unfolding fixed
-  number-done g =
-      let none : i ≡ 0 = omega arith in
-      sym (l .rest ∙ ap (λ j. sets out at (fixed j n)) none)
+  pub number-done : i ≤ 0 → out ≡ sets out₀ at whole
+  number-done g = back-done out₀ at whole out (fixed i n) l (omega (arith, length-fixed i n))
+
+-- the digits of a number: as many as there are, whatever the count that `digits` was given
+pub record DigitsLeft (b m : ℕ) (out₀ : List ℕ) (at : ℕ) (whole out : List ℕ) (i n : ℕ) : Type 0 where
+  pub most : ℕ
+  pub long : length (digits b m most n) ≡ i
+  pub left : BackLeft out₀ at whole out (digits b m most n)
+
+module _ (b m : ℕ) (out₀ : List ℕ) (at : ℕ) where
+  pub digits-start : (k n : ℕ) {i : ℕ} → length (digits b m k n) ≡ i → DigitsLeft b m out₀ at (digits b m k n) out₀ i n
+  digits-start k n e = record { most = k; long = e; left = back-start out₀ at (digits b m k n) }
+
+  module _ (whole out : List ℕ) (i n : ℕ) (l : DigitsLeft b m out₀ at whole out i n) where
+    pub digits-step : 0 < i → {d : ℕ} → d ≡ n % b + m → {n′ : ℕ} → n′ ≡ n / b → DigitsLeft b m out₀ at whole (set out (at + (i - 1)) d) (i - 1) n′
+    unfolding digits
+    digits-step g ed en = rw (ed, en) (by (l .most) n (l .long) (l .left))
+      where
+        by : (k n : ℕ) → length (digits b m k n) ≡ i → BackLeft out₀ at whole out (digits b m k n) → DigitsLeft b m out₀ at whole (set out (at + (i - 1)) (n % b + m)) (i - 1) (n / b)
+        by zero n e r = absurd (omega arith)
+        by (suc k) zero e r = absurd (omega arith)
+        by (suc k) (suc n) e r =
+            let ds : List ℕ = digits b m k (suc n / b) in
+            let long : length ds ≡ i - 1 = omega (arith, simp length-append at e) in
+            record { most = k; long = long; left = back-step out₀ at whole out _ r ds _ refl long }
+
+    pub digits-done : i ≤ 0 → out ≡ sets out₀ at whole
+    digits-done g = back-done out₀ at whole out _ (l .left) (omega (arith, l .long))

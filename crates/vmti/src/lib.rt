@@ -52,7 +52,8 @@ pub fn read(packet: &[u8], alone: bool, sheet: &mut [u8]) -> Answer
     }
     let from = walks::whole::set_start(packet, alone);
     stores::put_number(sheet, 0, head_of(alone), 3);
-    sheets::item_sheet(&packet[from..], true, alone, &mut sheet[3..]);
+    let table = items::table();
+    sheets::item_sheet(&table, &packet[from..], true, alone, &mut sheet[3..]);
     answer_of(0, sizes.sheet)
 }
 

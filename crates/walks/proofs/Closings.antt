@@ -10,11 +10,12 @@ use lib.Seq.{take-all}
 use lib.Dec.{eqb}
 use Rattle.format.specs.Answer.{ok, _>>=_, need, after}
 use Rattle.format.specs.Coding.{bytesNumber}
-use Rattle.format.specs.Lists.{has}
-use Rattle.format.specs.Packet.{Entry, plain, Packet, tagOfEntry, checksum}
+use Rattle.format.specs.Lists.{has, flatAll}
+use Rattle.format.specs.Packet.{Entry, plain, Packet, tagOfEntry, flatEntry, checksum}
 use Rattle.format.specs.Table.{Form, embedded, standalone, set}
 use Rattle.format.specs.Read.{start, unsealed, closing}
-use Rattle.format.specs.Sheet.{content, sheetBytes}
+use Rattle.format.specs.Sheet.{partOf, content, sheetBytes}
+use Rattle.format.specs.Calls.{entryOf}
 use Rattle.format.specs.Rows.{sealItem, sealed, rowsOf}
 use Rattle.format.specs.Valid.{All}
 use Rattle.format.proofs.reading.Seal.{SetRead, split, split-embedded, split-alone}
@@ -23,9 +24,10 @@ use Rattle.items.specs.Meet.{formOf}
 use Rattle.walks.specs.declared.Sizes.{Sizes}
 use Rattle.walks.specs.declared.Checked.{Checked}
 use Rattle.walks.specs.declared.Checked.the-variants.{Fine, Wrong}
-use Rattle.walks.specs.Meet.{sizes, total, any, weightOfEntry, checkedOf}
+use Rattle.walks.specs.Meet.{total, any, weightOfEntry, checkedOf}
 use Rattle.walks.specs.Whole.{fineOf, closingBy}
-use Rattle.walks.proofs.Totals.{parts-size, entries-count, seal-sheet, seal-rows}
+use Rattle.walks.proofs.Walks.{same-sizes}
+use Rattle.walks.proofs.Totals.{parts-sheet, parts-normal, entries-say, says-no-seal, entries-count, seal-last}
 
 -- ---- as the code tests it
 
@@ -68,34 +70,39 @@ packetOf f w es c = record { form = f; width = w; entries = unsealed es; sum = c
 abbrev summed : List Entry → Sizes
 summed es = total (weightOfEntry set) es
 
-sheet-size : (p : Packet) → All (λ e. eqb (tagOfEntry e) 1 ≡ false) (p .entries) → length (sheetBytes (content p)) ≡ 3 + summed (p .entries) .sheet
-unfolding sheetBytes content
-sheet-size p h = omega (arith, parts-size (p .entries) h)
+module _ (p : Packet) (h : All (λ e. eqb (tagOfEntry e) 1 ≡ false) (p .entries)) where
+  sheet-size : length (sheetBytes (content p)) ≡ 3 + summed (p .entries) .sheet
+  unfolding sheetBytes content
+  sheet-size = omega (arith, parts-sheet (map partOf (p .entries)) (says-no-seal (p .entries) h), ap (λ a. a .sheet) (entries-say (p .entries)))
 
-fine-is : {a b c d : ℕ} → a ≡ c → b ≡ d → Fine (sizes a b) ≡ Fine (sizes c d)
-fine-is p q = rw (p, q)
+  normal-size : length (flatAll flatEntry (map entryOf (content p .parts))) ≡ summed (p .entries) .normal
+  unfolding content
+  normal-size = parts-normal (map partOf (p .entries)) (says-no-seal (p .entries) h) ∙ sym (ap (λ a. a .normal) (entries-say (p .entries)))
+
+  -- a is what its entries weigh, with the checksum or without
+  fine-is : {a : Sizes} → a .sheet ≡ summed (p .entries) .sheet → a .rows ≡ length (rowsOf p) → a .normal ≡ summed (p .entries) .normal → a .inner ≡ summed (p .entries) .inner
+      → fineOf a ≡ checkedOf (ok p)
+  fine-is es er en ei = ap Fine (same-sizes (ap (λ n. 3 + n) es ∙ sym sheet-size) er (en ∙ sym normal-size) ei)
 
 fine-embedded : (w : ℕ) (es : List Entry) → SetRead embedded [] es → fineOf (summed es) ≡ checkedOf (ok (packetOf embedded w es []))
 unfolding rowsOf sealed
 fine-embedded w es h =
     let k = split embedded [] es h in
-    let u : es ≡ unsealed es = split-embedded es k in
-    let z = ap summed u in
-    fine-is
-    (ap (λ a. 3 + a .sheet) z ∙ sym (sheet-size (packetOf embedded w es []) (k .no-seal)))
-    (ap (λ a. a .rows) z ∙ sym (entries-count (start embedded w) (unsealed es)))
+    let z = ap summed (split-embedded es k) in
+    fine-is (packetOf embedded w es []) (k .no-seal) (ap (λ a. a .sheet) z) (ap (λ a. a .rows) z ∙ sym (entries-count (start embedded w) (unsealed es))) (ap (λ a. a .normal) z) (ap (λ a. a .inner) z)
 
 fine-alone : (w : ℕ) (es : List Entry) (c : List ℕ) → SetRead standalone [] es → has 1 (map tagOfEntry es) ≡ true → fineOf (summed es) ≡ checkedOf (ok (packetOf standalone w es c))
 unfolding rowsOf sealed
 fine-alone w es c h o =
     let k = split standalone [] es h in
     split-alone es k o λ d _ u.
-    let z = ap summed u in
-    let n = sheet-size (packetOf standalone w es c) (k .no-seal) in
+    let z = ap summed u ∙ seal-last d (unsealed es) in
     let m = entries-count (start standalone w) (unsealed es ++ (plain (sealItem c) ∷ [])) in
-    fine-is
-    (ap (λ a. 3 + a .sheet) z ∙ omega (arith, n, seal-sheet d (unsealed es)))
-    (ap (λ a. a .rows) z ∙ omega (arith, m, seal-rows d (unsealed es), seal-rows c (unsealed es)))
+    fine-is (packetOf standalone w es c) (k .no-seal)
+    (ap (λ a. a .sheet) z ∙ add-zero _)
+    (ap (λ a. a .rows) z ∙ sym (m ∙ ap (λ a. a .rows) (seal-last c (unsealed es))))
+    (ap (λ a. a .normal) z ∙ add-zero _)
+    (ap (λ a. a .inner) z ∙ add-zero _)
 
 -- ---- the mark of a set is its tag 1
 

@@ -13,30 +13,31 @@ use Rattle.format.specs.Answer.{ok, refused, got}
 use Rattle.format.specs.Coding.{Bytes}
 use Rattle.format.specs.Table.{Form, Level, set, isSet}
 use Rattle.format.specs.Packet.{plain, series, tagOfEntry}
+use Rattle.format.specs.Run.{always}
 use Rattle.format.specs.Read.{item}
 use Rattle.format.proofs.words.Answers.{no-bool}
 use Rattle.format.proofs.words.Bytes.{bytes-drop}
 use Rattle.items.specs.Meet.{levelOf}
-use Rattle.heads.specs.Meet.{Past}
+use Rattle.coding.proofs.Counts.{len-most}
+use Rattle.heads.specs.Meet.{peek, Past}
 use Rattle.heads.proofs.Heads.{mid-part}
-use Rattle.heads.proofs.Before.{past-none}
 use Rattle.walks.specs.declared.Piece.{Piece}
 use Rattle.walks.specs.declared.Piece.the-variants as piece
 use Rattle.walks.specs.declared.Sizes.{Sizes}
 use Rattle.walks.specs.declared.Walked.{Walked}
 use Rattle.walks.specs.declared.Walked.the-variants.{Good, Bad}
-use Rattle.walks.specs.Meet.{pieceOf, sizes, itemSizes, seriesSizes, plusSizes, weightOfEntry, stepAt, markTag, levelWalk, seriesWalk, seriesFrom, stopAt, laterBy, Within}
-use Rattle.walks.proofs.Walks.{Few, Going, going-start}
-use Rattle.walks.proofs.Levels.{Stood, stood, step-fault, item-peek, plain-step, plain-weight, plain-few, series-bad, series-good}
+use Rattle.walks.specs.Meet.{pieceOf, noSizes, itemSizes, seriesSizes, plusSizes, weightOfEntry, stepAt, markTag, levelWalk, seriesWalk, seriesFrom, stopAt, laterBy, Few, Small, Within}
+use Rattle.walks.proofs.Walks.{few-more, Going, going-start}
+use Rattle.walks.proofs.Levels.{Stood, stood, step-fault, read-peek, plain-step, plain-weight, plain-few, series-bad, series-good}
 use Rattle.walks.proofs.Turns.{Reads, within-of, within-more, turn-bad, turn-more}
 
 abbrev pub LevelGoing : Bool → Form → List ℕ → ℕ → Sizes → Bool → ℕ → ℕ → Type 0
 LevelGoing b f s p a m top low =
-    Going false b (weightOfEntry (levelOf b)) (λ e. eqb (tagOfEntry e) (markTag (levelOf b))) tagOfEntry (stepAt (levelOf b) f) (levelWalk (levelOf b) f s) s p a m top low
+    Going (peek false false b) always (weightOfEntry (levelOf b)) (λ e. eqb (tagOfEntry e) (markTag (levelOf b))) tagOfEntry (stepAt (levelOf b) f) (levelWalk (levelOf b) f s) s p a m top low
 
-pub level-start : (b : Bool) (f : Form) (s : List ℕ) → LevelGoing b f s 0 (sizes 0 0) false 0 18446744073709551615
+pub level-start : (b : Bool) (f : Form) (s : List ℕ) → LevelGoing b f s 0 noSizes false 0 18446744073709551615
 unfolding levelWalk
-level-start b f s = going-start _ _ _ _ _ _ _ s (past-none false b s) refl
+level-start b f s = going-start _ _ _ _ _ _ _ s refl
 
 -- ---- what one entry says
 
@@ -80,7 +81,12 @@ told-set f seen u from size small k (Good b c) e h =
             key-is = refl;
             weighs = ap seriesSizes (t .weight) ∙ ea;
             marks = em;
-            few = subst (λ x. Few x (from + size)) ea (record { sheet = omega (arith, h .0, k .head); rows = omega (arith, h .1, k .head) });
+            few = subst (λ x. Few x (from + size)) ea (record {
+              sheet = omega (arith, h .sheet, k .head);
+              rows = omega (arith, h .rows, k .head);
+              normal = omega (arith, h .normal, k .head, len-most (b .normal));
+              inner = omega (arith, h .normal, k .head);
+            });
           };
     }
 told-set f seen u from size small k (Bad n q) e h = record {
@@ -113,21 +119,21 @@ series-deep false tag e t = no-bool (sym e ∙ t)
 
 -- ---- the turn
 
-module _ {b : Bool} (f : Form) {s : List ℕ} {p : ℕ} {sum : Sizes} {mark : Bool} {top low : ℕ} (g : LevelGoing b f s p sum mark top low) (h : p < length s)
-    {a : Piece} (ea : (seen : List ℕ) → Past false b s p top low seen → a ≡ pieceOf (levelOf b) (item (levelOf b) f seen (drop p s))) where
+module _ (b : Bool) (f : Form) {s : List ℕ} {p : ℕ} {sum : Sizes} {mark : Bool} {top low : ℕ} (g : LevelGoing b f s p sum mark top low) (h : p < length s)
+    {a : Piece} (ea : (seen : List ℕ) → Past (peek false false b) s p top low seen → a ≡ pieceOf (levelOf b) (item (levelOf b) f seen (drop p s))) where
   here : a ≡ pieceOf (levelOf b) (item (levelOf b) f (g .seen) (drop p s))
   here = ea (g .seen) (g .past)
 
   pub item-fault : {n : ℕ} {r : Walked} → a ≡ piece.Fault n → r ≡ stopAt p a → (r ≡ levelWalk (levelOf b) f s) × Within r (length s)
   item-fault {n = n} t e =
-      turn-bad g h n 0 (e ∙ ap (stopAt p) t ∙ ap (Bad n) (sym (add-zero p))) (step-fault (levelOf b) f (g .seen) (drop p s) n (sym t ∙ here)) (omega arith)
+      turn-bad g h refl n 0 (e ∙ ap (stopAt p) t ∙ ap (Bad n) (sym (add-zero p))) (step-fault (levelOf b) f (g .seen) (drop p s) n (sym t ∙ here)) (omega arith)
 
 -- an item that the code has read at p, in a level of no more bytes than a packet's
 pub record ItemAt (b : Bool) (f : Form) (s : List ℕ) (p : ℕ) (sum : Sizes) (mark : Bool) (top low tag from size small : ℕ) : Type 0 where
   pub going : LevelGoing b f s p sum mark top low
   pub here : p < length s
   pub it : Piece
-  pub told : (seen : List ℕ) → Past false b s p top low seen → it ≡ pieceOf (levelOf b) (item (levelOf b) f seen (drop p s))
+  pub told : (seen : List ℕ) → Past (peek false false b) s p top low seen → it ≡ pieceOf (levelOf b) (item (levelOf b) f seen (drop p s))
   pub whole : it ≡ piece.Whole tag from size small
   pub bytes : Bytes s
   pub most : length s ≤ 8192
@@ -164,19 +170,19 @@ module _ {b : Bool} {f : Form} {s : List ℕ} {p : ℕ} {sum : Sizes} {mark : Bo
     pub entry-bad : {n q : ℕ} {r : Walked} → w ≡ Bad n q → r ≡ laterBy p w → (r ≡ levelWalk (levelOf b) f s) × Within r (length s)
     entry-bad {n = n} {q = q} t e =
         let (j, l) = k .bad n q t in
-        turn-bad (i .going) (i .here) n q (e ∙ ap (laterBy p) t) j (omega (arith, l, piece-room))
+        turn-bad (i .going) (i .here) refl n q (e ∙ ap (laterBy p) t) j (omega (arith, l, piece-room))
 
     pub bad-within : {n q : ℕ} → w ≡ Bad n q → Within w 8192 × (p ≤ 8192)
     bad-within {n = n} {q = q} t = (within-of 8192 t (omega (arith, k .bad n q t .1, piece-room, i .most)), omega (arith, i .here, i .most))
 
-    pub good-few : {z : Sizes} {m : Bool} → w ≡ Good z m → (sum .sheet + z .sheet ≤ 65536) × (sum .rows + z .rows ≤ 65536)
-    good-few {z = z} {m = m} t =
+    pub good-small : {z : Sizes} {m : Bool} → w ≡ Good z m → Small sum × Small z
+    good-small {z = z} {m = m} t =
         let y = k .good z m t .few in
-        (omega (arith, i .going .few .sheet, y .sheet, piece-room, i .most), omega (arith, i .going .few .rows, y .rows, piece-room, i .most))
+        (few-more sum p 65536 (omega (arith, i .here, i .most)) (i .going .few), few-more z (from + size) 65536 (omega (arith, piece-room, i .most)) y)
 
     pub entry-more : {z : Sizes} {m : Bool} → w ≡ Good z m → {sum′ : Sizes} → sum′ ≡ plusSizes sum z → {mark′ : Bool} → mark′ ≡ (mark || m)
         → {top′ : ℕ} → (top ≤ top′) × (tag ≤ top′) → {low′ : ℕ} → (low′ ≤ low) × (low′ ≤ tag)
         → LevelGoing b f s (p + from + size) sum′ mark′ top′ low′
     entry-more {z = z} {m = m} t ea em et el =
         let j = piece-stood in
-        turn-more (i .going) (i .here) (k .good z m t) (item-peek b f (i .going .seen) (drop p s) (j .it) (j .read) ∙ rw (j .tag-is, j .used-is)) (omega (arith, j .some)) (p + from + size) (add-assoc p from size) piece-room ea em et el
+        turn-more (i .going) (i .here) refl (k .good z m t) (read-peek b f (i .going .seen) (drop p s) (j .it) (j .read) ∙ rw (j .tag-is, j .used-is)) (omega (arith, j .some)) (p + from + size) (add-assoc p from size) piece-room ea em et el

@@ -8,7 +8,7 @@ use lib.ListN.{length, take, drop, length-drop}
 use lib.Seq.{length-take-le}
 use lib.Dec.{eqb}
 use Rattle.format.specs.Answer.{Ans, ok, refused, Got, got, _>>=_, after}
-use Rattle.format.specs.Coding.{Bytes}
+use Rattle.format.specs.Coding.{Bytes, oidBytes}
 use Rattle.format.specs.Table.{Form, Level, set, pack, isSet, ruleOf, short}
 use Rattle.format.specs.Packet.{Item, Pack, plain, series, idOfPack, flatItem}
 use Rattle.format.specs.Run.{run, always}
@@ -20,13 +20,14 @@ use Rattle.format.proofs.coding.Oids.{oid-some}
 use Rattle.format.proofs.table.Values.{short-size}
 use Rattle.format.proofs.bounds.Packets.{Here, item-here, item-room, head-room}
 use Rattle.format.proofs.reading.Items.{length-item, item-says}
+use Rattle.coding.proofs.Counts.{len-most}
 use Rattle.items.specs.Meet.{levelOf}
 use Rattle.heads.specs.Meet.{peek}
+use Rattle.heads.proofs.Before.{item-peek}
 use Rattle.walks.specs.declared.Piece.the-variants as piece
 use Rattle.walks.specs.declared.Sizes.{Sizes}
 use Rattle.walks.specs.declared.Walked.the-variants.{Good, Bad}
-use Rattle.walks.specs.Meet.{pieceOf, itemSizes, total, weightOfPack, weightOfEntry, deepenAt, stepAt, walkedOf, seriesWalk}
-use Rattle.walks.proofs.Walks.{Few}
+use Rattle.walks.specs.Meet.{pieceOf, itemSizes, total, weightOfPack, weightOfEntry, deepenAt, stepAt, walkedOf, seriesWalk, Few}
 
 -- ---- what a piece says of its item
 
@@ -50,6 +51,8 @@ pub record Stood (l : Level) (f : Form) (seen u : List ℕ) (tag from size small
   pub it : Got Item
   pub read : item l f seen u ≡ ok it
   pub tag-is : it .val .tag ≡ tag
+  pub tag-small : tag ≤ 16383
+  pub tag-long : length (oidBytes tag) < from
   pub used-is : it .used ≡ from + size
   pub value-is : it .val .value ≡ take size (drop from u)
   pub short-is : length (short (ruleOf l tag) (it .val .value)) ≡ small
@@ -84,6 +87,8 @@ stood l f seen u tag from size small b e =
       it = i;
       read = ei;
       tag-is = t₁;
+      tag-small = rw (← t₁) (k .high);
+      tag-long = rw (← t₁) (omega (arith, t₂, len, parts, holds-pos (i .val .width) (length (i .val .value)) (k .coded), r₂));
       used-is = omega (arith, t₂, t₃, r₂);
       value-is = value-part l f seen u i ei ∙ rw (t₂, t₃);
       short-is = subst (λ k. length (short (ruleOf l k) (i .val .value)) ≡ small) t₁ t₄;
@@ -100,12 +105,12 @@ unfolding stepAt _>>=_
 step-fault l f seen u n e = rw (fault-says l (item l f seen u) n (item-here l f seen u) e)
 
 -- the head that a look back will read
-pub item-peek : (b : Bool) (f : Form) (seen u : List ℕ) (i : Got Item) → item (levelOf b) f seen u ≡ ok i → peek false b u ≡ got (i .val .tag) (i .used)
-unfolding peek item
-item-peek b f seen u i e =
+pub read-peek : (b : Bool) (f : Form) (seen u : List ℕ) (i : Got Item) → item (levelOf b) f seen u ≡ ok i → peek false false b u ≡ got (i .val .tag) (i .used)
+unfolding item
+read-peek b f seen u i e =
     bind-then _ _ _ e λ h eh e₁.
     bind-then _ _ _ e₁ λ _ _ e₂.
-    rw (← ok-inj _ _ e₂, eh)
+    rw (← ok-inj _ _ e₂) (item-peek b u h eh)
 
 pub deepen-plain : (l : Level) (f : Form) (i : Got Item) → isSet l && eqb (i .val .tag) 101 ≡ false → deepenAt l f i ≡ ok (got (plain (i .val)) (i .used))
 unfolding deepenAt deepen
@@ -135,8 +140,13 @@ module _ (l : Level) (f : Form) (seen u : List ℕ) (tag from size small : ℕ) 
   plain-few = go (isSet l && eqb tag 1) refl
     where
       go : (b : Bool) → isSet l && eqb tag 1 ≡ b → Few (itemSizes l tag small) (from + size)
-      go true z = rw (z, itemSizes) (record { sheet = omega arith; rows = omega (arith, k .head) })
-      go false z = rw (z, itemSizes) (record { sheet = omega (arith, k .head, k .short-less); rows = omega (arith, k .head) })
+      go true z = rw (z, itemSizes) (record { sheet = omega arith; rows = omega (arith, k .head); normal = omega arith; inner = omega arith })
+      go false z = rw (z, itemSizes) (record {
+        sheet = omega (arith, k .head, k .short-less);
+        rows = omega (arith, k .head);
+        normal = omega (arith, k .head, k .short-less, k .some, k .tag-long, len-most small);
+        inner = omega arith;
+      })
 
 -- a series
 module _ (f : Form) (seen u : List ℕ) (from size small : ℕ) (k : Stood set f seen u 101 from size small) where

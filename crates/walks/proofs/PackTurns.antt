@@ -1,6 +1,6 @@
 -- The pack walk's turns: what the code's answers on one pack say.
 use mathlib.Core.Path.{_≡_, refl, sym, ap, _∙_, subst}
-use Prim.Native.Nat.{ℕ, zero, suc, _+_, _-_, _*_, _≤_, _<_}
+use Prim.Native.Nat.{ℕ, zero, suc, _+_, _-_, _≤_, _<_}
 use native.Mathlib.Omega.{arith}
 use native.Mathlib.Nat.{add-zero, add-assoc}
 use mathlib.Core.Bool.{Bool, true, false, not, _||_}
@@ -11,20 +11,22 @@ use Rattle.format.specs.Coding.{Bytes}
 use Rattle.format.specs.Lists.{has}
 use Rattle.format.specs.Table.{Form, pack, isAlone}
 use Rattle.format.specs.Packet.{idOfPack}
+use Rattle.format.specs.Run.{always}
 use Rattle.format.specs.Read.{packHead, onePack}
 use Rattle.format.proofs.words.Bytes.{bytes-drop}
 use Rattle.coding.proofs.Rooms.{tail-part}
+use Rattle.coding.proofs.Counts.{len-most}
 use Rattle.heads.specs.declared.Head.{Head}
 use Rattle.heads.specs.declared.Head.the-variants as heads
-use Rattle.heads.specs.Meet.{packHeadOf, Past}
-use Rattle.heads.proofs.Before.{past-none}
+use Rattle.heads.specs.Meet.{packHeadOf, peek, Past}
+use Rattle.heads.proofs.Before.{pack-peek}
 use Rattle.walks.specs.declared.Piece.{Piece}
 use Rattle.walks.specs.declared.Sizes.{Sizes}
 use Rattle.walks.specs.declared.Walked.{Walked}
 use Rattle.walks.specs.declared.Walked.the-variants.{Good, Bad}
-use Rattle.walks.specs.Meet.{pieceFault, sizes, packSizes, plusSizes, weightOfPack, levelWalk, seriesWalk, stopAt, laterBy, Within}
-use Rattle.walks.proofs.Walks.{Going, going-start}
-use Rattle.walks.proofs.Series.{items-good, items-bad, pack-fault, PackStood, pack-stood, pack-peek, pack-10, pack-inside, pack-14, pack-good}
+use Rattle.walks.specs.Meet.{pieceFault, noSizes, packSizes, plusSizes, total, weightOfItem, weightOfPack, levelWalk, seriesWalk, stopAt, laterBy, Few, Small, Within}
+use Rattle.walks.proofs.Walks.{few-more, Going, going-start}
+use Rattle.walks.proofs.Series.{items-good, items-bad, pack-fault, PackStood, pack-stood, pack-10, pack-inside, pack-14, pack-good}
 use Rattle.walks.proofs.Turns.{Reads, within-more, turn-bad, turn-more}
 
 pub drop-take : (u n : ℕ) (s : List ℕ) → drop u (take n s) ≡ take (n - u) (drop u s)
@@ -34,17 +36,17 @@ drop-take (suc u) (suc n) [] = sym (take-nil (suc n - suc u))
 drop-take (suc u) (suc n) (b ∷ s) = let z : suc n - suc u ≡ n - u = omega arith in rw z (drop-take u n s)
 
 abbrev pub SeriesGoing : Form → List ℕ → ℕ → Sizes → ℕ → ℕ → Type 0
-SeriesGoing f s p a top low = Going true false weightOfPack (λ p. false) idOfPack (onePack f) (seriesWalk f s) s p a false top low
+SeriesGoing f s p a top low = Going (peek false true false) always weightOfPack (λ p. false) idOfPack (onePack f) (seriesWalk f s) s p a false top low
 
-pub series-start : (f : Form) (s : List ℕ) → SeriesGoing f s 0 (sizes 0 0) 0 18446744073709551615
+pub series-start : (f : Form) (s : List ℕ) → SeriesGoing f s 0 noSizes 0 18446744073709551615
 unfolding seriesWalk
-series-start f s = going-start _ _ _ _ _ _ _ s (past-none true false s) refl
+series-start f s = going-start _ _ _ _ _ _ _ s refl
 
 module _ (f : Form) {s : List ℕ} {p : ℕ} {sum : Sizes} {top low : ℕ} (g : SeriesGoing f s p sum top low) (h : p < length s) where
   pub head-fault : (a : Head) → packHeadOf a ≡ packHead (take (length s - p) (drop p s)) → {n : ℕ} {d : Piece} {r : Walked} → a ≡ heads.Fault n → d ≡ pieceFault a → r ≡ stopAt p d
       → (r ≡ seriesWalk f s) × Within r (length s)
   head-fault a ea {n = n} t ed e =
-      turn-bad g h n 0
+      turn-bad g h refl n 0
       (e ∙ ap (stopAt p) (ed ∙ ap pieceFault t) ∙ ap (Bad n) (sym (add-zero p)))
       (pack-fault f (g .seen) (drop p s) n (sym (ap packHeadOf t) ∙ rw tail-part at ea))
       (omega arith)
@@ -70,10 +72,10 @@ module _ {f : Form} {s : List ℕ} {p : ℕ} {sum : Sizes} {top low k u w n : �
   head-room = omega (arith, head-stood .room, length-drop p s)
 
   -- x: a pack before it has this id
-  module _ {x : Bool} (ex : (seen : List ℕ) → Past true false s p top low seen → x ≡ has k seen) where
+  module _ {x : Bool} (ex : (seen : List ℕ) → Past (peek false true false) s p top low seen → x ≡ has k seen) where
     pub id-again : {r : Walked} → x ≡ true → r ≡ Bad 10 p → (r ≡ seriesWalk f s) × Within r (length s)
     id-again t e =
-        turn-bad (i .going) (i .here) 10 0 (e ∙ ap (Bad 10) (sym (add-zero p))) (pack-10 f (i .going .seen) (drop p s) k u w n whole (sym t ∙ ex (i .going .seen) (i .going .past))) (omega arith)
+        turn-bad (i .going) (i .here) refl 10 0 (e ∙ ap (Bad 10) (sym (add-zero p))) (pack-10 f (i .going .seen) (drop p s) k u w n whole (sym t ∙ ex (i .going .seen) (i .going .past))) (omega arith)
 
     module _ (tx : x ≡ false) where
       first : false ≡ has k (i .going .seen)
@@ -100,11 +102,11 @@ module _ {f : Form} {s : List ℕ} {p : ℕ} {sum : Sizes} {top low k u w n : �
             let j : Bad m q ≡ levelWalk pack f (drop u (take n (drop w (drop p s)))) = rw lent-is at (sym t ∙ ey .0) in
             let l : q ≤ length lent = subst (λ v. Within v (length lent)) t (ey .1) in
             let o : p + w + u + q ≡ p + (w + u + q) = omega arith in
-            turn-bad (i .going) (i .here) m (w + u + q) (e ∙ ap (laterBy (p + w + u)) t ∙ ap (Bad m) o) (pack-inside f (i .going .seen) (drop p s) k u w n whole first m q (items-bad f _ m q j))
+            turn-bad (i .going) (i .here) refl m (w + u + q) (e ∙ ap (laterBy (p + w + u)) t ∙ ap (Bad m) o) (pack-inside f (i .going .seen) (drop p s) k u w n whole first m q (items-bad f _ m q j))
             (omega (arith, l, lent-long, head-room, head-stood .body))
 
         module _ {z : Sizes} {m : Bool} (ty : y ≡ Good z m) where
-          few : (z .sheet ≤ 5 * (n - u)) × (z .rows ≤ n - u)
+          few : Few z (n - u)
           few = rw lent-long at (subst (λ v. Within v (length lent)) ty (ey .1))
 
           good : Good z m ≡ levelWalk pack f (drop u (take n (drop w (drop p s))))
@@ -115,24 +117,35 @@ module _ {f : Form} {s : List ℕ} {p : ℕ} {sum : Sizes} {top low k u w n : �
             pub no-location : {r : Walked} → v ≡ false → r ≡ Bad 14 p → (r ≡ seriesWalk f s) × Within r (length s)
             no-location tv e =
                 items-good f _ z m good λ is ei ez em.
-                turn-bad (i .going) (i .here) 14 0 (e ∙ ap (Bad 14) (sym (add-zero p))) (pack-14 f (i .going .seen) (drop p s) k u w n whole first is ei (rw em (sym ev ∙ tv))) (omega arith)
+                turn-bad (i .going) (i .here) refl 14 0 (e ∙ ap (Bad 14) (sym (add-zero p))) (pack-14 f (i .going .seen) (drop p s) k u w n whole first is ei (rw em (sym ev ∙ tv))) (omega arith)
 
-            pub pack-few : (sum .sheet + (10 + z .sheet) ≤ 65536) × (sum .rows + (1 + z .rows) ≤ 65536)
-            pack-few =
+            pub items-small : Small z
+            items-small = few-more z (n - u) 65536 (omega (arith, head-room, i .most)) few
+
+            weighs : Few (packSizes u z) (w + n)
+            weighs =
                 let j = head-stood in
-                (omega (arith, i .going .few .sheet, few .0, j .body, head-room, i .most), omega (arith, i .going .few .rows, few .1, j .body, head-room, i .most))
+                record {
+                  sheet = omega (arith, few .sheet, j .len, j .key, j .body);
+                  rows = omega (arith, few .rows, j .len, j .key, j .body);
+                  normal = omega (arith, few .normal, j .len, j .key, j .body, len-most (u + z .normal));
+                  inner = omega arith;
+                }
 
-            pub pack-more : v ≡ true → {sum′ : Sizes} → sum′ ≡ plusSizes sum (packSizes z) → {top′ : ℕ} → (top ≤ top′) × (k ≤ top′) → {low′ : ℕ} → (low′ ≤ low) × (low′ ≤ k)
+            pub pack-small : {y : Sizes} → y ≡ packSizes u z → Small sum × Small y
+            pack-small e = (few-more sum p 65536 (omega (arith, i .here, i .most)) (i .going .few), rw e (few-more (packSizes u z) (w + n) 65536 (omega (arith, head-room, i .most)) weighs))
+
+            pub pack-more : v ≡ true → {sum′ : Sizes} → sum′ ≡ plusSizes sum (packSizes u z) → {top′ : ℕ} → (top ≤ top′) × (k ≤ top′) → {low′ : ℕ} → (low′ ≤ low) × (low′ ≤ k)
                 → SeriesGoing f s (p + w + n) sum′ top′ low′
             pack-more tv es et el =
                 items-good f _ z m good λ is ei ez em.
                 let j = head-stood in
-                let read : Reads weightOfPack (λ p. false) idOfPack (onePack f (i .going .seen) (drop p s)) k (w + n) (packSizes z) false = record {
+                let read : Reads weightOfPack (λ p. false) idOfPack (onePack f (i .going .seen) (drop p s)) k (w + n) (packSizes u z) false = record {
                   it = record { width = w; id = k; items = is .val };
                   reads = pack-good f (i .going .seen) (drop p s) k u w n whole first is ei (rw em (sym ev ∙ tv));
                   key-is = refl;
-                  weighs = ap packSizes ez;
+                  weighs = ap (λ v. packSizes v (total (weightOfItem pack) (is .val))) (j .id-long) ∙ ap (packSizes u) ez;
                   marks = refl;
-                  few = record { sheet = omega (arith, few .0, j .len, j .key, j .body); rows = omega (arith, few .1, j .len, j .key, j .body) };
+                  few = weighs;
                 } in
-                turn-more (i .going) (i .here) read (pack-peek f (i .going .seen) (drop p s) k u w n whole false) (omega (arith, j .len)) (p + w + n) (add-assoc p w n) (head-room) es refl et el
+                turn-more (i .going) (i .here) refl read (pack-peek false (drop p s) _ (sym whole)) (omega (arith, j .len)) (p + w + n) (add-assoc p w n) (head-room) es refl et el

@@ -68,7 +68,7 @@ module _ (s : List ℕ) (k : ℕ) (l : length s ≤ 8192) (x : Walked) (h : With
   set-within = within-more x (length (take (length s - k) (drop k s))) 8192 (rw (tail-part, length-drop) (omega arith)) h
 
   pub good-within : {a : Sizes} {m : Bool} → x ≡ Good a m → a .sheet ≤ 40960
-  good-within {a} {m} e = let z : Within (Good a m) 8192 = rw e at set-within in omega (arith, z .0)
+  good-within {a} {m} e = let z : Within (Good a m) 8192 = rw e at set-within in omega (arith, z .sheet)
 
 -- ---- what opens it, by the answer on it
 

@@ -24,7 +24,7 @@ use Rattle.walks.specs.declared.Piece.the-variants as piece
 use Rattle.walks.specs.Meet.{pieceOf, pieceFault}
 
 -- the rest of a level, as the borrow checker has it
-pub piece-tail : {ids set : Bool} {s : List ℕ} {p top low : ℕ} {seen : List ℕ} → Past ids set s p top low seen → (l : Level) (f : Form) {r : Piece}
+pub piece-tail : {look : List ℕ → Got ℕ} {s : List ℕ} {p top low : ℕ} {seen : List ℕ} → Past look s p top low seen → (l : Level) (f : Form) {r : Piece}
     → r ≡ pieceOf l (item l f seen (take (length s - p) (drop p s))) → r ≡ pieceOf l (item l f seen (drop p s))
 piece-tail q l f e = rw tail-part at e
 

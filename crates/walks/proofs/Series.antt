@@ -7,18 +7,20 @@ use mathlib.Core.List.{List, [], _∷_, map}
 use lib.ListN.{length, take, drop}
 use lib.Dec.{eqb}
 use Rattle.format.specs.Answer.{Ans, ok, refused, Got, got, _>>=_, after}
-use Rattle.format.specs.Coding.{Bytes}
+use Rattle.format.specs.Coding.{Bytes, oidBytes}
 use Rattle.format.specs.Lists.{has}
 use Rattle.format.specs.Table.{Form, pack, isAlone, ended}
 use Rattle.format.specs.Packet.{Item, Pack, Entry, plain, tagOfItem, tagOfEntry}
 use Rattle.format.specs.Run.{skip, run, always}
 use Rattle.format.specs.Read.{item, packHead, onePack}
 use Rattle.format.proofs.words.Answers.{after-ok}
+use Rattle.format.proofs.words.Bytes.{took-length}
 use Rattle.format.proofs.coding.Lengths.{holds-pos}
 use Rattle.format.proofs.reading.Packs.{pack-head-says}
+use Rattle.coding.proofs.Counts.{oid-most}
 use Rattle.items.proofs.Tests.{bind-so, bind-not, need-so, need-not}
 use Rattle.heads.specs.declared.Head.the-variants as heads
-use Rattle.heads.specs.Meet.{packHeadOf, peek}
+use Rattle.heads.specs.Meet.{packHeadOf}
 use Rattle.walks.specs.declared.Sizes.{Sizes}
 use Rattle.walks.specs.declared.Walked.the-variants.{Good, Bad}
 use Rattle.walks.specs.Meet.{plusSizes, total, any, weightOfItem, weightOfEntry, deepenAt, stepAt, walkedOf, levelWalk}
@@ -106,16 +108,14 @@ module _ (f : Form) (seen s : List ℕ) (k u w n : ℕ) (e : packHeadOf (heads.W
     pub len : 0 < w
     pub key : 0 < u
     pub body : u ≤ n
+    pub id-long : length (oidBytes k) ≡ u
+    pub id-few : u ≤ 9
 
   pub pack-stood : Bytes s → PackStood
   pack-stood b =
       let h = pack-head-says s (record { width = w; size = n; id = k; used = u }) b (sym e) in
       let l = h .size-is in
-      record { room = h .room; len = holds-pos w n (h .coded); key = h .id-took .pos; body = omega (arith, h .id-took .room, l) }
-
-  pub pack-peek : (b : Bool) → peek true b s ≡ got k (w + n)
-  unfolding peek
-  pack-peek b = rw (← e)
+      record { room = h .room; len = holds-pos w n (h .coded); key = h .id-took .pos; body = omega (arith, h .id-took .room, l); id-long = took-length _ _ _ (h .id-took); id-few = omega (arith, took-length _ _ _ (h .id-took), oid-most k) }
 
   pub pack-10 : true ≡ has k seen → onePack f seen s ≡ refused 10 0
   unfolding onePack

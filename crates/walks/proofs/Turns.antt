@@ -2,18 +2,18 @@
 use mathlib.Core.Path.{_≡_, sym, _∙_, subst}
 use Prim.Native.Nat.{ℕ, _+_, _≤_, _<_}
 use native.Mathlib.Omega.{arith}
-use mathlib.Core.Bool.{Bool, _||_}
+use mathlib.Core.Bool.{Bool, true, false, _||_}
 use mathlib.Core.List.{List, _∷_}
 use lib.ListN.{length, drop}
 use Rattle.format.specs.Answer.{Ans, ok, refused, Got, got}
 use Rattle.format.specs.Run.{Step}
-use Rattle.heads.specs.Meet.{peek, Past}
+use Rattle.heads.specs.Meet.{Past}
 use Rattle.heads.proofs.Before.{past-more}
 use Rattle.walks.specs.declared.Sizes.{Sizes}
 use Rattle.walks.specs.declared.Walked.{Walked}
 use Rattle.walks.specs.declared.Walked.the-variants.{Good, Bad}
-use Rattle.walks.specs.Meet.{plusSizes, Within}
-use Rattle.walks.proofs.Walks.{Few, Going, going-bad, going-done, going-more}
+use Rattle.walks.specs.Meet.{plusSizes, Few, Within}
+use Rattle.walks.proofs.Walks.{few-more, Going, going-bad, going-done, going-over, going-more}
 
 -- what was read in n bytes, and what it adds
 pub record Reads {X : Type 0} (weight : X → Sizes) (mark : X → Bool) (key : X → ℕ) (step : Ans (Got X)) (k n : ℕ) (a : Sizes) (m : Bool) : Type 0 where
@@ -25,31 +25,35 @@ pub record Reads {X : Type 0} (weight : X → Sizes) (mark : X → Bool) (key : 
   pub few : Few a n
 
 pub within-more : (w : Walked) (n m : ℕ) → n ≤ m → Within w n → Within w m
-within-more (Good a b) n m l h = (omega (arith, h .0), omega (arith, h .1))
+within-more (Good a b) n m l h = few-more a n m l h
 within-more (Bad k q) n m l h = omega (arith, h)
 
 pub within-of : {r w : Walked} (n : ℕ) → r ≡ w → Within w n → Within r n
 within-of n e h = subst (λ x. Within x n) (sym e) h
 
-module _ {X : Type 0} {ids set : Bool} {weight : X → Sizes} {mark : X → Bool} {key : X → ℕ} {step : Step X} {whole : Walked} {s : List ℕ} {p : ℕ} {a : Sizes} {m : Bool} {top low : ℕ}
-    (g : Going ids set weight mark key step whole s p a m top low) where
+module _ {X : Type 0} {look : List ℕ → Got ℕ} {more : List ℕ → Bool} {weight : X → Sizes} {mark : X → Bool} {key : X → ℕ} {step : Step X} {whole : Walked} {s : List ℕ} {p : ℕ} {a : Sizes} {m : Bool}
+    {top low : ℕ} (g : Going look more weight mark key step whole s p a m top low) where
+  within : Within (Good a m) (length s)
+  within = few-more a p (length s) (g .to) (g .few)
+
   pub turn-done : length s ≤ p → (Good a m ≡ whole) × Within (Good a m) (length s)
-  turn-done h = (
-    going-done weight mark key step ids set whole s p a m top low g h,
-    (omega (arith, g .few .sheet, g .to), omega (arith, g .few .rows, g .to)),
-  )
+  turn-done h = (going-done weight mark key step look more whole s p a m top low g h, within)
 
   module _ (h : p < length s) where
-    -- r is what the code answers
-    pub turn-bad : {r : Walked} (n q : ℕ) → r ≡ Bad n (p + q) → step (g .seen) (drop p s) ≡ refused n q → p + q ≤ length s → (r ≡ whole) × Within r (length s)
-    turn-bad n q e t l = (e ∙ going-bad weight mark key step ids set whole s p a m top low g h n q t, within-of (length s) e l)
+    pub turn-over : more (drop p s) ≡ false → (Good a m ≡ whole) × Within (Good a m) (length s)
+    turn-over n = (going-over weight mark key step look more whole s p a m top low g h n, within)
 
-    pub turn-more : {k n : ℕ} {b : Sizes} {c : Bool} → Reads weight mark key (step (g .seen) (drop p s)) k n b c → peek ids set (drop p s) ≡ got k n → 0 < n
-        → (next : ℕ) → next ≡ p + n → next ≤ length s
-        → {a′ : Sizes} → a′ ≡ plusSizes a b → {m′ : Bool} → m′ ≡ (m || c)
-        → {top′ : ℕ} → (top ≤ top′) × (k ≤ top′) → {low′ : ℕ} → (low′ ≤ low) × (low′ ≤ k)
-        → Going ids set weight mark key step whole s next a′ m′ top′ low′
-    turn-more {k = k} {n = n} r v z next en l {a′ = a′} ea {m′ = m′} em {top′ = top′} t {low′ = low′} w =
-        let past : Past ids set s (p + n) top′ low′ (key (r .it) ∷ g .seen) = rw (r .key-is) (past-more ids set s p top low (g .seen) (g .past) k n top′ low′ v z (t .0) (t .1) (w .0) (w .1)) in
-        let more = going-more weight mark key step ids set whole s p a m top low g h (got (r .it) n) top′ low′ (r .reads) z (omega arith) past (rw (r .weighs) (r .few)) in
-        rw (en, ea, em) (rw (r .weighs, r .marks) at more)
+    module _ (o : more (drop p s) ≡ true) where
+      -- r is what the code answers
+      pub turn-bad : {r : Walked} (n q : ℕ) → r ≡ Bad n (p + q) → step (g .seen) (drop p s) ≡ refused n q → p + q ≤ length s → (r ≡ whole) × Within r (length s)
+      turn-bad n q e t l = (e ∙ going-bad weight mark key step look more whole s p a m top low g h o n q t, within-of (length s) e l)
+
+      pub turn-more : {k n : ℕ} {b : Sizes} {c : Bool} → Reads weight mark key (step (g .seen) (drop p s)) k n b c → look (drop p s) ≡ got k n → 0 < n
+          → (next : ℕ) → next ≡ p + n → next ≤ length s
+          → {a′ : Sizes} → a′ ≡ plusSizes a b → {m′ : Bool} → m′ ≡ (m || c)
+          → {top′ : ℕ} → (top ≤ top′) × (k ≤ top′) → {low′ : ℕ} → (low′ ≤ low) × (low′ ≤ k)
+          → Going look more weight mark key step whole s next a′ m′ top′ low′
+      turn-more {k = k} {n = n} r v z next en l {a′ = a′} ea {m′ = m′} em {top′ = top′} t {low′ = low′} w =
+          let past : Past look s (p + n) top′ low′ (key (r .it) ∷ g .seen) = rw (r .key-is) (past-more look s p top low (g .seen) (g .past) k n top′ low′ v z (t .0) (t .1) (w .0) (w .1)) in
+          let goes = going-more weight mark key step look more whole s p a m top low g h o (got (r .it) n) top′ low′ (r .reads) z (omega arith) past (rw (r .weighs) (r .few)) in
+          rw (en, ea, em) (rw (r .weighs, r .marks) at goes)

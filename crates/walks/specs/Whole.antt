@@ -33,7 +33,7 @@ walkFault k (Bad n p) = Wrong n (k + p)
 
 -- a packet whose set has these sizes
 abbrev pub fineOf : Sizes → Checked
-fineOf a = Fine (sizes (3 + a .sheet) (a .rows))
+fineOf a = Fine (sizes (3 + a .sheet) (a .rows) (a .normal) (a .inner))
 
 -- what closes a packet, where m says whether its set has a checksum
 abbrev pub sumBy : Form → List ℕ → Bool → Ans (Unit {0})

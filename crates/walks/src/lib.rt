@@ -7,9 +7,9 @@ ghost use lib.ListN.{length, drop};
 ghost use lib.Dec.{eqb};
 ghost use Rattle.format.specs.Table.{isSet, isAlone};
 ghost use Rattle.format.specs.Read.{item, parse};
-ghost use Rattle.items.specs.Meet.{formOf, levelOf};
-ghost use Rattle.heads.specs.Meet.{Past};
-ghost use Rattle.walks.specs.Meet.{pieceOf, pieceFault, itemSizes, plusSizes, stopAt, laterBy, seriesFrom, markTag, levelWalk, seriesWalk, Within};
+ghost use Rattle.items.specs.Meet.{formOf, levelOf, itemTable};
+ghost use Rattle.heads.specs.Meet.{peek, Past};
+ghost use Rattle.walks.specs.Meet.{pieceOf, pieceFault, Small, itemSizes, packSizes, seriesSizes, plusSizes, stopAt, laterBy, seriesFrom, markTag, levelWalk, seriesWalk, Within};
 use heads::Head;
 
 // An item that may stand where it does: its tag, where its value begins, its length, and its shortest length; or the refusal's number.
@@ -24,9 +24,17 @@ pub enum Piece {
 }
 
 // The item at p of a level s; no tag before p is above top or below low.
-pub fn item_at(s: &[u8], p: usize, set: bool, alone: bool, top: u64, low: u64) -> Piece
-    requires { ⌜ p ≤ length (now s) ⌝ }
-    ensures { λ r. ⌜ ((seen : List ℕ) → Past false set (now (s .entry)) p top low seen → r ≡ pieceOf (levelOf set) (item (levelOf set) (formOf alone) seen (drop p (now (s .entry))))) ⌝ }
+pub fn item_at(
+    table: &[u8],
+    s: &[u8],
+    p: usize,
+    set: bool,
+    alone: bool,
+    top: u64,
+    low: u64,
+) -> Piece
+    requires { ⌜ (now table ≡ itemTable) × (p ≤ length (now s)) ⌝ }
+    ensures { λ r. ⌜ ((seen : List ℕ) → Past (peek false false set) (now (s .entry)) p top low seen → r ≡ pieceOf (levelOf set) (item (levelOf set) (formOf alone) seen (drop p (now (s .entry))))) ⌝ }
 {
     let t = &s[p..];
     let h = heads::item_head(t, set);
@@ -44,12 +52,12 @@ pub fn item_at(s: &[u8], p: usize, set: bool, alone: bool, top: u64, low: u64) -
     }
     let from = used + width;
     let end = from + size;
-    let dup = heads::is_seen(s, p, top, low, key, false, set);
+    let dup = heads::is_seen(s, p, top, low, key, false, false, set);
     let k = items::standing_of(set, alone, dup, p == 0, key, end == t.len());
     if k != 0 {
         return Piece::Fault(k);
     }
-    let rule = items::rule_of(set, key);
+    let rule = items::rule_of(table, set, key);
     let v = &t[from..end];
     let m = items::valued_of(rule, v);
     if m != 0 {
@@ -64,7 +72,7 @@ pub fn item_at(s: &[u8], p: usize, set: bool, alone: bool, top: u64, low: u64) -
     }
 }
 
-fn piece_fault(h: Head) -> Piece
+pub fn piece_fault(h: Head) -> Piece
     ensures { λ r. ⌜ r ≡ pieceFault h ⌝ }
 {
     match h {
@@ -80,34 +88,72 @@ fn piece_fault(h: Head) -> Piece
 
 // ---- sizes
 
-// The bytes in the sheet, and the rows.
+// The bytes in the sheet, the rows, the bytes in normal form, and those of a series' packs.
 pub struct Sizes {
     pub sheet: usize,
     pub rows: usize,
+    pub normal: usize,
+    pub inner: usize,
 }
 
-fn plain_sizes(set: bool, tag: u64, n: usize) -> Sizes
-    requires { ⌜ n ≤ 8192 ⌝ }
+// Of an item with n bytes in its shortest form. The set's checksum has a row alone.
+pub fn plain_sizes(set: bool, tag: u64, n: usize) -> Sizes
+    requires { ⌜ (tag ≤ 16383) × (n ≤ 65536) ⌝ }
     ensures { λ r. ⌜ r ≡ itemSizes (levelOf set) tag n ⌝ }
 {
     if set {
         if tag == 1 {
-            return Sizes { sheet: 0, rows: 1 };
+            return Sizes {
+                sheet: 0,
+                rows: 1,
+                normal: 0,
+                inner: 0,
+            };
         }
     }
     Sizes {
         sheet: 6 + n,
         rows: 1,
+        normal: coding::widths::short_total(tag, n),
+        inner: 0,
     }
 }
 
-fn plus(a: Sizes, b: Sizes) -> Sizes
-    requires { ⌜ (a .sheet + b .sheet ≤ 65536) × (a .rows + b .rows ≤ 65536) ⌝ }
+// Of a pack whose id takes so many bytes, and of a series, given what they hold.
+pub fn pack_sizes(used: usize, a: Sizes) -> Sizes
+    requires { ⌜ (used ≤ 9) × Small a ⌝ }
+    ensures { λ r. ⌜ r ≡ packSizes used a ⌝ }
+{
+    let body = used + a.normal;
+    Sizes {
+        sheet: 10 + a.sheet,
+        rows: 1 + a.rows,
+        normal: coding::widths::len_width(body) + body,
+        inner: 0,
+    }
+}
+
+pub fn series_sizes(a: Sizes) -> Sizes
+    requires { ⌜ Small a ⌝ }
+    ensures { λ r. ⌜ r ≡ seriesSizes a ⌝ }
+{
+    Sizes {
+        sheet: 2 + a.sheet,
+        rows: 1 + a.rows,
+        normal: 1 + coding::widths::len_width(a.normal) + a.normal,
+        inner: a.normal,
+    }
+}
+
+pub fn plus(a: Sizes, b: Sizes) -> Sizes
+    requires { ⌜ Small a × Small b ⌝ }
     ensures { λ r. ⌜ r ≡ plusSizes a b ⌝ }
 {
     Sizes {
         sheet: a.sheet + b.sheet,
         rows: a.rows + b.rows,
+        normal: a.normal + b.normal,
+        inner: a.inner + b.inner,
     }
 }
 
@@ -119,7 +165,7 @@ pub enum Walked {
     Bad { number: u64, place: usize },
 }
 
-fn stop(a: Piece, p: usize) -> Walked
+pub fn stop(a: Piece, p: usize) -> Walked
     ensures { λ r. ⌜ r ≡ stopAt p a ⌝ }
 {
     match a {
@@ -139,7 +185,7 @@ fn stop(a: Piece, p: usize) -> Walked
     }
 }
 
-fn later(w: Walked, k: usize) -> Walked
+pub fn later(w: Walked, k: usize) -> Walked
     requires { ⌜ Within w 8192 × (k ≤ 8192) ⌝ }
     ensures { λ r. ⌜ r ≡ laterBy k w ⌝ }
 {
@@ -152,19 +198,19 @@ fn later(w: Walked, k: usize) -> Walked
     }
 }
 
-fn larger(a: u64, b: u64) -> u64
+pub fn larger(a: u64, b: u64) -> u64
     ensures { λ r. ⌜ (a ≤ r) × (b ≤ r) ⌝ }
 {
     if a < b { b } else { a }
 }
 
-fn smaller(a: u64, b: u64) -> u64
+pub fn smaller(a: u64, b: u64) -> u64
     ensures { λ r. ⌜ (r ≤ a) × (r ≤ b) ⌝ }
 {
     if a < b { a } else { b }
 }
 
-fn either(a: bool, b: bool) -> bool
+pub fn either(a: bool, b: bool) -> bool
     ensures { λ r. ⌜ r ≡ (a || b) ⌝ }
 {
     if a { true } else { b }
@@ -183,8 +229,8 @@ fn is_mark(set: bool, tag: u64) -> bool
 }
 
 // An item that is no series.
-fn one_item(set: bool, tag: u64, n: usize) -> Walked
-    requires { ⌜ n ≤ 8192 ⌝ }
+pub fn one_item(set: bool, tag: u64, n: usize) -> Walked
+    requires { ⌜ (tag ≤ 16383) × (n ≤ 65536) ⌝ }
     ensures { λ r. ⌜ r ≡ Walked.Good (itemSizes (levelOf set) tag n) (eqb tag (markTag (levelOf set))) ⌝ }
 {
     Walked::Good {
@@ -194,16 +240,13 @@ fn one_item(set: bool, tag: u64, n: usize) -> Walked
 }
 
 // A series, given its packs, whose bytes begin at k.
-fn series_of(w: Walked, k: usize) -> Walked
+pub fn series_of(w: Walked, k: usize) -> Walked
     requires { ⌜ Within w 8192 × (k ≤ 8192) ⌝ }
     ensures { λ r. ⌜ r ≡ seriesFrom k w ⌝ }
 {
     match w {
         Walked::Good { sizes, mark: _ } => Walked::Good {
-            sizes: Sizes {
-                sheet: 2 + sizes.sheet,
-                rows: 1 + sizes.rows,
-            },
+            sizes: series_sizes(sizes),
             mark: false,
         },
         Walked::Bad { number, place } => Walked::Bad {
@@ -214,17 +257,22 @@ fn series_of(w: Walked, k: usize) -> Walked
 }
 
 // The items of a level: the set, or a pack.
-pub fn item_walk(s: &[u8], set: bool, alone: bool) -> Walked
-    requires { ⌜ length (now s) ≤ 8192 ⌝ }
+pub fn item_walk(table: &[u8], s: &[u8], set: bool, alone: bool) -> Walked
+    requires { ⌜ (now table ≡ itemTable) × (length (now s) ≤ 8192) ⌝ }
     ensures { λ r. ⌜ (r ≡ levelWalk (levelOf set) (formOf alone) (now (s .entry))) × Within r (length (now (s .entry))) ⌝ }
 {
     let mut p: usize = 0;
-    let mut sum = Sizes { sheet: 0, rows: 0 };
+    let mut sum = Sizes {
+        sheet: 0,
+        rows: 0,
+        normal: 0,
+        inner: 0,
+    };
     let mut mark = false;
     let mut top: u64 = 0;
     let mut low: u64 = 18446744073709551615;
     while p < s.len() {
-        let a = item_at(s, p, set, alone, top, low);
+        let a = item_at(table, s, p, set, alone, top, low);
         let Piece::Whole {
             tag,
             from,
@@ -237,7 +285,7 @@ pub fn item_walk(s: &[u8], set: bool, alone: bool) -> Walked
         let at = p + from;
         let next = at + size;
         let w = if is_series(set, tag) {
-            series_of(pack_walk(&s[at..next], alone), from)
+            series_of(pack_walk(table, &s[at..next], alone), from)
         } else {
             one_item(set, tag, short)
         };
@@ -254,12 +302,17 @@ pub fn item_walk(s: &[u8], set: bool, alone: bool) -> Walked
 }
 
 // The packs of a series.
-pub fn pack_walk(s: &[u8], alone: bool) -> Walked
-    requires { ⌜ length (now s) ≤ 8192 ⌝ }
+pub fn pack_walk(table: &[u8], s: &[u8], alone: bool) -> Walked
+    requires { ⌜ (now table ≡ itemTable) × (length (now s) ≤ 8192) ⌝ }
     ensures { λ r. ⌜ (r ≡ seriesWalk (formOf alone) (now (s .entry))) × Within r (length (now (s .entry))) ⌝ }
 {
     let mut p: usize = 0;
-    let mut sum = Sizes { sheet: 0, rows: 0 };
+    let mut sum = Sizes {
+        sheet: 0,
+        rows: 0,
+        normal: 0,
+        inner: 0,
+    };
     let mut top: u64 = 0;
     let mut low: u64 = 18446744073709551615;
     while p < s.len() {
@@ -273,7 +326,7 @@ pub fn pack_walk(s: &[u8], alone: bool) -> Walked
         else {
             return stop(piece_fault(h), p);
         };
-        if heads::is_seen(s, p, top, low, key, true, false) {
+        if heads::is_seen(s, p, top, low, key, false, true, false) {
             return Walked::Bad {
                 number: 10,
                 place: p,
@@ -281,18 +334,12 @@ pub fn pack_walk(s: &[u8], alone: bool) -> Walked
         }
         let from = p + width + used;
         let next = p + width + size;
-        let w = item_walk(&s[from..next], false, alone);
+        let w = item_walk(table, &s[from..next], false, alone);
         let Walked::Good { sizes, mark } = w else {
             return later(w, from);
         };
         if either(!alone, mark) {
-            sum = plus(
-                sum,
-                Sizes {
-                    sheet: 10 + sizes.sheet,
-                    rows: 1 + sizes.rows,
-                },
-            );
+            sum = plus(sum, pack_sizes(used, sizes));
             top = larger(top, key);
             low = smaller(low, key);
             p = next;

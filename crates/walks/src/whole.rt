@@ -74,6 +74,8 @@ fn fine(a: Sizes) -> Checked
     Checked::Fine(Sizes {
         sheet: 3 + a.sheet,
         rows: a.rows,
+        normal: a.normal,
+        inner: a.inner,
     })
 }
 
@@ -152,7 +154,8 @@ pub fn check(s: &[u8], alone: bool) -> Checked
         return wrong_num(a);
     };
     let from = start_of(alone, width);
-    let w = super::item_walk(&s[from..], true, alone);
+    let table = items::table();
+    let w = super::item_walk(&table, &s[from..], true, alone);
     let Walked::Good { sizes, mark } = w else {
         return wrong_set(w, from);
     };

@@ -24,23 +24,23 @@ use Rattle.sheets.proofs.+item_sheet+pack_sheet.{statement}
 use Rattle.sheets.proofs.+item_sheet+pack_sheet.Tie.{close}
 
 -- the item walk of the set calls the pack walk, and that the item walk of a pack
-abbrev μ-item-sheet : Measures 2 item-sheet-kinds.ps ℕ
-μ-item-sheet κs a = depth (a .1 .0)
+abbrev μ-item-sheet : Measures 3 item-sheet-kinds.ps ℕ
+μ-item-sheet κs a = depth (a .1 .1 .0)
 
-abbrev μ-pack-sheet : Measures 2 pack-sheet-kinds.ps ℕ
+abbrev μ-pack-sheet : Measures 3 pack-sheet-kinds.ps ℕ
 μ-pack-sheet κs a = 1
 
-abbrev item-sheet-at : ℕ → In 2 item-sheet-kinds.ps
-item-sheet-at t = and 2 item-sheet-kinds.ps (is 2 item-sheet-kinds.ps μ-item-sheet t) item-sheet.Pre
+abbrev item-sheet-at : ℕ → In 3 item-sheet-kinds.ps
+item-sheet-at t = and 3 item-sheet-kinds.ps (is 3 item-sheet-kinds.ps μ-item-sheet t) item-sheet.Pre
 
-abbrev item-sheet-below : ℕ → In 2 item-sheet-kinds.ps
-item-sheet-below t = and 2 item-sheet-kinds.ps (falls 2 item-sheet-kinds.ps _<_ μ-item-sheet t) item-sheet.Pre
+abbrev item-sheet-below : ℕ → In 3 item-sheet-kinds.ps
+item-sheet-below t = and 3 item-sheet-kinds.ps (falls 3 item-sheet-kinds.ps _<_ μ-item-sheet t) item-sheet.Pre
 
-abbrev pack-sheet-at : ℕ → In 2 pack-sheet-kinds.ps
-pack-sheet-at t = and 2 pack-sheet-kinds.ps (is 2 pack-sheet-kinds.ps μ-pack-sheet t) pack-sheet.Pre
+abbrev pack-sheet-at : ℕ → In 3 pack-sheet-kinds.ps
+pack-sheet-at t = and 3 pack-sheet-kinds.ps (is 3 pack-sheet-kinds.ps μ-pack-sheet t) pack-sheet.Pre
 
-abbrev pack-sheet-below : ℕ → In 2 pack-sheet-kinds.ps
-pack-sheet-below t = and 2 pack-sheet-kinds.ps (falls 2 pack-sheet-kinds.ps _<_ μ-pack-sheet t) pack-sheet.Pre
+abbrev pack-sheet-below : ℕ → In 3 pack-sheet-kinds.ps
+pack-sheet-below t = and 3 pack-sheet-kinds.ps (falls 3 pack-sheet-kinds.ps _<_ μ-pack-sheet t) pack-sheet.Pre
 
 -- what is known of the callees, the other walk's at a smaller measure
 abbrev item-claims : ℕ → item-sheet-lts.Claims
@@ -52,14 +52,14 @@ pack-claims t = (pack-head-reads.Asked, pack-head-reads.Learnt, put-target-reads
 -- ---- the item walk
 
 abbrev item-sheet-Inv-loop : item-sheet-lts.InvT-loop
-item-sheet-Inv-loop s set alone out₀ p₀ k₀ out p k = LevelWriting set (formOf alone) s out₀ out p k
+item-sheet-Inv-loop table s set alone out₀ p₀ k₀ out p k = LevelWriting set (formOf alone) s out₀ out p k
 
 abbrev item-sheet-μ-loop : item-sheet-lts.MeasureT-loop
-item-sheet-μ-loop s set alone out₀ p₀ k₀ out p k = length s - p
+item-sheet-μ-loop table s set alone out₀ p₀ k₀ out p k = length s - p
 
 -- the entry at the head that was read
 item-here : (t : ℕ) (a : item-sheet-lts.After-h (item-claims t) (item-sheet-at t) item-sheet.Post item-sheet-Inv-loop item-sheet-μ-loop)
-    → EntryAt (a .before .before .before .before .before .before .before .before .args .set) (formOf (a .before .before .before .before .before .before .before .before .args .alone)) (a .before .before .before .before .before .before .before .before .args .s .now) (a .before .before .before .before .before .before .before .before .args .out .now)
+    → EntryAt (a .before .before .before .before .before .before .before .before .before .args .set) (formOf (a .before .before .before .before .before .before .before .before .before .args .alone)) (a .before .before .before .before .before .before .before .before .before .args .s .now) (a .before .before .before .before .before .before .before .before .before .args .out .now)
     (a .before .before .before .before .before .loop .out) (a .before .before .before .before .before .loop .p) (a .before .before .before .before .before .loop .k) (a .h .given .0 .0) (a .h .given .0 .1 .0) (a .h .given .0 .1 .1 .0) (a .h .given .0 .1 .1 .1 .0)
 item-here t a = record {
   going = a .before .before .before .before .before .loop .inv;
@@ -67,12 +67,12 @@ item-here t a = record {
   head = _;
   reads = a .before .before .item-head .ensures;
   whole = a .h .given .1;
-  bytes = λ i. a .before .before .before .before .before .before .before .shared-slice-known .given i .fits;
-  asked = a .before .before .before .before .before .before .before .before .pre .1;
+  bytes = λ i. a .before .before .before .before .before .before .before .shared-slice-known2 .given i .fits;
+  asked = a .before .before .before .before .before .before .before .before .before .pre .1 .1;
 }
 
 item-sheet-loop-holds : (t : ℕ) → item-sheet-lts.Need-loop-holds (item-claims t) (item-sheet-at t) item-sheet.Post item-sheet-Inv-loop item-sheet-μ-loop
-item-sheet-loop-holds t c = level-start (c .before .before .args .set) (formOf (c .before .before .args .alone)) _ _ (c .before .before .pre .1 .1)
+item-sheet-loop-holds t c = level-start (c .before .before .before .args .set) (formOf (c .before .before .before .args .alone)) _ _ (c .before .before .before .pre .1 .1 .1)
 
 item-sheet-sub-item-head : (t : ℕ) → item-sheet-lts.Need-sub-item-head (item-claims t) (item-sheet-at t) item-sheet.Post item-sheet-Inv-loop item-sheet-μ-loop
 item-sheet-sub-item-head t c = search needs
@@ -96,7 +96,7 @@ item-sheet-same-length : (t : ℕ) → item-sheet-lts.Need-same-length (item-cla
 item-sheet-same-length t c = c .before .before .before .before .before .loop .inv .same
 
 item-sheet-returns : (t : ℕ) → item-sheet-lts.Need-returns (item-claims t) (item-sheet-at t) item-sheet.Post item-sheet-Inv-loop item-sheet-μ-loop
-item-sheet-returns t c = entry-fault (c .before .before .before .before .before .before .before .before .args .set) (formOf (c .before .before .before .before .before .before .before .before .args .alone)) (c .before .before .before .before .before .loop .inv) (c .before .before .before .before .loop-test .taken) (c .before .before .item-head .ensures) (c .enum-told .given .1)
+item-sheet-returns t c = entry-fault (c .before .before .before .before .before .before .before .before .before .args .set) (formOf (c .before .before .before .before .before .before .before .before .before .args .alone)) (c .before .before .before .before .before .loop .inv) (c .before .before .before .before .loop-test .taken) (c .before .before .item-head .ensures) (c .enum-told .given .1)
 
 item-sheet-add-from : (t : ℕ) → item-sheet-lts.Need-add-from (item-claims t) (item-sheet-at t) item-sheet.Post item-sheet-Inv-loop item-sheet-μ-loop
 item-sheet-add-from t c = omega (arith, entry-room (item-here t (c .before)))
@@ -132,10 +132,10 @@ item-sheet-part-pack-sheet-end-2 : (t : ℕ) → item-sheet-lts.Need-part-pack-s
 item-sheet-part-pack-sheet-end-2 t c = search needs
 
 item-sheet-pack-sheet-requires : (t : ℕ) → item-sheet-lts.Need-pack-sheet-requires (item-claims t) (item-sheet-at t) item-sheet.Post item-sheet-Inv-loop item-sheet-μ-loop
-item-sheet-pack-sheet-requires t c κs = (omega (arith, series-deep (c .before .before .before .before .before .before .before .before .before .before .before .before .before .before .before .before .before .args .set) (c .before .before .before .before .before .before .before .before .before .h .given .0 .0) (c .before .before .before .before .before .before .before .is-series .ensures) (c .before .before .before .before .before .before .if1 .taken), c .before .before .before .before .before .before .before .before .before .before .before .before .before .before .before .before .before .pre .0), series-asked (item-here t (c .before .before .before .before .before .before .before .before .before)) (c .before .before .before .before .before .before .before .is-series .ensures) (c .before .before .before .before .before .before .if1 .taken) (c .before .before .before .before .put-number .ensures))
+item-sheet-pack-sheet-requires t c κs = (omega (arith, series-deep (c .before .before .before .before .before .before .before .before .before .before .before .before .before .before .before .before .before .before .args .set) (c .before .before .before .before .before .before .before .before .before .h .given .0 .0) (c .before .before .before .before .before .before .before .is-series .ensures) (c .before .before .before .before .before .before .if1 .taken), c .before .before .before .before .before .before .before .before .before .before .before .before .before .before .before .before .before .before .pre .0), (c .before .before .before .before .before .before .before .before .before .before .before .before .before .before .before .before .before .before .pre .1 .0, series-asked (item-here t (c .before .before .before .before .before .before .before .before .before)) (c .before .before .before .before .before .before .before .is-series .ensures) (c .before .before .before .before .before .before .if1 .taken) (c .before .before .before .before .put-number .ensures)))
 
 item-sheet-add-k : (t : ℕ) → item-sheet-lts.Need-add-k (item-claims t) (item-sheet-at t) item-sheet.Post item-sheet-Inv-loop item-sheet-μ-loop
-item-sheet-add-k t c = omega (arith, series-more (item-here t (c .before .before .before .before .before .before .before .before .before .before .before .before)) (c .before .before .before .before .before .before .before .before .before .before .is-series .ensures) (c .before .before .before .before .before .before .before .before .before .if1 .taken) (c .before .before .before .before .before .before .before .put-number .ensures) (c .before .before .pack-sheet .ensures) .sum, c .before .before .before .before .before .before .before .before .before .before .before .before .before .before .before .before .before .before .before .before .pre .1 .2, c .before .before .before .before .before .before .before .before .before .before .before .before .before .before .before .before .before .before .before .before .good)
+item-sheet-add-k t c = omega (arith, series-more (item-here t (c .before .before .before .before .before .before .before .before .before .before .before .before)) (c .before .before .before .before .before .before .before .before .before .before .is-series .ensures) (c .before .before .before .before .before .before .before .before .before .if1 .taken) (c .before .before .before .before .before .before .before .put-number .ensures) (c .before .before .pack-sheet .ensures) .sum, c .before .before .before .before .before .before .before .before .before .before .before .before .before .before .before .before .before .before .before .before .before .pre .1 .1 .2, c .before .before .before .before .before .before .before .before .before .before .before .before .before .before .before .before .before .before .before .before .before .good)
 
 item-sheet-sub-put-plain : (t : ℕ) → item-sheet-lts.Need-sub-put-plain (item-claims t) (item-sheet-at t) item-sheet.Post item-sheet-Inv-loop item-sheet-μ-loop
 item-sheet-sub-put-plain t c = omega (arith, entry-room (item-here t (c .before .before .before .before)))
@@ -147,7 +147,7 @@ item-sheet-part-put-plain-end : (t : ℕ) → item-sheet-lts.Need-part-put-plain
 item-sheet-part-put-plain-end t c = omega (arith, entry-room (item-here t (c .before .before .before .before)))
 
 item-sheet-put-plain-requires : (t : ℕ) → item-sheet-lts.Need-put-plain-requires (item-claims t) (item-sheet-at t) item-sheet.Post item-sheet-Inv-loop item-sheet-μ-loop
-item-sheet-put-plain-requires t c κs = one-room (item-here t (c .before .before .before .before .before)) (c .before .before .before .is-series .ensures) (c .before .before .if1 .left)
+item-sheet-put-plain-requires t c κs = (c .before .before .before .before .before .before .before .before .before .before .before .before .before .before .pre .1 .0, one-room (item-here t (c .before .before .before .before .before)) (c .before .before .before .is-series .ensures) (c .before .before .if1 .left))
 
 item-sheet-loop-less : (t : ℕ) → item-sheet-lts.Need-loop-less (item-claims t) (item-sheet-at t) item-sheet.Post item-sheet-Inv-loop item-sheet-μ-loop
 item-sheet-loop-less t c = omega (arith, entry-room (item-here t (c .before .before .before .before .before .before .before .before .before .before .before .before)))
@@ -165,19 +165,19 @@ item-sheet-same-length-2 : (t : ℕ) → item-sheet-lts.Need-same-length-2 (item
 item-sheet-same-length-2 t c = c .before .loop .inv .same
 
 item-sheet-returns-2 : (t : ℕ) → item-sheet-lts.Need-returns-2 (item-claims t) (item-sheet-at t) item-sheet.Post item-sheet-Inv-loop item-sheet-μ-loop
-item-sheet-returns-2 t c = level-done (c .before .before .before .before .args .set) (formOf (c .before .before .before .before .args .alone)) _ _ (c .before .loop .inv) (c .loop-test .left)
+item-sheet-returns-2 t c = level-done (c .before .before .before .before .before .args .set) (formOf (c .before .before .before .before .before .args .alone)) _ _ (c .before .loop .inv) (c .loop-test .left)
 
 -- ---- the pack walk
 
 abbrev pack-sheet-Inv-loop : pack-sheet-lts.InvT-loop
-pack-sheet-Inv-loop s alone out₀ p₀ k₀ out p k = SeriesWriting (formOf alone) s out₀ out p k
+pack-sheet-Inv-loop table s alone out₀ p₀ k₀ out p k = SeriesWriting (formOf alone) s out₀ out p k
 
 abbrev pack-sheet-μ-loop : pack-sheet-lts.MeasureT-loop
-pack-sheet-μ-loop s alone out₀ p₀ k₀ out p k = length s - p
+pack-sheet-μ-loop table s alone out₀ p₀ k₀ out p k = length s - p
 
 -- the pack at the head that was read
 pack-at : (t : ℕ) (a : pack-sheet-lts.After-h (pack-claims t) (pack-sheet-at t) pack-sheet.Post pack-sheet-Inv-loop pack-sheet-μ-loop)
-    → PackAt (formOf (a .before .before .before .before .before .before .before .before .args .alone)) (a .before .before .before .before .before .before .before .before .args .s .now) (a .before .before .before .before .before .before .before .before .args .out .now)
+    → PackAt (formOf (a .before .before .before .before .before .before .before .before .before .args .alone)) (a .before .before .before .before .before .before .before .before .before .args .s .now) (a .before .before .before .before .before .before .before .before .before .args .out .now)
     (a .before .before .before .before .before .loop .out) (a .before .before .before .before .before .loop .p) (a .before .before .before .before .before .loop .k) (a .h .given .0 .0) (a .h .given .0 .1 .0) (a .h .given .0 .1 .1 .0) (a .h .given .0 .1 .1 .1 .0)
 pack-at t a = record {
   going = a .before .before .before .before .before .loop .inv;
@@ -185,12 +185,12 @@ pack-at t a = record {
   head = _;
   reads = a .before .before .pack-head .ensures;
   whole = a .h .given .1;
-  bytes = λ i. a .before .before .before .before .before .before .before .shared-slice-known .given i .fits;
-  asked = a .before .before .before .before .before .before .before .before .pre .1;
+  bytes = λ i. a .before .before .before .before .before .before .before .shared-slice-known2 .given i .fits;
+  asked = a .before .before .before .before .before .before .before .before .before .pre .1 .1;
 }
 
 pack-sheet-loop-holds : (t : ℕ) → pack-sheet-lts.Need-loop-holds (pack-claims t) (pack-sheet-at t) pack-sheet.Post pack-sheet-Inv-loop pack-sheet-μ-loop
-pack-sheet-loop-holds t c = series-start _ _ _ (c .before .before .pre .1 .1)
+pack-sheet-loop-holds t c = series-start _ _ _ (c .before .before .before .pre .1 .1 .1)
 
 pack-sheet-sub-pack-head : (t : ℕ) → pack-sheet-lts.Need-sub-pack-head (pack-claims t) (pack-sheet-at t) pack-sheet.Post pack-sheet-Inv-loop pack-sheet-μ-loop
 pack-sheet-sub-pack-head t c = search needs
@@ -250,10 +250,10 @@ pack-sheet-part-item-sheet-end-2 : (t : ℕ) → pack-sheet-lts.Need-part-item-s
 pack-sheet-part-item-sheet-end-2 t c = search needs
 
 pack-sheet-item-sheet-requires : (t : ℕ) → pack-sheet-lts.Need-item-sheet-requires (pack-claims t) (pack-sheet-at t) pack-sheet.Post pack-sheet-Inv-loop pack-sheet-μ-loop
-pack-sheet-item-sheet-requires t c κs = (omega (arith, c .before .before .before .before .before .before .before .before .before .before .before .before .before .before .before .pre .0), items-asked (pack-at t (c .before .before .before .before .before .before .before)) (c .before .before .before .before .put-target .ensures))
+pack-sheet-item-sheet-requires t c κs = (omega (arith, c .before .before .before .before .before .before .before .before .before .before .before .before .before .before .before .before .pre .0), (c .before .before .before .before .before .before .before .before .before .before .before .before .before .before .before .before .pre .1 .0, items-asked (pack-at t (c .before .before .before .before .before .before .before)) (c .before .before .before .before .put-target .ensures)))
 
 pack-sheet-add-k : (t : ℕ) → pack-sheet-lts.Need-add-k (pack-claims t) (pack-sheet-at t) pack-sheet.Post pack-sheet-Inv-loop pack-sheet-μ-loop
-pack-sheet-add-k t c = omega (arith, items-more (pack-at t (c .before .before .before .before .before .before .before .before .before .before)) (c .before .before .before .before .before .before .before .put-target .ensures) (c .before .before .item-sheet .ensures) .sum, c .before .before .before .before .before .before .before .before .before .before .before .before .before .before .before .before .before .before .pre .1 .2, c .before .before .before .before .before .before .before .before .before .before .before .before .before .before .before .before .before .before .good)
+pack-sheet-add-k t c = omega (arith, items-more (pack-at t (c .before .before .before .before .before .before .before .before .before .before)) (c .before .before .before .before .before .before .before .put-target .ensures) (c .before .before .item-sheet .ensures) .sum, c .before .before .before .before .before .before .before .before .before .before .before .before .before .before .before .before .before .before .before .pre .1 .1 .2, c .before .before .before .before .before .before .before .before .before .before .before .before .before .before .before .before .before .before .before .good)
 
 pack-sheet-loop-less : (t : ℕ) → pack-sheet-lts.Need-loop-less (pack-claims t) (pack-sheet-at t) pack-sheet.Post pack-sheet-Inv-loop pack-sheet-μ-loop
 pack-sheet-loop-less t c = omega (arith, pack-room (pack-at t (c .before .before .before .before .before .before .before .before .before .before)))

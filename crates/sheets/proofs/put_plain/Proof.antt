@@ -11,8 +11,8 @@ use Rattle.sheets.proofs.put_plain.Lts as lts
 use Rattle.sheets.proofs.put_plain.Tie as tie
 
 -- the item is not the set's checksum
-no-seal : (j : lts.Joined1 (rule-of-reads.Asked, rule-of-reads.Learnt, short-size-reads.Asked, short-size-reads.Learnt, put-item-reads.Asked, put-item-reads.Learnt) reads.Pre reads.Post) → NoSeal (j .before .before .before .args .set) (j .before .before .before .args .tag)
-no-seal j = ⊎-elim (λ x. other-tag (j .before .before .before .args .set) _ (x .1 .left)) (λ x. of-pack _ (j .before .before .before .args .tag) (x .left)) (j .if1 .came)
+no-seal : (j : lts.Joined1 (rule-of-reads.Asked, rule-of-reads.Learnt, short-size-reads.Asked, short-size-reads.Learnt, put-item-reads.Asked, put-item-reads.Learnt) reads.Pre reads.Post) → NoSeal (j .before .before .before .before .args .set) (j .before .before .before .before .args .tag)
+no-seal j = ⊎-elim (λ x. other-tag (j .before .before .before .before .args .set) _ (x .1 .left)) (λ x. of-pack _ (j .before .before .before .before .args .tag) (x .left)) (j .if1 .came)
 
 returns : tie.Need-returns
 returns c = seal-stored _ _ _ (c .before .if1 .taken) (c .if2 .taken)
@@ -38,8 +38,8 @@ part-put-item-end c = search needs
 put-item-requires : tie.Need-put-item-requires
 put-item-requires c κs =
     let a = c .before .before in
-    let i = a .before .before .before .before .before .args in
-    plain-room (i .set) (i .tag) (i .v .now) (no-seal (a .before .before)) (a .before .rule-of .ensures) (a .short-size .ensures) (i .at) (a .before .before .before .before .before .pre .1)
+    let i = a .before .before .before .before .before .before .args in
+    plain-room (i .set) (i .tag) (i .v .now) (no-seal (a .before .before)) (a .before .rule-of .ensures) (a .short-size .ensures) (i .at) (a .before .before .before .before .before .before .pre .1 .1)
 
 same-length : tie.Need-same-length
 same-length c = search needs
@@ -47,7 +47,7 @@ same-length c = search needs
 returns-2 : tie.Need-returns-2
 returns-2 c =
     let a = c .before .before .before .before .before in
-    let i = a .before .before .before .before .before .args in
+    let i = a .before .before .before .before .before .before .args in
     plain-stored (i .set) (i .tag) (i .v .now) (no-seal (a .before .before)) (a .before .rule-of .ensures) (a .short-size .ensures) (i .out .now) (i .at) (c .before .before .put-item .ensures)
 
 pub put-plain-spec : {M : Type 1} → statement M

@@ -1,6 +1,6 @@
 -- `walks::item_walk` and `walks::pack_walk` meet their contracts: each turn moves one item or pack from what is to come to what was walked.
 -- In the item walk's answers `a` is where an item was read; in the pack walk's `a` is where a pack's head was, and `e` where its id was found to be new.
-use mathlib.Core.Path.{_≡_, refl, _∙_}
+use mathlib.Core.Path.{_≡_, refl, ap, _∙_}
 use mathlib.Core.Bool.{Bool, true, false, not, _||_}
 use mathlib.Core.Logic.{⊎-elim}
 use Prim.Native.Nat.{ℕ, _+_, _-_, _≤_, _<_}
@@ -11,9 +11,10 @@ use borrow.Fn.Kinds.{In}
 use borrow.Fn.PlainCycle.{Measures, is, falls, and}
 use Rattle.format.specs.Table.{isAlone}
 use Rattle.items.specs.Meet.{formOf}
+use Rattle.walks.specs.Meet.{plusSizes}
 use Rattle.walks.proofs.Turns.{turn-done}
-use Rattle.walks.proofs.ItemTurns.{ItemAt, LevelGoing, level-start, depth, series-deep, value-long, item-fault, piece-stood, piece-room, EntryTold, item-told, series-within, series-told, entry-bad, bad-within, good-few, entry-more}
-use Rattle.walks.proofs.PackTurns.{PackAt, SeriesGoing, lent-long, series-start, head-fault, head-stood, head-room, id-again, items-within, items-fault, no-location, pack-few, pack-more}
+use Rattle.walks.proofs.ItemTurns.{ItemAt, LevelGoing, level-start, depth, series-deep, value-long, item-fault, piece-stood, piece-room, EntryTold, item-told, series-within, series-told, entry-bad, bad-within, good-small, entry-more}
+use Rattle.walks.proofs.PackTurns.{PackAt, SeriesGoing, lent-long, series-start, head-fault, head-stood, head-room, id-again, items-within, items-fault, no-location, items-small, pack-small, pack-more}
 use Rattle.walks.proofs.item_walk.Reads as item-walk
 use Rattle.walks.proofs.item_walk.Kinds as item-walk-kinds
 use Rattle.walks.proofs.+item_walk+pack_walk.Lts-item_walk as item-walk-lts
@@ -29,6 +30,7 @@ use Rattle.walks.proofs.larger.Reads as larger-reads
 use Rattle.walks.proofs.later.Reads as later-reads
 use Rattle.walks.proofs.one_item.Reads as one-item-reads
 use Rattle.walks.proofs.piece_fault.Reads as piece-fault-reads
+use Rattle.walks.proofs.pack_sizes.Reads as pack-sizes-reads
 use Rattle.walks.proofs.plus.Reads as plus-reads
 use Rattle.walks.proofs.series_of.Reads as series-of-reads
 use Rattle.walks.proofs.smaller.Reads as smaller-reads
@@ -37,57 +39,57 @@ use Rattle.walks.proofs.+item_walk+pack_walk.{statement}
 use Rattle.walks.proofs.+item_walk+pack_walk.Tie.{close}
 
 -- the item walk of the set calls the pack walk, and that the item walk of a pack
-abbrev μ-item-walk : Measures 1 item-walk-kinds.ps ℕ
-μ-item-walk κs a = depth (a .1 .0)
+abbrev μ-item-walk : Measures 2 item-walk-kinds.ps ℕ
+μ-item-walk κs a = depth (a .1 .1 .0)
 
-abbrev μ-pack-walk : Measures 1 pack-walk-kinds.ps ℕ
+abbrev μ-pack-walk : Measures 2 pack-walk-kinds.ps ℕ
 μ-pack-walk κs a = 1
 
-abbrev item-walk-at : ℕ → In 1 item-walk-kinds.ps
-item-walk-at t = and 1 item-walk-kinds.ps (is 1 item-walk-kinds.ps μ-item-walk t) item-walk.Pre
+abbrev item-walk-at : ℕ → In 2 item-walk-kinds.ps
+item-walk-at t = and 2 item-walk-kinds.ps (is 2 item-walk-kinds.ps μ-item-walk t) item-walk.Pre
 
-abbrev item-walk-below : ℕ → In 1 item-walk-kinds.ps
+abbrev item-walk-below : ℕ → In 2 item-walk-kinds.ps
 item-walk-below t =
-    and 1 item-walk-kinds.ps (falls 1 item-walk-kinds.ps _<_ μ-item-walk t) item-walk.Pre
+    and 2 item-walk-kinds.ps (falls 2 item-walk-kinds.ps _<_ μ-item-walk t) item-walk.Pre
 
-abbrev pack-walk-at : ℕ → In 1 pack-walk-kinds.ps
-pack-walk-at t = and 1 pack-walk-kinds.ps (is 1 pack-walk-kinds.ps μ-pack-walk t) pack-walk.Pre
+abbrev pack-walk-at : ℕ → In 2 pack-walk-kinds.ps
+pack-walk-at t = and 2 pack-walk-kinds.ps (is 2 pack-walk-kinds.ps μ-pack-walk t) pack-walk.Pre
 
-abbrev pack-walk-below : ℕ → In 1 pack-walk-kinds.ps
+abbrev pack-walk-below : ℕ → In 2 pack-walk-kinds.ps
 pack-walk-below t =
-    and 1 pack-walk-kinds.ps (falls 1 pack-walk-kinds.ps _<_ μ-pack-walk t) pack-walk.Pre
+    and 2 pack-walk-kinds.ps (falls 2 pack-walk-kinds.ps _<_ μ-pack-walk t) pack-walk.Pre
 
 -- what is known of the callees, the other walk's at a smaller measure
 abbrev item-claims : ℕ → item-walk-lts.Claims
 item-claims t = (item-at-reads.Asked, item-at-reads.Learnt, stop-reads.Asked, stop-reads.Learnt, is-series-reads.Asked, is-series-reads.Learnt, pack-walk-below t, pack-walk.Post, series-of-reads.Asked, series-of-reads.Learnt, one-item-reads.Asked, one-item-reads.Learnt, later-reads.Asked, later-reads.Learnt, plus-reads.Asked, plus-reads.Learnt, either-reads.Asked, either-reads.Learnt, larger-reads.Asked, larger-reads.Learnt, smaller-reads.Asked, smaller-reads.Learnt)
 
 abbrev pack-claims : ℕ → pack-walk-lts.Claims
-pack-claims t = (pack-head-reads.Asked, pack-head-reads.Learnt, piece-fault-reads.Asked, piece-fault-reads.Learnt, stop-reads.Asked, stop-reads.Learnt, is-seen-reads.Asked, is-seen-reads.Learnt, item-walk-below t, item-walk.Post, later-reads.Asked, later-reads.Learnt, either-reads.Asked, either-reads.Learnt, plus-reads.Asked, plus-reads.Learnt, larger-reads.Asked, larger-reads.Learnt, smaller-reads.Asked, smaller-reads.Learnt)
+pack-claims t = (pack-head-reads.Asked, pack-head-reads.Learnt, piece-fault-reads.Asked, piece-fault-reads.Learnt, stop-reads.Asked, stop-reads.Learnt, is-seen-reads.Asked, is-seen-reads.Learnt, item-walk-below t, item-walk.Post, later-reads.Asked, later-reads.Learnt, either-reads.Asked, either-reads.Learnt, pack-sizes-reads.Asked, pack-sizes-reads.Learnt, plus-reads.Asked, plus-reads.Learnt, larger-reads.Asked, larger-reads.Learnt, smaller-reads.Asked, smaller-reads.Learnt)
 
 -- ---- the item walk
 
 abbrev item-walk-Inv-loop : item-walk-lts.InvT-loop
-item-walk-Inv-loop s set alone p₀ sum₀ mark₀ top₀ low₀ p sum mark top low = LevelGoing set (formOf alone) s p sum mark top low
+item-walk-Inv-loop table s set alone p₀ sum₀ mark₀ top₀ low₀ p sum mark top low = LevelGoing set (formOf alone) s p sum mark top low
 
 abbrev item-walk-μ-loop : item-walk-lts.MeasureT-loop
-item-walk-μ-loop s set alone p₀ sum₀ mark₀ top₀ low₀ p sum mark top low = length s - p
+item-walk-μ-loop table s set alone p₀ sum₀ mark₀ top₀ low₀ p sum mark top low = length s - p
 
 -- an item, where it was read
 item-here : (t : ℕ) (a : item-walk-lts.After-a (item-claims t) (item-walk-at t) item-walk.Post item-walk-Inv-loop item-walk-μ-loop)
-    → ItemAt (a .before .before .before .before .before .before .args .set) (formOf (a .before .before .before .before .before .before .args .alone)) (a .before .before .before .before .before .before .args .s .now) (a .before .before .before .before .loop .p) (a .before .before .before .before .loop .sum) (a .before .before .before .before .loop .mark) (a .before .before .before .before .loop .top) (a .before .before .before .before .loop .low) (a .a .given .0 .0) (a .a .given .0 .1 .0) (a .a .given .0 .1 .1 .0) (a .a .given .0 .1 .1 .1 .0)
+    → ItemAt (a .before .before .before .before .before .before .before .args .set) (formOf (a .before .before .before .before .before .before .before .args .alone)) (a .before .before .before .before .before .before .before .args .s .now) (a .before .before .before .before .loop .p) (a .before .before .before .before .loop .sum) (a .before .before .before .before .loop .mark) (a .before .before .before .before .loop .top) (a .before .before .before .before .loop .low) (a .a .given .0 .0) (a .a .given .0 .1 .0) (a .a .given .0 .1 .1 .0) (a .a .given .0 .1 .1 .1 .0)
 item-here t a = record {
   going = a .before .before .before .before .loop .inv;
   here = a .before .before .before .loop-test .taken;
   it = a .before .before .item-at .result;
   told = a .before .before .item-at .ensures;
   whole = a .a .given .1;
-  bytes = λ i. a .before .before .before .before .before .shared-slice-known .given i .fits;
-  most = a .before .before .before .before .before .before .pre .1;
+  bytes = λ i. a .before .before .before .before .before .shared-slice-known2 .given i .fits;
+  most = a .before .before .before .before .before .before .before .pre .1 .1;
 }
 
 -- it lies within the bytes lent
 item-room : (t : ℕ) (a : item-walk-lts.After-a (item-claims t) (item-walk-at t) item-walk.Post item-walk-Inv-loop item-walk-μ-loop)
-    → a .before .before .before .before .loop .p + a .a .given .0 .1 .0 + a .a .given .0 .1 .1 .0 ≤ length (a .before .before .before .before .before .before .args .s .now)
+    → a .before .before .before .before .loop .p + a .a .given .0 .1 .0 + a .a .given .0 .1 .1 .0 ≤ length (a .before .before .before .before .before .before .before .args .s .now)
 item-room t a = piece-room (item-here t a)
 
 -- what one entry says, whichever way it was walked
@@ -103,7 +105,7 @@ item-walk-loop-holds : (t : ℕ) → item-walk-lts.Need-loop-holds (item-claims 
 item-walk-loop-holds t c = level-start _ _ _
 
 item-walk-item-at-requires : (t : ℕ) → item-walk-lts.Need-item-at-requires (item-claims t) (item-walk-at t) item-walk.Post item-walk-Inv-loop item-walk-μ-loop
-item-walk-item-at-requires t c κs = search needs
+item-walk-item-at-requires t c κs = (c .before .before .before .before .pre .1 .0, omega (arith, c .loop-test .taken))
 
 item-walk-enum-known-a : (t : ℕ) → item-walk-lts.Need-enum-known-a (item-claims t) (item-walk-at t) item-walk.Post item-walk-Inv-loop item-walk-μ-loop
 item-walk-enum-known-a t c = search needs
@@ -115,13 +117,13 @@ item-walk-stop-requires : (t : ℕ) → item-walk-lts.Need-stop-requires (item-c
 item-walk-stop-requires t c κs = search needs
 
 item-walk-returns : (t : ℕ) → item-walk-lts.Need-returns (item-claims t) (item-walk-at t) item-walk.Post item-walk-Inv-loop item-walk-μ-loop
-item-walk-returns t c = item-fault _ (c .before .before .before .before .before .loop .inv) (c .before .before .before .before .loop-test .taken) (c .before .before .before .item-at .ensures) (c .before .enum-told .given .1) (c .stop .ensures)
+item-walk-returns t c = item-fault _ _ (c .before .before .before .before .before .loop .inv) (c .before .before .before .before .loop-test .taken) (c .before .before .before .item-at .ensures) (c .before .enum-told .given .1) (c .stop .ensures)
 
 item-walk-add-at : (t : ℕ) → item-walk-lts.Need-add-at (item-claims t) (item-walk-at t) item-walk.Post item-walk-Inv-loop item-walk-μ-loop
-item-walk-add-at t c = omega (arith, item-room t (c .before), c .before .before .before .before .before .before .before .pre .1)
+item-walk-add-at t c = omega (arith, item-room t (c .before), c .before .before .before .before .before .before .before .before .pre .1 .1)
 
 item-walk-add-next : (t : ℕ) → item-walk-lts.Need-add-next (item-claims t) (item-walk-at t) item-walk.Post item-walk-Inv-loop item-walk-μ-loop
-item-walk-add-next t c = omega (arith, item-room t (c .before), c .before .before .before .before .before .before .before .pre .1)
+item-walk-add-next t c = omega (arith, item-room t (c .before), c .before .before .before .before .before .before .before .before .pre .1 .1)
 
 item-walk-is-series-requires : (t : ℕ) → item-walk-lts.Need-is-series-requires (item-claims t) (item-walk-at t) item-walk.Post item-walk-Inv-loop item-walk-μ-loop
 item-walk-is-series-requires t c κs = search needs
@@ -138,8 +140,8 @@ item-walk-part-pack-walk-end t c = omega (arith, item-room t (c .before .before 
 item-walk-pack-walk-requires : (t : ℕ) → item-walk-lts.Need-pack-walk-requires (item-claims t) (item-walk-at t) item-walk.Post item-walk-Inv-loop item-walk-μ-loop
 item-walk-pack-walk-requires t c κs =
     let a = c .before .before .before .before in (
-      omega (arith, series-deep (a .before .before .before .before .before .before .args .set) (a .a .given .0 .0) (c .before .before .is-series .ensures) (c .before .if1 .taken), a .before .before .before .before .before .before .pre .0),
-      omega (arith, value-long (item-here t a), item-room t a, a .before .before .before .before .before .before .pre .1),
+      omega (arith, series-deep (a .before .before .before .before .before .before .before .args .set) (a .a .given .0 .0) (c .before .before .is-series .ensures) (c .before .if1 .taken), a .before .before .before .before .before .before .before .pre .0),
+      (a .before .before .before .before .before .before .before .pre .1 .0, omega (arith, value-long (item-here t a), item-room t a, a .before .before .before .before .before .before .before .pre .1 .1)),
     )
 
 item-walk-series-of-requires : (t : ℕ) → item-walk-lts.Need-series-of-requires (item-claims t) (item-walk-at t) item-walk.Post item-walk-Inv-loop item-walk-μ-loop
@@ -151,7 +153,7 @@ item-walk-one-item-requires : (t : ℕ) → item-walk-lts.Need-one-item-requires
 item-walk-one-item-requires t c κs =
     let a = c .before .before .before in
     let k = piece-stood (item-here t a) in
-    omega (arith, k .short-less, item-room t a, a .before .before .before .before .before .before .pre .1)
+    (k .tag-small, omega (arith, k .short-less, item-room t a, a .before .before .before .before .before .before .before .pre .1 .1))
 
 item-walk-enum-known-w : (t : ℕ) → item-walk-lts.Need-enum-known-w (item-claims t) (item-walk-at t) item-walk.Post item-walk-Inv-loop item-walk-μ-loop
 item-walk-enum-known-w t c = search needs
@@ -172,7 +174,7 @@ item-walk-returns-2 t c =
 item-walk-plus-requires : (t : ℕ) → item-walk-lts.Need-plus-requires (item-claims t) (item-walk-at t) item-walk.Post item-walk-Inv-loop item-walk-μ-loop
 item-walk-plus-requires t c κs =
     let a = c .before .before .before .before .before .before in
-    good-few (item-here t a) (item-told-at t (c .before .before .before)) (c .before .w .given .1)
+    good-small (item-here t a) (item-told-at t (c .before .before .before)) (c .before .w .given .1)
 
 item-walk-either-requires : (t : ℕ) → item-walk-lts.Need-either-requires (item-claims t) (item-walk-at t) item-walk.Post item-walk-Inv-loop item-walk-μ-loop
 item-walk-either-requires t c κs = search needs
@@ -200,27 +202,27 @@ item-walk-returns-3 t c = turn-done (c .before .loop .inv) (c .loop-test .left)
 -- ---- the pack walk
 
 abbrev pack-walk-Inv-loop : pack-walk-lts.InvT-loop
-pack-walk-Inv-loop s alone p₀ sum₀ top₀ low₀ p sum top low = SeriesGoing (formOf alone) s p sum top low
+pack-walk-Inv-loop table s alone p₀ sum₀ top₀ low₀ p sum top low = SeriesGoing (formOf alone) s p sum top low
 
 abbrev pack-walk-μ-loop : pack-walk-lts.MeasureT-loop
-pack-walk-μ-loop s alone p₀ sum₀ top₀ low₀ p sum top low = length s - p
+pack-walk-μ-loop table s alone p₀ sum₀ top₀ low₀ p sum top low = length s - p
 
 -- a pack, where its head was read
 pack-here : (t : ℕ) (a : pack-walk-lts.After-h (pack-claims t) (pack-walk-at t) pack-walk.Post pack-walk-Inv-loop pack-walk-μ-loop)
-    → PackAt (formOf (a .before .before .before .before .before .before .before .args .alone)) (a .before .before .before .before .before .before .before .args .s .now) (a .before .before .before .before .before .loop .p) (a .before .before .before .before .before .loop .sum) (a .before .before .before .before .before .loop .top) (a .before .before .before .before .before .loop .low) (a .h .given .0 .0) (a .h .given .0 .1 .0) (a .h .given .0 .1 .1 .0) (a .h .given .0 .1 .1 .1 .0)
+    → PackAt (formOf (a .before .before .before .before .before .before .before .before .args .alone)) (a .before .before .before .before .before .before .before .before .args .s .now) (a .before .before .before .before .before .loop .p) (a .before .before .before .before .before .loop .sum) (a .before .before .before .before .before .loop .top) (a .before .before .before .before .before .loop .low) (a .h .given .0 .0) (a .h .given .0 .1 .0) (a .h .given .0 .1 .1 .0) (a .h .given .0 .1 .1 .1 .0)
 pack-here t a = record {
   going = a .before .before .before .before .before .loop .inv;
   here = a .before .before .before .before .loop-test .taken;
   it = a .before .before .pack-head .result;
   told = a .before .before .pack-head .ensures;
   is = a .h .given .1;
-  bytes = λ i. a .before .before .before .before .before .before .shared-slice-known .given i .fits;
-  most = a .before .before .before .before .before .before .before .pre .1;
+  bytes = λ i. a .before .before .before .before .before .before .shared-slice-known2 .given i .fits;
+  most = a .before .before .before .before .before .before .before .before .pre .1 .1;
 }
 
 -- it lies within the bytes lent, and its id within the pack
 pack-room : (t : ℕ) (a : pack-walk-lts.After-h (pack-claims t) (pack-walk-at t) pack-walk.Post pack-walk-Inv-loop pack-walk-μ-loop)
-    → a .before .before .before .before .before .loop .p + a .h .given .0 .1 .1 .0 + a .h .given .0 .1 .1 .1 .0 ≤ length (a .before .before .before .before .before .before .before .args .s .now)
+    → a .before .before .before .before .before .loop .p + a .h .given .0 .1 .1 .0 + a .h .given .0 .1 .1 .1 .0 ≤ length (a .before .before .before .before .before .before .before .before .args .s .now)
 pack-room t a = head-room (pack-here t a)
 
 pack-body : (t : ℕ) (a : pack-walk-lts.After-h (pack-claims t) (pack-walk-at t) pack-walk.Post pack-walk-Inv-loop pack-walk-μ-loop) → a .h .given .0 .1 .0 ≤ a .h .given .0 .1 .1 .1 .0
@@ -272,43 +274,45 @@ pack-walk-returns-2 t c =
 pack-walk-add-from : (t : ℕ) → pack-walk-lts.Need-add-from (pack-claims t) (pack-walk-at t) pack-walk.Post pack-walk-Inv-loop pack-walk-μ-loop
 pack-walk-add-from t c =
     let a = c .before .before .before in
-    omega (arith, pack-room t a, pack-body t a, a .before .before .before .before .before .before .before .pre .1)
+    omega (arith, pack-room t a, pack-body t a, a .before .before .before .before .before .before .before .before .pre .1 .1)
 
 pack-walk-add-from-2 : (t : ℕ) → pack-walk-lts.Need-add-from-2 (pack-claims t) (pack-walk-at t) pack-walk.Post pack-walk-Inv-loop pack-walk-μ-loop
 pack-walk-add-from-2 t c =
     let a = c .before .before .before in
-    omega (arith, pack-room t a, pack-body t a, a .before .before .before .before .before .before .before .pre .1)
+    omega (arith, pack-room t a, pack-body t a, a .before .before .before .before .before .before .before .before .pre .1 .1)
 
 pack-walk-add-next : (t : ℕ) → pack-walk-lts.Need-add-next (pack-claims t) (pack-walk-at t) pack-walk.Post pack-walk-Inv-loop pack-walk-μ-loop
 pack-walk-add-next t c =
     let a = c .before .before .before in
-    omega (arith, pack-room t a, pack-body t a, a .before .before .before .before .before .before .before .pre .1)
+    omega (arith, pack-room t a, pack-body t a, a .before .before .before .before .before .before .before .before .pre .1 .1)
 
 pack-walk-add-next-2 : (t : ℕ) → pack-walk-lts.Need-add-next-2 (pack-claims t) (pack-walk-at t) pack-walk.Post pack-walk-Inv-loop pack-walk-μ-loop
 pack-walk-add-next-2 t c =
     let a = c .before .before .before in
-    omega (arith, pack-room t a, pack-body t a, a .before .before .before .before .before .before .before .pre .1)
+    omega (arith, pack-room t a, pack-body t a, a .before .before .before .before .before .before .before .before .pre .1 .1)
 
 pack-walk-sub-item-walk : (t : ℕ) → pack-walk-lts.Need-sub-item-walk (pack-claims t) (pack-walk-at t) pack-walk.Post pack-walk-Inv-loop pack-walk-μ-loop
 pack-walk-sub-item-walk t c =
     let a = c .before .before .before in
-    omega (arith, pack-room t a, pack-body t a, a .before .before .before .before .before .before .before .pre .1)
+    omega (arith, pack-room t a, pack-body t a, a .before .before .before .before .before .before .before .before .pre .1 .1)
 
 pack-walk-part-item-walk-start : (t : ℕ) → pack-walk-lts.Need-part-item-walk-start (pack-claims t) (pack-walk-at t) pack-walk.Post pack-walk-Inv-loop pack-walk-μ-loop
 pack-walk-part-item-walk-start t c =
     let a = c .before .before .before in
-    omega (arith, pack-room t a, pack-body t a, a .before .before .before .before .before .before .before .pre .1)
+    omega (arith, pack-room t a, pack-body t a, a .before .before .before .before .before .before .before .before .pre .1 .1)
 
 pack-walk-part-item-walk-end : (t : ℕ) → pack-walk-lts.Need-part-item-walk-end (pack-claims t) (pack-walk-at t) pack-walk.Post pack-walk-Inv-loop pack-walk-μ-loop
 pack-walk-part-item-walk-end t c =
     let a = c .before .before .before in
-    omega (arith, pack-room t a, pack-body t a, a .before .before .before .before .before .before .before .pre .1)
+    omega (arith, pack-room t a, pack-body t a, a .before .before .before .before .before .before .before .before .pre .1 .1)
 
 pack-walk-item-walk-requires : (t : ℕ) → pack-walk-lts.Need-item-walk-requires (pack-claims t) (pack-walk-at t) pack-walk.Post pack-walk-Inv-loop pack-walk-μ-loop
 pack-walk-item-walk-requires t c κs =
     let e = c .before in
-    let a = e .before .before .before in
-    (omega (arith, a .before .before .before .before .before .before .before .pre .0), omega (arith, lent-long (pack-here t a) (e .before .is-seen .ensures) (e .if1 .left), pack-room t a, a .before .before .before .before .before .before .before .pre .1))
+    let a = e .before .before .before in (
+      omega (arith, a .before .before .before .before .before .before .before .before .pre .0),
+      (a .before .before .before .before .before .before .before .before .pre .1 .0, omega (arith, lent-long (pack-here t a) (e .before .is-seen .ensures) (e .if1 .left), pack-room t a, a .before .before .before .before .before .before .before .before .pre .1 .1)),
+    )
 
 pack-walk-enum-known-w : (t : ℕ) → pack-walk-lts.Need-enum-known-w (pack-claims t) (pack-walk-at t) pack-walk.Post pack-walk-Inv-loop pack-walk-μ-loop
 pack-walk-enum-known-w t c = search needs
@@ -331,25 +335,17 @@ pack-walk-returns-3 t c =
 pack-walk-either-requires : (t : ℕ) → pack-walk-lts.Need-either-requires (pack-claims t) (pack-walk-at t) pack-walk.Post pack-walk-Inv-loop pack-walk-μ-loop
 pack-walk-either-requires t c κs = search needs
 
-pack-walk-add-t28 : (t : ℕ) → pack-walk-lts.Need-add-t28 (pack-claims t) (pack-walk-at t) pack-walk.Post pack-walk-Inv-loop pack-walk-μ-loop
-pack-walk-add-t28 t c =
-    let e = c .before .before .before .before .before .before .before .before in
+pack-walk-pack-sizes-requires : (t : ℕ) → pack-walk-lts.Need-pack-sizes-requires (pack-claims t) (pack-walk-at t) pack-walk.Post pack-walk-Inv-loop pack-walk-μ-loop
+pack-walk-pack-sizes-requires t c κs =
+    let e = c .before .before .before .before .before .before .before in
     let a = e .before .before .before in
-    let k = pack-few (pack-here t a) (e .before .is-seen .ensures) (e .if1 .left) (c .before .before .before .before .before .before .item-walk .ensures) (c .before .before .before .before .w .given .1) (either-is (a .before .before .before .before .before .before .before .args .alone) _ (c .before .before .either .ensures)) in
-    omega (arith, k)
-
-pack-walk-add-t29 : (t : ℕ) → pack-walk-lts.Need-add-t29 (pack-claims t) (pack-walk-at t) pack-walk.Post pack-walk-Inv-loop pack-walk-μ-loop
-pack-walk-add-t29 t c =
-    let e = c .before .before .before .before .before .before .before .before .before in
-    let a = e .before .before .before in
-    let k = pack-few (pack-here t a) (e .before .is-seen .ensures) (e .if1 .left) (c .before .before .before .before .before .before .before .item-walk .ensures) (c .before .before .before .before .before .w .given .1) (either-is (a .before .before .before .before .before .before .before .args .alone) _ (c .before .before .before .either .ensures)) in
-    omega (arith, k)
+    (head-stood (pack-here t a) .id-few, items-small (pack-here t a) (e .before .is-seen .ensures) (e .if1 .left) (c .before .before .before .before .before .item-walk .ensures) (c .before .before .before .w .given .1) (either-is (a .before .before .before .before .before .before .before .before .args .alone) _ (c .before .either .ensures)))
 
 pack-walk-plus-requires : (t : ℕ) → pack-walk-lts.Need-plus-requires (pack-claims t) (pack-walk-at t) pack-walk.Post pack-walk-Inv-loop pack-walk-μ-loop
 pack-walk-plus-requires t c κs =
-    let e = c .before .before .before .before .before .before .before .before .before in
+    let e = c .before .before .before .before .before .before .before .before in
     let a = e .before .before .before in
-    pack-few (pack-here t a) (e .before .is-seen .ensures) (e .if1 .left) (c .before .before .before .before .before .before .before .item-walk .ensures) (c .before .before .before .before .before .w .given .1) (either-is (a .before .before .before .before .before .before .before .args .alone) _ (c .before .before .before .either .ensures))
+    pack-small (pack-here t a) (e .before .is-seen .ensures) (e .if1 .left) (c .before .before .before .before .before .before .item-walk .ensures) (c .before .before .before .before .w .given .1) (either-is (a .before .before .before .before .before .before .before .before .args .alone) _ (c .before .before .either .ensures)) (c .pack-sizes .ensures)
 
 pack-walk-larger-requires : (t : ℕ) → pack-walk-lts.Need-larger-requires (pack-claims t) (pack-walk-at t) pack-walk.Post pack-walk-Inv-loop pack-walk-μ-loop
 pack-walk-larger-requires t c κs = search needs
@@ -359,21 +355,21 @@ pack-walk-smaller-requires t c κs = search needs
 
 pack-walk-loop-less : (t : ℕ) → pack-walk-lts.Need-loop-less (pack-claims t) (pack-walk-at t) pack-walk.Post pack-walk-Inv-loop pack-walk-μ-loop
 pack-walk-loop-less t c =
-    let a = c .before .before .before .before .before .before .before .before .before .before .before .before .before .before .before in
+    let a = c .before .before .before .before .before .before .before .before .before .before .before .before .before .before in
     let k = head-stood (pack-here t a) in
     omega (arith, k .len, a .before .before .before .before .loop-test .taken)
 
 pack-walk-loop-again : (t : ℕ) → pack-walk-lts.Need-loop-again (pack-claims t) (pack-walk-at t) pack-walk.Post pack-walk-Inv-loop pack-walk-μ-loop
 pack-walk-loop-again t c =
-    let e = c .before .before .before .before .before .before .before .before .before .before .before .before in
+    let e = c .before .before .before .before .before .before .before .before .before .before .before in
     let a = e .before .before .before in
-    pack-more (pack-here t a) (e .before .is-seen .ensures) (e .if1 .left) (c .before .before .before .before .before .before .before .before .before .before .item-walk .ensures) (c .before .before .before .before .before .before .before .before .w .given .1) (either-is (a .before .before .before .before .before .before .before .args .alone) _ (c .before .before .before .before .before .before .either .ensures)) (c .before .before .before .before .before .if2 .taken) (c .before .before .plus .ensures) (c .before .larger .ensures) (c .smaller .ensures)
+    pack-more (pack-here t a) (e .before .is-seen .ensures) (e .if1 .left) (c .before .before .before .before .before .before .before .before .before .item-walk .ensures) (c .before .before .before .before .before .before .before .w .given .1) (either-is (a .before .before .before .before .before .before .before .before .args .alone) _ (c .before .before .before .before .before .either .ensures)) (c .before .before .before .before .if2 .taken) (c .before .before .plus .ensures ∙ ap (plusSizes _) (c .before .before .before .pack-sizes .ensures)) (c .before .larger .ensures) (c .smaller .ensures)
 
 pack-walk-returns-4 : (t : ℕ) → pack-walk-lts.Need-returns-4 (pack-claims t) (pack-walk-at t) pack-walk.Post pack-walk-Inv-loop pack-walk-μ-loop
 pack-walk-returns-4 t c =
     let e = c .before .before .before .before .before .before .before in
     let a = e .before .before .before in
-    no-location (pack-here t a) (e .before .is-seen .ensures) (e .if1 .left) (c .before .before .before .before .before .item-walk .ensures) (c .before .before .before .w .given .1) (either-is (a .before .before .before .before .before .before .before .args .alone) _ (c .before .either .ensures)) (c .if2 .left) refl
+    no-location (pack-here t a) (e .before .is-seen .ensures) (e .if1 .left) (c .before .before .before .before .before .item-walk .ensures) (c .before .before .before .w .given .1) (either-is (a .before .before .before .before .before .before .before .before .args .alone) _ (c .before .either .ensures)) (c .if2 .left) refl
 
 pack-walk-returns-5 : (t : ℕ) → pack-walk-lts.Need-returns-5 (pack-claims t) (pack-walk-at t) pack-walk.Post pack-walk-Inv-loop pack-walk-μ-loop
 pack-walk-returns-5 t c = turn-done (c .before .loop .inv) (c .loop-test .left)
@@ -396,6 +392,6 @@ pub +item-walk+pack-walk-spec : {M : Type 1} → statement M
     (pack-walk-add-from t) (pack-walk-add-from-2 t) (pack-walk-add-next t) (pack-walk-add-next-2 t)
     (pack-walk-sub-item-walk t) (pack-walk-part-item-walk-start t) (pack-walk-part-item-walk-end t) (pack-walk-item-walk-requires t)
     (pack-walk-enum-known-w t) (pack-walk-enum-told-2 t) (pack-walk-later-requires t) (pack-walk-returns-3 t)
-    (pack-walk-either-requires t) (pack-walk-add-t28 t) (pack-walk-add-t29 t) (pack-walk-plus-requires t)
+    (pack-walk-either-requires t) (pack-walk-pack-sizes-requires t) (pack-walk-plus-requires t)
     (pack-walk-larger-requires t) (pack-walk-smaller-requires t) (pack-walk-loop-less t) (pack-walk-loop-again t)
     (pack-walk-returns-4 t) (pack-walk-returns-5 t))

@@ -1,0 +1,56 @@
+-- `records::target_next` meets its contract, by the bytes that are there.
+use mathlib.Core.Bool.{false}
+use native.Mathlib.Omega.{arith}
+use borrow.Author.Needs.{needs}
+use Rattle.heads.proofs.Spans.{target-cut, target-whole, span-within}
+use Rattle.heads.proofs.records.target_next.Statement.{statement}
+use Rattle.heads.proofs.records.target_next.Tie as tie
+
+returns : tie.Need-returns
+returns c = target-cut _ (omega arith)
+
+sub-number-of : tie.Need-sub-number-of
+sub-number-of c = search needs
+
+part-number-of-start : tie.Need-part-number-of-start
+part-number-of-start c = search needs
+
+part-number-of-end : tie.Need-part-number-of-end
+part-number-of-end c = search needs
+
+number-of-requires : tie.Need-number-of-requires
+number-of-requires c κs = search needs
+
+sub-span-of : tie.Need-sub-span-of
+sub-span-of c = search needs
+
+part-span-of-start : tie.Need-part-span-of-start
+part-span-of-start c = search needs
+
+part-span-of-end : tie.Need-part-span-of-end
+part-span-of-end c = search needs
+
+span-of-requires : tie.Need-span-of-requires
+span-of-requires c κs = search needs
+
+add-t4 : tie.Need-add-t4
+add-t4 c = omega (arith, span-within (c .before .before .before .before .before .before .args .s .now) _ 10 false (c .span-of .ensures) (omega arith))
+
+returns-2 : tie.Need-returns-2
+returns-2 c = target-whole _ _ _ (c .before .before .number-of .ensures) (c .span-of .ensures) (omega arith)
+
+pub target-next-spec : {M : Type 1} → statement M
+target-next-spec =
+    tie.close
+    (tie.spec
+    returns
+    sub-number-of
+    part-number-of-start
+    part-number-of-end
+    number-of-requires
+    sub-span-of
+    part-span-of-start
+    part-span-of-end
+    span-of-requires
+    add-t4
+    returns-2)

@@ -1,0 +1,12 @@
+-- `items::table` meets its contract: the rows are those of `itemTable`.
+use mathlib.Core.Path.{refl}
+use Rattle.items.specs.Meet.{itemTable}
+use Rattle.items.proofs.table.Statement.{statement}
+use Rattle.items.proofs.table.Tie as tie
+
+returns : tie.Need-returns
+unfolding itemTable
+returns c = refl
+
+pub table-spec : {M : Type 1} → statement M
+table-spec = tie.close (tie.spec returns)

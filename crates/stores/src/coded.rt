@@ -1,0 +1,67 @@
+// Storing what is coded: a length, a tag or an id, and an item under its shortest length.
+ghost use mathlib.Core.Path.{_≡_};
+ghost use Prim.Native.Nat.{_+_, _%_, _^_, _≤_, _<_};
+ghost use lib.ListN.{length};
+ghost use lib.Seq.{sets};
+ghost use Rattle.format.specs.Coding.{lenWidth, lenBytes, oidBytes};
+ghost use Rattle.format.specs.Packet.{flatItem};
+ghost use Rattle.format.specs.Calls.{itemOf};
+
+// The shortest length n; where it ends.
+pub fn put_len(out: &mut [u8], at: usize, n: usize) -> usize
+    requires { ⌜ (n < 2 ^ 32) × (at + lenWidth n ≤ length (now out)) ⌝ }
+    ensures { λ r. ⌜ (r ≡ at + lenWidth n) × (now (out .exit) ≡ sets (now (out .entry)) at (lenBytes (lenWidth n) n)) ⌝ }
+{
+    if n < 128 {
+        out[at] = n as u8;
+        return at + 1;
+    }
+    let k = coding::widths::len_width(n) - 1;
+    out[at] = (128 + k) as u8;
+    super::put_number(out, at + 1, n as u64, k)
+}
+
+// The seven low bits, as the last byte has them.
+fn low7(n: u64) -> u8
+    ensures { λ r. ⌜ r ≡ n % 128 ⌝ }
+{
+    (n & 127) as u8
+}
+
+// The same with the high bit, as every byte before the last has them.
+fn marked7(n: u64) -> u8
+    ensures { λ r. ⌜ r ≡ n % 128 + 128 ⌝ }
+{
+    low7(n) | 128
+}
+
+// The tag or id n, from its last byte to its first; where it ends. Most have one byte.
+pub fn put_oid(out: &mut [u8], at: usize, n: u64) -> usize
+    requires { ⌜ (n < 2 ^ 63) × (at + length (oidBytes n) ≤ length (now out)) ⌝ }
+    ensures { λ r. ⌜ (r ≡ at + length (oidBytes n)) × (now (out .exit) ≡ sets (now (out .entry)) at (oidBytes n)) ⌝ }
+{
+    if n < 128 {
+        out[at] = n as u8;
+        return at + 1;
+    }
+    let k = coding::widths::oid_width(n);
+    let mut i = k - 1;
+    out[at + i] = low7(n);
+    let mut m = coding::widths::above7(n);
+    while 0 < i {
+        i -= 1;
+        out[at + i] = marked7(m);
+        m = coding::widths::above7(m);
+    }
+    at + k
+}
+
+// An item under its shortest length; where it ends.
+pub fn put_short(out: &mut [u8], at: usize, tag: u64, v: &[u8]) -> usize
+    requires { ⌜ (tag ≤ 16383) × (length (now v) ≤ 65536) × (at + length (flatItem (itemOf (record { tag = tag; value = now v }))) ≤ length (now out)) ⌝ }
+    ensures { λ r. ⌜ (r ≡ at + length (flatItem (itemOf (record { tag = tag; value = now (v .entry) })))) × (now (out .exit) ≡ sets (now (out .entry)) at (flatItem (itemOf (record { tag = tag; value = now (v .entry) })))) ⌝ }
+{
+    let a = put_oid(out, at, tag);
+    let b = put_len(out, a, v.len());
+    super::copy(out, b, v)
+}

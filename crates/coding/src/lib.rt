@@ -129,6 +129,13 @@ pub fn id_of(s: &[u8]) -> Num
 
 const KEY: [u8; 16] = [6, 14, 43, 52, 2, 11, 1, 1, 14, 1, 3, 3, 6, 0, 0, 0];
 
+// The key, to lend to what stores it.
+pub fn key() -> [u8; 16]
+    ensures { λ r. ⌜ r ≡ theKey ⌝ }
+{
+    KEY
+}
+
 // Whether the key opens s.
 pub fn has_key(s: &[u8]) -> bool
     ensures { λ r. ⌜ r ≡ same (take 16 (now (s .entry))) theKey ⌝ }

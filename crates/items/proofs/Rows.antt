@@ -1,7 +1,7 @@
 -- The code's table is document 01's, by one computed test for each level.
 use mathlib.Core.Path.{_≡_, refl, sym, ap, _∙_}
-use Prim.Native.Nat.{ℕ, zero, suc, _+_, _*_, _≤_, _<_}
-use native.Mathlib.Nat.{add-zero, add-assoc}
+use Prim.Native.Nat.{ℕ, zero, suc, _+_, _≤_, _<_}
+use native.Mathlib.Nat.{add-zero}
 use native.Mathlib.Omega.{arith}
 use mathlib.Core.Bool.{Bool, true, false, _&&_}
 use mathlib.Core.List.{List, [], _∷_}
@@ -16,20 +16,15 @@ use Rattle.items.specs.Meet.{rowFrom, itemTable}
 -- of n rows each is the rule of its place, counted from k
 abbrev Rows : Level → ℕ → ℕ → List ℕ → Type 0
 Rows l k zero t = Unit {0}
-Rows l k (suc n) t = (rowFrom t 0 ≡ ruleOf l k) × Rows l (suc k) n (drop 4 t)
+Rows l k (suc n) t = (rowFrom (getD t 0 0) ≡ ruleOf l k) × Rows l (suc k) n (drop 1 t)
 
-row-next : (n : ℕ) (t : List ℕ) (i : ℕ) → rowFrom (drop n t) i ≡ rowFrom t (n + i)
-row-next n t i =
-    let at : (k : ℕ) → getD (drop n t) (i + k) 0 ≡ getD t (n + i + k) 0 = λ k. getD-drop n t (i + k) 0 ∙ ap (λ m. getD t m 0) (sym (add-assoc n i k)) in
-    rw (at 1, at 2, at 3)
-
-rows-at : (l : Level) (k n i : ℕ) (t : List ℕ) → Rows l k n t → i < n → rowFrom t (4 * i) ≡ ruleOf l (k + i)
+rows-at : (l : Level) (k n i : ℕ) (t : List ℕ) → Rows l k n t → i < n → rowFrom (getD t i 0) ≡ ruleOf l (k + i)
 rows-at l k zero i t h g = absurd (omega arith)
 rows-at l k (suc n) zero t h g = rw add-zero (h .0)
 rows-at l k (suc n) (suc i) t h g =
-    let e : 4 * suc i ≡ 4 + 4 * i = omega arith in
+    let e : suc i ≡ 1 + i = omega arith in
     let f : suc k + i ≡ k + suc i = omega arith in
-    ap (rowFrom t) e ∙ sym (row-next 4 t (4 * i)) ∙ rows-at l (suc k) n i (drop 4 t) (h .1) (omega arith) ∙ ap (ruleOf l) f
+    ap (λ j. rowFrom (getD t j 0)) e ∙ sym (ap rowFrom (getD-drop 1 t i 0)) ∙ rows-at l (suc k) n i (drop 1 t) (h .1) (omega arith) ∙ ap (ruleOf l) f
 
 -- a tag above all that are listed
 abbrev below : ℕ → List (ℕ × Rule) → Bool
@@ -47,16 +42,16 @@ find-none n tag (e ∷ es) h g =
 zero-plus : (n : ℕ) → 0 + n ≡ n
 zero-plus n = omega arith
 
-pub set-row : (tag : ℕ) → tag < 13 → rowFrom itemTable (4 * tag) ≡ ruleOf set tag
+pub set-row : (tag : ℕ) → tag < 13 → rowFrom (getD itemTable tag 0) ≡ ruleOf set tag
 set-row tag h = rw zero-plus at (rows-at set 0 13 tag itemTable rows h)
   where
     rows : Rows set 0 13 itemTable
     rows = unfold itemTable ruleOf rules find in (refl, (refl, (refl, (refl, (refl, (refl, (refl, (refl, (refl, (refl, (refl, (refl, (refl, tt)))))))))))))
 
-pub pack-row : (tag : ℕ) → tag < 24 → rowFrom itemTable (52 + 4 * tag) ≡ ruleOf pack tag
-pack-row tag h = rw (zero-plus, row-next) at (rows-at pack 0 24 tag (drop 52 itemTable) rows h)
+pub pack-row : (tag : ℕ) → tag < 24 → rowFrom (getD itemTable (13 + tag) 0) ≡ ruleOf pack tag
+pack-row tag h = rw (zero-plus, getD-drop) at (rows-at pack 0 24 tag (drop 13 itemTable) rows h)
   where
-    rows : Rows pack 0 24 (drop 52 itemTable)
+    rows : Rows pack 0 24 (drop 13 itemTable)
     rows = unfold itemTable ruleOf rules find in
         (refl, (refl, (refl, (refl, (refl, (refl, (refl, (refl, (refl, (refl, (refl, (refl, (refl, (refl, (refl, (refl, (refl, (refl, (refl, (refl, (refl, (refl, (refl, (refl, tt))))))))))))))))))))))))
 
@@ -68,6 +63,6 @@ pub pack-over : (tag : ℕ) → 24 ≤ tag → unlisted ≡ ruleOf pack tag
 unfolding ruleOf rules
 pack-over tag h = find-none 24 tag (rules pack) refl h
 
-pub table-long : (t : List ℕ) → t ≡ itemTable → length t ≡ 148
+pub table-long : (t : List ℕ) → t ≡ itemTable → length t ≡ 37
 unfolding itemTable
 table-long t e = ap length e

@@ -1,8 +1,8 @@
 -- Where the code of items meets document 01: what its numbers and rows mean.
-use Prim.Native.Nat.{ℕ, zero, suc, _+_}
+use Prim.Native.Nat.{ℕ, zero, suc, _+_, _*_, _/_, _%_}
 use mathlib.Core.Bool.{Bool, true, false}
 use mathlib.Core.List.{List, [], _∷_}
-use lib.ListN.{length, getD}
+use lib.ListN.{length}
 use Rattle.format.specs.Answer.{Ans, ok, refused}
 use Rattle.format.specs.Table.{Form, embedded, standalone, Level, set, pack, bytes, num, pixel, upTo, Rule, unlisted, ruleOf, short}
 use Rattle.items.specs.declared.Rule as declared
@@ -26,17 +26,21 @@ rowRule (suc (suc (suc (suc k)))) a b = record { kind = bytes; least = a; most =
 abbrev pub ruleFrom : declared.Rule → Rule
 ruleFrom r = rowRule (r .1) (r .2) (r .3)
 
--- the row at i of a table of rows, and the code's table: the rows of the set, then those of a pack, each at its tag
-abbrev pub rowFrom : List ℕ → ℕ → Rule
-rowFrom t i = rowRule (getD t (i + 1) 0) (getD t (i + 2) 0) (getD t (i + 3) 0)
+-- a row as one number: tag, kind, least and greatest length; and the rule that it stands for
+abbrev pub row : ℕ → ℕ → ℕ → ℕ → ℕ
+row t k a b = t * 16777216 + k * 65536 + a * 256 + b
 
+abbrev pub rowFrom : ℕ → Rule
+rowFrom r = rowRule (r / 65536 % 256) (r / 256 % 256) (r % 256)
+
+-- the code's table: the rows of the set, then those of a pack, each at its tag
 unfoldable pub itemTable : List ℕ
 itemTable =
-    0 ∷ 0 ∷ 1 ∷ 0 ∷ 1 ∷ 1 ∷ 2 ∷ 2 ∷ 2 ∷ 1 ∷ 8 ∷ 8 ∷ 3 ∷ 1 ∷ 1 ∷ 32 ∷ 4 ∷ 2 ∷ 1 ∷ 2 ∷ 5 ∷ 2 ∷ 1 ∷ 3 ∷ 6 ∷ 2 ∷ 1 ∷ 3 ∷ 7 ∷ 0 ∷ 1 ∷ 0
-    ∷ 8 ∷ 2 ∷ 1 ∷ 3 ∷ 9 ∷ 2 ∷ 1 ∷ 3 ∷ 10 ∷ 1 ∷ 1 ∷ 128 ∷ 11 ∷ 1 ∷ 2 ∷ 2 ∷ 12 ∷ 1 ∷ 2 ∷ 2
-    ∷ 0 ∷ 0 ∷ 1 ∷ 0 ∷ 1 ∷ 3 ∷ 1 ∷ 6 ∷ 2 ∷ 3 ∷ 1 ∷ 6 ∷ 3 ∷ 3 ∷ 1 ∷ 6 ∷ 4 ∷ 1 ∷ 1 ∷ 1 ∷ 5 ∷ 1 ∷ 1 ∷ 1 ∷ 6 ∷ 2 ∷ 1 ∷ 2 ∷ 7 ∷ 1 ∷ 1 ∷ 1
-    ∷ 8 ∷ 1 ∷ 3 ∷ 3 ∷ 9 ∷ 2 ∷ 1 ∷ 3 ∷ 10 ∷ 1 ∷ 3 ∷ 3 ∷ 11 ∷ 1 ∷ 3 ∷ 3 ∷ 12 ∷ 1 ∷ 2 ∷ 2 ∷ 13 ∷ 1 ∷ 3 ∷ 3 ∷ 14 ∷ 1 ∷ 3 ∷ 3 ∷ 15 ∷ 1 ∷ 3 ∷ 3
-    ∷ 16 ∷ 1 ∷ 3 ∷ 3 ∷ 17 ∷ 4 ∷ 10 ∷ 22 ∷ 18 ∷ 0 ∷ 1 ∷ 0 ∷ 19 ∷ 3 ∷ 1 ∷ 4 ∷ 20 ∷ 3 ∷ 1 ∷ 4 ∷ 21 ∷ 0 ∷ 1 ∷ 0 ∷ 22 ∷ 2 ∷ 1 ∷ 3 ∷ 23 ∷ 1 ∷ 1 ∷ 1 ∷ []
+    row 0 0 1 0 ∷ row 1 1 2 2 ∷ row 2 1 8 8 ∷ row 3 1 1 32 ∷ row 4 2 1 2 ∷ row 5 2 1 3 ∷ row 6 2 1 3 ∷ row 7 0 1 0 ∷ row 8 2 1 3 ∷
+    row 9 2 1 3 ∷ row 10 1 1 128 ∷ row 11 1 2 2 ∷ row 12 1 2 2 ∷
+    row 0 0 1 0 ∷ row 1 3 1 6 ∷ row 2 3 1 6 ∷ row 3 3 1 6 ∷ row 4 1 1 1 ∷ row 5 1 1 1 ∷ row 6 2 1 2 ∷ row 7 1 1 1 ∷ row 8 1 3 3 ∷
+    row 9 2 1 3 ∷ row 10 1 3 3 ∷ row 11 1 3 3 ∷ row 12 1 2 2 ∷ row 13 1 3 3 ∷ row 14 1 3 3 ∷ row 15 1 3 3 ∷ row 16 1 3 3 ∷
+    row 17 4 10 22 ∷ row 18 0 1 0 ∷ row 19 3 1 4 ∷ row 20 3 1 4 ∷ row 21 0 1 0 ∷ row 22 2 1 3 ∷ row 23 1 1 1 ∷ []
 
 -- the number of a refusal, 0 for none
 abbrev pub answerOf : ℕ → Ans (Unit {0})

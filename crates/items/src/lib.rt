@@ -1,197 +1,90 @@
 // The constant item table, and the rules for one item: of a set or a pack, in a packet, a sheet or an edit.
 ghost use mathlib.Core.Path.{_≡_};
-ghost use Prim.Native.Nat.{ℕ, _+_, _-_, _≤_, _<_, _^_};
+ghost use Prim.Native.Nat.{ℕ, _+_, _-_, _/_, _%_, _≤_, _<_, _^_};
 ghost use mathlib.Core.Bool.{_&&_, _||_, not, false, true};
 ghost use mathlib.Core.List.{List};
 ghost use lib.ListN.{length};
 ghost use lib.Dec.{eqb};
 ghost use Rattle.format.specs.Lists.{has, none?};
 ghost use Rattle.format.specs.Table.{isAlone, isSet, ruleOf, nameable, mayStand, mayBegin, standing, sized, valued, short};
-ghost use Rattle.items.specs.Meet.{formOf, levelOf, ruleFrom, rowFrom, itemTable, answerOf, zeros, offsets, shortSize};
+ghost use Rattle.items.specs.Meet.{formOf, levelOf, rowRule, ruleFrom, itemTable, answerOf, zeros, offsets, shortSize};
 
-// A row of the table: tag, kind, least and greatest length. Kinds: 0 not listed (one or more bytes), 1 bytes, 2 a number, 3 a pixel,
+// A row of the item table: tag, kind, least and greatest length. Kinds: 0 not listed (one or more bytes), 1 bytes, 2 a number, 3 a pixel,
 // 4 a location (10, 16 or 22 bytes).
-pub struct Rule(pub u8, pub u8, pub u8, pub u8);
+pub struct Rule(pub u64, pub u64, pub u64, pub u64);
 
 // The rows of the set, then those of a pack, each at its tag.
-const ITEMS: [u8; 148] = [
-    0,
-    0,
-    1,
-    0, // of the set
-    1,
-    1,
-    2,
-    2, //
-    2,
-    1,
-    8,
-    8, //
-    3,
-    1,
-    1,
-    32, //
-    4,
-    2,
-    1,
-    2, //
-    5,
-    2,
-    1,
-    3, //
-    6,
-    2,
-    1,
-    3, //
-    7,
-    0,
-    1,
-    0, //
-    8,
-    2,
-    1,
-    3, //
-    9,
-    2,
-    1,
-    3, //
-    10,
-    1,
-    1,
-    128, //
-    11,
-    1,
-    2,
-    2, //
-    12,
-    1,
-    2,
-    2, //
-    0,
-    0,
-    1,
-    0, // of a pack
-    1,
-    3,
-    1,
-    6, //
-    2,
-    3,
-    1,
-    6, //
-    3,
-    3,
-    1,
-    6, //
-    4,
-    1,
-    1,
-    1, //
-    5,
-    1,
-    1,
-    1, //
-    6,
-    2,
-    1,
-    2, //
-    7,
-    1,
-    1,
-    1, //
-    8,
-    1,
-    3,
-    3, //
-    9,
-    2,
-    1,
-    3, //
-    10,
-    1,
-    3,
-    3, //
-    11,
-    1,
-    3,
-    3, //
-    12,
-    1,
-    2,
-    2, //
-    13,
-    1,
-    3,
-    3, //
-    14,
-    1,
-    3,
-    3, //
-    15,
-    1,
-    3,
-    3, //
-    16,
-    1,
-    3,
-    3, //
-    17,
-    4,
-    10,
-    22, //
-    18,
-    0,
-    1,
-    0, //
-    19,
-    3,
-    1,
-    4, //
-    20,
-    3,
-    1,
-    4, //
-    21,
-    0,
-    1,
-    0, //
-    22,
-    2,
-    1,
-    3, //
-    23,
-    1,
-    1,
-    1, //
+const ITEMS: [u64; 37] = [
+    0 << 24 | 0 << 16 | 1 << 8 | 0,
+    1 << 24 | 1 << 16 | 2 << 8 | 2,
+    2 << 24 | 1 << 16 | 8 << 8 | 8,
+    3 << 24 | 1 << 16 | 1 << 8 | 32,
+    4 << 24 | 2 << 16 | 1 << 8 | 2,
+    5 << 24 | 2 << 16 | 1 << 8 | 3,
+    6 << 24 | 2 << 16 | 1 << 8 | 3,
+    7 << 24 | 0 << 16 | 1 << 8 | 0,
+    8 << 24 | 2 << 16 | 1 << 8 | 3,
+    9 << 24 | 2 << 16 | 1 << 8 | 3,
+    10 << 24 | 1 << 16 | 1 << 8 | 128,
+    11 << 24 | 1 << 16 | 2 << 8 | 2,
+    12 << 24 | 1 << 16 | 2 << 8 | 2,
+    0 << 24 | 0 << 16 | 1 << 8 | 0,
+    1 << 24 | 3 << 16 | 1 << 8 | 6,
+    2 << 24 | 3 << 16 | 1 << 8 | 6,
+    3 << 24 | 3 << 16 | 1 << 8 | 6,
+    4 << 24 | 1 << 16 | 1 << 8 | 1,
+    5 << 24 | 1 << 16 | 1 << 8 | 1,
+    6 << 24 | 2 << 16 | 1 << 8 | 2,
+    7 << 24 | 1 << 16 | 1 << 8 | 1,
+    8 << 24 | 1 << 16 | 3 << 8 | 3,
+    9 << 24 | 2 << 16 | 1 << 8 | 3,
+    10 << 24 | 1 << 16 | 3 << 8 | 3,
+    11 << 24 | 1 << 16 | 3 << 8 | 3,
+    12 << 24 | 1 << 16 | 2 << 8 | 2,
+    13 << 24 | 1 << 16 | 3 << 8 | 3,
+    14 << 24 | 1 << 16 | 3 << 8 | 3,
+    15 << 24 | 1 << 16 | 3 << 8 | 3,
+    16 << 24 | 1 << 16 | 3 << 8 | 3,
+    17 << 24 | 4 << 16 | 10 << 8 | 22,
+    18 << 24 | 0 << 16 | 1 << 8 | 0,
+    19 << 24 | 3 << 16 | 1 << 8 | 4,
+    20 << 24 | 3 << 16 | 1 << 8 | 4,
+    21 << 24 | 0 << 16 | 1 << 8 | 0,
+    22 << 24 | 2 << 16 | 1 << 8 | 3,
+    23 << 24 | 1 << 16 | 1 << 8 | 1,
 ];
 
 // A constant array is laid out anew wherever it is named, so a call asks for it once and lends it to all that it calls.
-pub fn table() -> [u8; 148]
+pub fn table() -> [u64; 37]
     ensures { λ r. ⌜ r ≡ itemTable ⌝ }
 {
     ITEMS
 }
 
-// The row that begins at i.
-fn row_at(table: &[u8], i: usize) -> Rule
-    requires { ⌜ i + 4 ≤ length (now table) ⌝ }
-    ensures { λ r. ⌜ ruleFrom r ≡ rowFrom (now (table .entry)) i ⌝ }
+// A row taken apart.
+fn rule_from(row: u64) -> Rule
+    ensures { λ r. ⌜ ruleFrom r ≡ rowRule (row / 65536 % 256) (row / 256 % 256) (row % 256) ⌝ }
 {
-    Rule(table[i], table[i + 1], table[i + 2], table[i + 3])
+    Rule(
+        row / 16777216,
+        row / 65536 % 256,
+        row / 256 % 256,
+        row % 256,
+    )
 }
 
 // The rule of a tag, for the set or for a pack.
-pub fn rule_of(table: &[u8], set: bool, tag: u64) -> Rule
+pub fn rule_of(table: &[u64], set: bool, tag: u64) -> Rule
     requires { ⌜ now table ≡ itemTable ⌝ }
     ensures { λ r. ⌜ ruleFrom r ≡ ruleOf (levelOf set) tag ⌝ }
 {
     if set {
         if tag < 13 {
-            return row_at(table, 4 * (tag as usize));
+            return rule_from(table[tag as usize]);
         }
     } else {
         if tag < 24 {
-            return row_at(table, 52 + 4 * (tag as usize));
+            return rule_from(table[13 + (tag as usize)]);
         }
     }
     Rule(0, 0, 1, 0)

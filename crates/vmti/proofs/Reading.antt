@@ -6,7 +6,6 @@ use mathlib.Core.Bool.{Bool, true, false}
 use mathlib.Core.List.{List, [], _∷_, _++_}
 use lib.ListN.{length, take, drop, length-append}
 use lib.Seq.{sets, length-sets}
-use borrow.Author.Tests.{le-leb, lt-leb}
 use borrow.Rule.Slice.PartMut.{putMid}
 use Rattle.format.specs.Answer.{ok}
 use Rattle.format.specs.Coding.{Bytes, fixed}
@@ -23,22 +22,13 @@ use Rattle.walks.specs.declared.Checked.{Checked}
 use Rattle.walks.specs.declared.Checked.the-variants.{Fine, Wrong}
 use Rattle.walks.specs.Meet.{checkedOf}
 use Rattle.walks.proofs.Parsed.{wrong-parsed}
-use Rattle.stores.proofs.Stores.{sets-append, sets-start, tail-length, tail-stored}
+use Rattle.stores.proofs.Stores.{sets-append, tail-length, tail-stored}
 use Rattle.sheets.specs.Meet.{levelSheet}
 use Rattle.sheets.proofs.Packet.{sheet-whole}
+use Rattle.vmti.proofs.Leaving.{left-refused, left-short, left-whole}
 use Rattle.vmti.proofs.Opened.{fine, opened, lentSet, lent-is}
 use Rattle.vmti.specs.declared.Answer.{Answer}
 use Rattle.vmti.specs.Meet.{leftOf, answerOf, refusalOf}
-
--- ---- what is left behind
-
-leaves-short : (lent b : List ℕ) → length lent < length b → leftOf (answerOf 16 (length b)) lent ≡ leaves lent (ok b)
-unfolding leaves
-leaves-short lent b h = rw (lt-leb (length b) (length lent) h, leaves)
-
-leaves-whole : (lent b : List ℕ) → length b ≤ length lent → leftOf (answerOf 0 (length b)) (sets lent 0 b) ≡ leaves lent (ok b)
-unfolding leaves
-leaves-whole lent b h = rw (le-leb (length b) (length lent) h, leaves, sets-start lent b h)
 
 -- the head of a sheet, as one number in three bytes
 pub head-bytes : (alone : Bool) {h : ℕ} → h ≡ 5262080 + formByte (formOf alone) → fixed 3 h ≡ 0x50 ∷ 0x4B ∷ formByte (formOf alone) ∷ []
@@ -50,9 +40,8 @@ head-bytes false e = rw e
 
 module _ (f : Form) (s lent : List ℕ) {c : Checked} (ec : c ≡ checkedOf (parse f s)) where
   pub read-refused : {n k : ℕ} {r : Answer} → c ≡ Wrong n k → r ≡ refusalOf c → leftOf r lent ≡ leaves lent (read f s)
-  unfolding read leaves
-  read-refused {n = n} {k = k} t e =
-      ap (λ x. leftOf x lent) (e ∙ ap refusalOf t) ∙ ap (leaves lent) (sym (bind-not (parse f s) _ n k (wrong-parsed f s n k (sym t ∙ ec))))
+  unfolding read
+  read-refused {n = n} {k = k} t e = left-refused lent (bind-not (parse f s) _ n k (wrong-parsed f s n k (sym t ∙ ec))) (e ∙ ap refusalOf t)
 
   module _ (b : Bytes s) {a : Sizes} (t : c ≡ Fine a) where
     abbrev sheet : List ℕ
@@ -66,8 +55,7 @@ module _ (f : Form) (s lent : List ℕ) {c : Checked} (ec : c ≡ checkedOf (par
     read-is = bind-so (parse f s) _ (fine f s ec b t .0) (fine f s ec b t .1)
 
     pub read-short : length lent < a .sheet → {r : Answer} → r ≡ answerOf 16 (a .sheet) → leftOf r lent ≡ leaves lent (read f s)
-    read-short h er =
-        ap (λ r. leftOf r lent) (er ∙ ap (answerOf 16) (sym size-is)) ∙ leaves-short lent sheet (omega (arith, size-is)) ∙ ap (leaves lent) (sym read-is)
+    read-short h er = left-short lent read-is size-is h er
 
     module _ {k : ℕ} (ek : (w : ℕ) → opening f s ≡ ok w → k ≡ start f w) (h : ℕ) (eh : fixed 3 h ≡ 0x50 ∷ 0x4B ∷ formByte f ∷ []) (room : a .sheet ≤ length lent) where
       abbrev parts : List ℕ
@@ -94,7 +82,4 @@ module _ (f : Form) (s lent : List ℕ) {c : Checked} (ec : c ≡ checkedOf (par
       read-done {out = out} eo {e = e} ee {r = r} er =
           let stored : putMid 3 (length out - 3) out e ≡ sets lent 0 sheet
           = tail-stored out 3 e parts ee ∙ rw (eo, sheet-is, sets-append lent 0 (fixed 3 h) parts, length-fixed 3 h) in
-          ap (leftOf r) stored
-          ∙ ap (λ r. leftOf r (sets lent 0 sheet)) (er ∙ ap (answerOf 0) (sym size-is))
-          ∙ leaves-whole lent sheet (omega (arith, size-is))
-          ∙ ap (leaves lent) (sym read-is)
+          left-whole lent read-is size-is room stored er

@@ -25,7 +25,7 @@ pub enum Piece {
 
 // The item at p of a level s; no tag before p is above top or below low.
 pub fn item_at(
-    table: &[u8],
+    table: &[u64],
     s: &[u8],
     p: usize,
     set: bool,
@@ -257,7 +257,7 @@ pub fn series_of(w: Walked, k: usize) -> Walked
 }
 
 // The items of a level: the set, or a pack.
-pub fn item_walk(table: &[u8], s: &[u8], set: bool, alone: bool) -> Walked
+pub fn item_walk(table: &[u64], s: &[u8], set: bool, alone: bool) -> Walked
     requires { ⌜ (now table ≡ itemTable) × (length (now s) ≤ 8192) ⌝ }
     ensures { λ r. ⌜ (r ≡ levelWalk (levelOf set) (formOf alone) (now (s .entry))) × Within r (length (now (s .entry))) ⌝ }
 {
@@ -302,7 +302,7 @@ pub fn item_walk(table: &[u8], s: &[u8], set: bool, alone: bool) -> Walked
 }
 
 // The packs of a series.
-pub fn pack_walk(table: &[u8], s: &[u8], alone: bool) -> Walked
+pub fn pack_walk(table: &[u64], s: &[u8], alone: bool) -> Walked
     requires { ⌜ (now table ≡ itemTable) × (length (now s) ≤ 8192) ⌝ }
     ensures { λ r. ⌜ (r ≡ seriesWalk (formOf alone) (now (s .entry))) × Within r (length (now (s .entry))) ⌝ }
 {

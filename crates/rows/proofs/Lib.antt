@@ -1,5 +1,4 @@
 pub mod Numbers
-pub mod Tails
 pub mod LevelTurns
 pub mod SeriesTurns
 pub mod Packet

@@ -77,3 +77,8 @@ packs-emit = record {
   none = λ σ. refl;
   more = λ σ p ps. ap (λ ns. σ .0 ∷ 0 ∷ (σ .1 + p .width) ∷ length (packBody p) ∷ ns) (numbers-append (itemRows (σ .0) (σ .1 + p .width + length (oidBytes (p .id))) (p .items)) _);
 }
+
+-- ---- two rows that are the same, and what follows them
+
+pub same-row : {a b b′ c c′ d d′ : ℕ} {ns ns′ : List ℕ} → b ≡ b′ → c ≡ c′ → d ≡ d′ → ns ≡ ns′ → a ∷ b ∷ c ∷ d ∷ ns ≡ a ∷ b′ ∷ c′ ∷ d′ ∷ ns′
+same-row eb ec ed en = rw (eb, ec, ed, en)

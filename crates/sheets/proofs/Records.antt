@@ -1,21 +1,18 @@
--- The sheet's records, as they are stored one field after another; and the shortest form of a value, which is a tail of it.
+-- The sheet's records, as they are stored one field after another.
 use mathlib.Core.Path.{_≡_, refl, sym, ap, _∙_}
-use Prim.Native.Nat.{ℕ, suc, _+_, _-_, _*_, _≤_}
+use Prim.Native.Nat.{ℕ, _+_, _*_, _≤_}
 use native.Mathlib.Omega.{arith}
-use mathlib.Core.Bool.{Bool, true, false, not, _&&_}
+use mathlib.Core.Bool.{Bool, true, false}
 use mathlib.Core.List.{List, [], _∷_, _++_}
-use lib.Dec.{eqb}
-use borrow.Author.Tests.{ne-eqb}
-use lib.ListN.{length, take, drop, length-append, length-drop}
+use lib.ListN.{length, length-append}
 use lib.Seq.{sets}
 use Rattle.format.specs.Coding.{fixed}
-use Rattle.format.specs.Lists.{none?}
-use Rattle.format.specs.Table.{Level, Rule, isSet, isNumber, ruleOf, strip, short}
+use Rattle.format.specs.Table.{Level, Rule, ruleOf, short}
 use Rattle.format.specs.Sheet.{valBytes, markOf, TG}
 use Rattle.format.proofs.coding.Digits.{length-fixed}
-use Rattle.coding.proofs.Rooms.{tail-part}
 use Rattle.items.specs.Meet.{levelOf}
 use Rattle.stores.proofs.Puts.{Puts, puts-then, puts-fixed}
+use Rattle.stores.proofs.Shortest.{lastOf, last-is, NoSeal}
 use Rattle.sheets.specs.Meet.{itemSheet}
 
 -- ---- an item
@@ -54,39 +51,6 @@ target-stored id o a {o₁ = o₁} {a₁ = a₁} p q =
     let whole = puts-then o a (fixed 2 21575) (fixed 8 id) (puts-fixed o a 2 21575 p) (puts-fixed o₁ a₁ 8 id q) in
     (omega (arith, p .0, q .0), rw target-mark at (whole .1))
 
--- ---- the shortest form of a value
-
--- a is what v ends with
-abbrev Tail : List ℕ → List ℕ → Type 0
-Tail v a = (k : ℕ) × (k ≤ length v) × (a ≡ drop k v)
-
-tail-of : (c : Bool) (v a b : List ℕ) → Tail v a → Tail v b → Tail v (elim c [ true ↦ a | false ↦ b ])
-tail-of true v a b p q = p
-tail-of false v a b p q = q
-
-whole-tail : (v : List ℕ) → Tail v v
-whole-tail v = (0, omega arith, refl)
-
-strip-tail : (v : List ℕ) → Tail v (strip v)
-unfolding strip
-strip-tail [] = whole-tail []
-strip-tail (x ∷ s) =
-    let (k, l, e) = strip-tail s in
-    tail-of (eqb x 0 && not (none? s)) (x ∷ s) (strip s) (x ∷ s) (suc k, omega arith, e) (whole-tail (x ∷ s))
-
-short-tail : (r : Rule) (v : List ℕ) → Tail v (short r v)
-unfolding short
-short-tail r v = tail-of (isNumber (r .kind)) v (strip v) v (strip-tail v) (whole-tail v)
-
-pub short-less : (r : Rule) (v : List ℕ) {n : ℕ} → n ≡ length (short r v) → n ≤ length v
-short-less r v h = let (k, l, e) = short-tail r v in omega (arith, ap length e, length-drop k v)
-
-short-is : (r : Rule) (v : List ℕ) → drop (length v - length (short r v)) v ≡ short r v
-short-is r v =
-    let (k, l, e) = short-tail r v in
-    let j : length v - length (short r v) ≡ k = omega (arith, l, ap length e, length-drop k v) in
-    ap (λ n. drop n v) j ∙ sym e
-
 -- ---- an item of a packet
 
 -- the set's checksum has no record
@@ -94,31 +58,14 @@ pub seal-stored : {b : Bool} {tag : ℕ} (v o : List ℕ) (a : ℕ) → b ≡ tr
 unfolding itemSheet
 seal-stored v o a eb et = rw (eb, et) (omega arith, refl)
 
-abbrev pub NoSeal : Bool → ℕ → Type 0
-NoSeal b tag = isSet (levelOf b) && eqb tag 1 ≡ false
-
-pub other-tag : (b : Bool) (tag : ℕ) → (tag ≡ 1 → ⊥) → NoSeal b tag
-other-tag true tag h = ne-eqb tag 1 h
-other-tag false tag h = refl
-
-pub of-pack : (b : Bool) (tag : ℕ) → b ≡ false → NoSeal b tag
-of-pack b tag e = rw e
-
 val-long : (l : Level) (tag : ℕ) (v : List ℕ) → length (valBytes l (record { tag = tag; value = v })) ≡ 6 + length v
 unfolding valBytes
 val-long l tag v = simp (length-append, length-fixed) (omega arith)
 
--- n bytes from the end of v, as they are lent
-abbrev lastOf : List ℕ → ℕ → List ℕ
-lastOf v n = take (length v - (length v - n)) (drop (length v - n) v)
-
 module _ (b : Bool) (tag : ℕ) (v : List ℕ) (h : NoSeal b tag) {r : Rule} (er : r ≡ ruleOf (levelOf b) tag) {n : ℕ} (en : n ≡ length (short r v)) where
-  last-is : lastOf v n ≡ short (ruleOf (levelOf b) tag) v
-  last-is = tail-part (length v - n) v ∙ rw en (short-is r v) ∙ ap (λ x. short x v) er
-
   record-is : valBytes (levelOf b) (record { tag = tag; value = lastOf v n }) ≡ itemSheet (levelOf b) tag v
   unfolding itemSheet
-  record-is = rw (h, itemSheet) (ap (λ x. valBytes (levelOf b) (record { tag = tag; value = x })) last-is)
+  record-is = rw (h, itemSheet) (ap (λ x. valBytes (levelOf b) (record { tag = tag; value = x })) (last-is b tag v er en))
 
   record-long : 6 + length (lastOf v n) ≡ length (itemSheet (levelOf b) tag v)
   record-long = sym (val-long (levelOf b) tag (lastOf v n)) ∙ ap length record-is

@@ -25,10 +25,21 @@ puts-sized o a xs e p = (omega (arith, p .0, e), p .1)
 pub puts-fixed : (o : List ℕ) (a k n : ℕ) {o₁ : List ℕ} {r : ℕ} → (r ≡ a + k) × (o₁ ≡ sets o a (fixed k n)) → Puts o a (fixed k n) r o₁
 puts-fixed o a k n p = puts-sized o a (fixed k n) (length-fixed k n) p
 
--- a tail of the output is lent: for what is stored at its start
-module _ (o : List ℕ) (a : ℕ) (xs ys : List ℕ) {o₁ : List ℕ} {m : ℕ} (p : Puts o a xs m o₁) where
-  pub tail-room : a + length (xs ++ ys) ≤ length o → length ys ≤ length (take (length o₁ - m) (drop m o₁))
-  tail-room h = rw tail-length (omega (arith, h, p .0, length-append xs ys, ap length (p .1), length-sets o a xs))
+-- What is to be stored into out from k on, where it fits: a head, and a rest for which the tail of out behind the head is lent.
+pub record Parted (out : List ℕ) (k : ℕ) (whole head rest : List ℕ) : Type 0 where
+  pub is : whole ≡ head ++ rest
+  pub fits : k + length whole ≤ length out
 
-  pub puts-tail : {r : ℕ} {e : List ℕ} → (r ≡ length ys) × (e ≡ sets (take (length o₁ - m) (drop m o₁)) 0 ys) → Puts o a (xs ++ ys) (m + r) (putMid m (length o₁ - m) o₁ e)
-  puts-tail {e = e} q = puts-then o a xs ys p (ap (λ k. m + k) (q .0), tail-stored o₁ m e ys (q .1))
+module _ {out : List ℕ} {k : ℕ} {whole head rest : List ℕ} (t : Parted out k whole head rest) where
+  pub head-room : k + length head ≤ length out
+  head-room = omega (arith, t .fits, ap length (t .is), length-append head rest)
+
+  module _ {m : ℕ} {out₁ : List ℕ} (em : Puts out k head m out₁) where
+    pub head-behind : m ≤ length out₁
+    head-behind = omega (arith, em .0, head-room, ap length (em .1), length-sets out k head)
+
+    pub rest-room : length rest ≤ length (take (length out₁ - m) (drop m out₁))
+    rest-room = rw tail-length (omega (arith, t .fits, ap length (t .is), length-append head rest, em .0, ap length (em .1), length-sets out k head))
+
+    pub rest-put : {r : ℕ} {o : List ℕ} → (r ≡ length rest) × (o ≡ sets (take (length out₁ - m) (drop m out₁)) 0 rest) → Puts out k whole (m + r) (putMid m (length out₁ - m) out₁ o)
+    rest-put {o = o} q = rw (t .is) (puts-then out k head rest em (ap (λ j. m + j) (q .0), tail-stored out₁ m o rest (q .1)))

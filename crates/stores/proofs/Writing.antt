@@ -1,13 +1,16 @@
 -- A loop that writes what a run reads, one thing after another: what is still to be stored, a turn, and the end.
 -- `emits` is all that a list of things writes, from a state on; `emit` is what one writes, and `next` the state after it.
+-- The run goes on while `more` says so: `always` in a packet.
 use mathlib.Core.Path.{_≡_, refl, sym, ap, _∙_}
 use Prim.Native.Nat.{ℕ, _+_, _-_, _≤_, _<_}
 use native.Mathlib.Omega.{arith}
+use mathlib.Core.Bool.{Bool, true, false}
 use mathlib.Core.List.{List, [], _∷_, _++_}
 use lib.ListN.{length, drop, length-append, length-drop, drop-of-length-le}
 use lib.Seq.{sets, length-sets, drop-drop}
-use Rattle.format.specs.Answer.{ok, Got}
-use Rattle.format.specs.Run.{Step, always, skip, run}
+use Rattle.format.specs.Answer.{ok, Got, got}
+use Rattle.format.specs.Lists.{flatAll}
+use Rattle.format.specs.Run.{Step, skip, run}
 use Rattle.format.proofs.words.Answers.{bind-then, after-then, ok-inj}
 use Rattle.format.proofs.reading.Runs.{skip-drop, drop-pred}
 use Rattle.stores.proofs.Stores.{sets-append}
@@ -16,27 +19,39 @@ pub record Emits {X S : Type 0} (emit : S → X → List ℕ) (next : S → X �
   pub none : (σ : S) → emits σ [] ≡ []
   pub more : (σ : S) (x : X) (xs : List X) → emits σ (x ∷ xs) ≡ emit σ x ++ emits (next σ x) xs
 
-pub record Writing {X S : Type 0} (emits : S → List X → List ℕ) (key : X → ℕ) (step : Step X) (whole s out₀ out : List ℕ) (σ : S) (p k : ℕ) : Type 0 where
+-- what each thing writes by itself
+pub each : {X : Type 0} (emit : X → List ℕ) → Emits {X = X} {S = Unit {0}} (λ _. emit) (λ _ _. tt) (λ _. flatAll emit)
+unfolding flatAll
+each emit = record { none = λ _. refl; more = λ _ _ _. refl }
+
+pub record Writing {X S : Type 0} (more : List ℕ → Bool) (emits : S → List X → List ℕ) (key : X → ℕ) (step : Step X) (whole s out₀ out : List ℕ) (σ : S) (p k : ℕ) : Type 0 where
   pub seen : List ℕ
   pub things : Got (List X)
-  pub reads : skip always key step seen 0 (drop p s) ≡ ok things
+  pub reads : skip more key step seen 0 (drop p s) ≡ ok things
   pub to : p ≤ length s
   pub same : length out ≡ length out₀
   pub sum : k + length (emits σ (things .val)) ≡ length whole
   pub rest : sets out₀ 0 whole ≡ sets out k (emits σ (things .val))
 
 -- a run that has more to read reads a thing, and goes on
-skip-here : {X : Type 0} (key : X → ℕ) (step : Step X) (seen s : List ℕ) (rs : Got (List X)) → 0 < length s → skip always key step seen 0 s ≡ ok rs
-    → (r : Got X) × (step seen s ≡ ok r) × (qs : Got (List X)) × (rs .val ≡ r .val ∷ qs .val) × (0 < r .used → skip always key step (key (r .val) ∷ seen) 0 (drop (r .used) s) ≡ ok qs)
+skip-here : {X : Type 0} (more : List ℕ → Bool) (key : X → ℕ) (step : Step X) (seen s : List ℕ) (rs : Got (List X)) → 0 < length s → more s ≡ true → skip more key step seen 0 s ≡ ok rs
+    → (r : Got X) × (step seen s ≡ ok r) × (qs : Got (List X)) × (rs .val ≡ r .val ∷ qs .val) × (0 < r .used → skip more key step (key (r .val) ∷ seen) 0 (drop (r .used) s) ≡ ok qs)
 unfolding skip
-skip-here key step seen [] rs h e = absurd (omega arith)
-skip-here key step seen (b ∷ s) rs h e =
-    bind-then _ _ _ e λ r er e₁.
+skip-here more key step seen [] rs h m e = absurd (omega arith)
+skip-here more key step seen (b ∷ s) rs h m e =
+    bind-then _ _ _ (rw (m, skip) at e) λ r er e₁.
     after-then _ _ _ _ e₁ λ qs eq e₂.
-    (r, er, qs, ap (λ x. x .val) (sym (ok-inj _ _ e₂)), λ u. rw (drop-pred (r .used) b s u, ← skip-drop always key step (λ _. []) (key (r .val) ∷ seen) (r .used - 1) s) eq)
+    (r, er, qs, ap (λ x. x .val) (sym (ok-inj _ _ e₂)), λ u. rw (drop-pred (r .used) b s u, ← skip-drop more key step (λ _. []) (key (r .val) ∷ seen) (r .used - 1) s) eq)
 
-module _ {X S : Type 0} {emit : S → X → List ℕ} {next : S → X → S} {emits : S → List X → List ℕ} (law : Emits emit next emits) (key : X → ℕ) (step : Step X) (whole s out₀ : List ℕ) where
-  pub writing-start : (σ : S) (rs : Got (List X)) → run always key step s ≡ ok rs → whole ≡ emits σ (rs .val) → Writing emits key step whole s out₀ out₀ σ 0 0
+-- one where no more of its kind stands is over
+skip-over : {X : Type 0} (more : List ℕ → Bool) (key : X → ℕ) (step : Step X) (seen s : List ℕ) → more s ≡ false → skip more key step seen 0 s ≡ ok (got [] 0)
+unfolding skip
+skip-over more key step seen [] m = refl
+skip-over more key step seen (b ∷ s) m = rw (m, skip)
+
+module _ {X S : Type 0} {emit : S → X → List ℕ} {next : S → X → S} {emits : S → List X → List ℕ} (law : Emits emit next emits) (more : List ℕ → Bool) (key : X → ℕ) (step : Step X)
+    (whole s out₀ : List ℕ) where
+  pub writing-start : (σ : S) (rs : Got (List X)) → run more key step s ≡ ok rs → whole ≡ emits σ (rs .val) → Writing more emits key step whole s out₀ out₀ σ 0 0
   unfolding run
   writing-start σ rs e w = record {
     seen = [];
@@ -48,14 +63,20 @@ module _ {X S : Type 0} {emit : S → X → List ℕ} {next : S → X → S} {em
     rest = ap (sets out₀ 0) w;
   }
 
-  module _ {out : List ℕ} {σ : S} {p k : ℕ} (g : Writing emits key step whole s out₀ out σ p k) where
-    pub writing-done : length s ≤ p → (k ≡ length whole) × (out ≡ sets out₀ 0 whole)
-    unfolding skip
-    writing-done h =
-        let d : drop p s ≡ [] = drop-of-length-le s {i = p} h in
-        let t : g .things .val ≡ [] = ap (λ x. x .val) (sym (ok-inj _ _ (rw d at (g .reads)))) in
+  module _ {out : List ℕ} {σ : S} {p k : ℕ} (g : Writing more emits key step whole s out₀ out σ p k) where
+    ended : skip more key step (g .seen) 0 (drop p s) ≡ ok (got [] 0) → (k ≡ length whole) × (out ≡ sets out₀ 0 whole)
+    ended e =
+        let t : g .things .val ≡ [] = ap (λ x. x .val) (ok-inj _ _ (sym (g .reads) ∙ e)) in
         let n : emits σ (g .things .val) ≡ [] = ap (emits σ) t ∙ law .none σ in
         (omega (arith, g .sum, ap length n), sym (g .rest ∙ ap (sets out k) n))
+
+    -- the end: of the bytes, or where no more of its kind stands
+    pub writing-done : length s ≤ p → (k ≡ length whole) × (out ≡ sets out₀ 0 whole)
+    unfolding skip
+    writing-done h = ended (rw (drop-of-length-le s {i = p} h))
+
+    pub writing-over : more (drop p s) ≡ false → (k ≡ length whole) × (out ≡ sets out₀ 0 whole)
+    writing-over m = ended (skip-over more key step (g .seen) (drop p s) m)
 
     -- what stands at p
     pub record Next : Type 0 where
@@ -63,11 +84,11 @@ module _ {X S : Type 0} {emit : S → X → List ℕ} {next : S → X → S} {em
       pub read : step (g .seen) (drop p s) ≡ ok it
       pub after-it : Got (List X)
       pub first : g .things .val ≡ it .val ∷ after-it .val
-      pub goes : 0 < it .used → skip always key step (key (it .val) ∷ g .seen) 0 (drop (it .used) (drop p s)) ≡ ok after-it
+      pub goes : 0 < it .used → skip more key step (key (it .val) ∷ g .seen) 0 (drop (it .used) (drop p s)) ≡ ok after-it
 
-    pub next-here : p < length s → Next
-    next-here h =
-        let (r, er, qs, eq, go) = skip-here key step (g .seen) (drop p s) (g .things) (rw length-drop (omega arith)) (g .reads) in
+    pub next-here : p < length s → more (drop p s) ≡ true → Next
+    next-here h m =
+        let (r, er, qs, eq, go) = skip-here more key step (g .seen) (drop p s) (g .things) (rw length-drop (omega arith)) m (g .reads) in
         record { it = r; read = er; after-it = qs; first = eq; goes = go }
 
     module _ (n : Next) where
@@ -82,7 +103,7 @@ module _ {X S : Type 0} {emit : S → X → List ℕ} {next : S → X → S} {em
 
       pub writing-more : 0 < n .it .used → p + n .it .used ≤ length s → {out′ : List ℕ} → out′ ≡ sets out k (emit σ (n .it .val))
           → {σ′ : S} → σ′ ≡ next σ (n .it .val) → {p′ : ℕ} → p′ ≡ p + n .it .used → {k′ : ℕ} → k′ ≡ k + length (emit σ (n .it .val))
-          → Writing emits key step whole s out₀ out′ σ′ p′ k′
+          → Writing more emits key step whole s out₀ out′ σ′ p′ k′
       writing-more u l {out′ = out′} eo es ep ek =
           rw (es, ep, ek) (record {
             seen = key (n .it .val) ∷ g .seen;

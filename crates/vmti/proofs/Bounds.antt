@@ -13,10 +13,12 @@ use Rattle.format.specs.Packet.{Packet}
 use Rattle.format.specs.Table.{Form}
 use Rattle.format.specs.Read.{parse, limit}
 use Rattle.format.specs.Sheet.{content, sheetBytes}
-use Rattle.format.specs.Calls.{read}
+use Rattle.format.specs.Calls.{packetOf, packed, read, normalise}
 use Rattle.format.specs.Rows.{Row, rowsOf, locate}
 use Rattle.format.specs.Room.{Left, leaves, oneNumber}
 use Rattle.format.proofs.bounds.Packets.{parse-answers}
+use Rattle.format.proofs.words.Answers.{bind-then}
+use Rattle.format.proofs.demands.Demand2.{packed-then, normal}
 use Rattle.format.proofs.demands.Sizes.{sizes}
 use Rattle.rows.specs.Meet.{numbers}
 use Rattle.rows.proofs.Numbers.{numbers-long}
@@ -58,6 +60,14 @@ call-refused {A = A} f s g n p e = go (parse f s) refl e
 
 -- ---- what the one number for C needs
 
+-- a packet that is written is within its limit
+packed-long : (p : Packet) (y : List ℕ) → packed p ≡ ok y → length y ≤ 8192
+packed-long p y e = packed-then p y e λ l z. omega (arith, l, ap length z)
+
+normal-long : (f : Form) (s y : List ℕ) → normalise f s ≡ ok y → length y ≤ 8192
+unfolding normalise
+normal-long f s y e = bind-then _ _ _ e λ p _ e₁. packed-long (packetOf (content p)) y e₁
+
 abbrev Small : ℕ → Answer → Type 0
 Small most a = (a .number ≤ 19) × (a .place ≤ most)
 
@@ -72,16 +82,30 @@ left-small lent b = go (leb (length b) (length lent)) refl
     go true z = unfold leaves in (rw (z, leaves) (omega arith, refl))
     go false z = unfold leaves in (rw (z, leaves) (omega arith, refl))
 
+-- x is what the call should answer: its refusals are small, and so is what it writes
+pub call-small : (most : ℕ) (lent out : List ℕ) (a : Answer) (x : Ans (List ℕ)) → ((n p : ℕ) → x ≡ refused n p → (n ≤ 19) × (p ≤ most)) → ((b : List ℕ) → x ≡ ok b → length b ≤ most)
+    → leftOf a out ≡ leaves lent x → Small most a
+call-small most lent out a (refused n p) r o e =
+    let k = r n p refl in
+    small-of most a out (record { number = n; place = p; lent = lent }) (e ∙ unfold leaves in refl) (k .0) (k .1)
+call-small most lent out a (ok y) r o e =
+    let k = left-small lent y in
+    small-of most a out (leaves lent (ok y)) e (k .0) (omega (arith, k .1, o y refl))
+
 pub read-small : (f : Form) (s lent out : List ℕ) (a : Answer) → Bytes s → leftOf a out ≡ leaves lent (read f s) → Small 40963 a
-read-small f s lent out a b e = go (read f s) refl
-  where
-    go : (x : Ans (List ℕ)) → read f s ≡ x → Small 40963 a
-    go (refused n p) q =
-        let k = call-refused f s (λ k. sheetBytes (content k)) n p (unfold read in q) in
-        small-of 40963 a out (record { number = n; place = p; lent = lent }) (e ∙ unfold leaves in (rw q)) (k .1) (omega (arith, k .2))
-    go (ok y) q =
-        let k = left-small lent y in
-        small-of 40963 a out (leaves lent (ok y)) (e ∙ ap (leaves lent) q) (k .0) (omega (arith, k .1, sizes f s b .sheet y q .1))
+read-small f s lent out a b e =
+    call-small 40963 lent out a (read f s)
+    (λ n p q. let k = call-refused f s (λ k. sheetBytes (content k)) n p (unfold read in q) in (k .1, omega (arith, k .2)))
+    (λ y q. sizes f s b .sheet y q .1)
+    e
+
+-- what a packet's answer to normalise is bounded by
+pub normalise-small : (f : Form) (s lent out : List ℕ) (a : Answer) → Bytes s → leftOf a out ≡ leaves lent (normalise f s) → Small 8192 a
+normalise-small f s lent out a b e =
+    call-small 8192 lent out a (normalise f s)
+    (λ n p q. let k = call-refused f s (λ k. sheetBytes (content k)) n p (unfold read in (normal f s b .refuses n p .0 q)) in (k .1, k .2))
+    (λ y q. normal-long f s y q)
+    e
 
 pub one-number : (a : Answer) (out : List ℕ) (l : Left ℕ) → leftOf a out ≡ l → (256 * a .place + a .number ≡ oneNumber l) × (out ≡ l .lent)
 unfolding oneNumber

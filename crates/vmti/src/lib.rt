@@ -57,6 +57,33 @@ pub fn read(packet: &[u8], alone: bool, sheet: &mut [u8]) -> Answer
     answer_of(0, sizes.sheet)
 }
 
+// A packet to its normal form: what `write` makes of its sheet, with no sheet between.
+pub fn normalise(packet: &[u8], alone: bool, out: &mut [u8]) -> Answer
+    ensures { λ r. ⌜ leftOf r (now (out .exit)) ≡ leaves (now (out .entry)) (Calls.normalise (formOf alone) (now (packet .entry))) ⌝ }
+{
+    let c = walks::whole::check(packet, alone);
+    let Checked::Fine(sizes) = c else {
+        return refusal(c);
+    };
+    let size = frames::frame_size(alone, sizes.normal);
+    if out.len() < size {
+        return answer_of(16, size);
+    }
+    let from = walks::whole::set_start(packet, alone);
+    let table = items::table();
+    let a = frames::open(out, alone, sizes.normal);
+    let n = normals::item_normal(
+        &table,
+        &packet[from..],
+        true,
+        alone,
+        sizes.inner,
+        &mut out[a..],
+    );
+    frames::close(out, alone, a + n);
+    answer_of(0, size)
+}
+
 // A packet's rows, as numbers, four to a row.
 pub fn locate(packet: &[u8], alone: bool, rows: &mut [u64]) -> Answer
     ensures { λ r. ⌜ leftOf r (now (rows .exit)) ≡ leavesRows (now (rows .entry)) (Rows.locate (formOf alone) (now (packet .entry))) ⌝ }
@@ -82,5 +109,14 @@ pub extern "C" fn vmti_read(form: u64, packet: &[u8], sheet: &mut [u8]) -> u64
         × (now (sheet .exit) ≡ leaves (now (sheet .entry)) (Calls.read (formNamed form) (now (packet .entry))) .lent) ⌝ }
 {
     let a = read(packet, form != 0, sheet);
+    256 * (a.place as u64) + a.number
+}
+
+#[no_mangle]
+pub extern "C" fn vmti_normalise(form: u64, packet: &[u8], out: &mut [u8]) -> u64
+    ensures { λ r. ⌜ (r ≡ oneNumber (leaves (now (out .entry)) (Calls.normalise (formNamed form) (now (packet .entry)))))
+        × (now (out .exit) ≡ leaves (now (out .entry)) (Calls.normalise (formNamed form) (now (packet .entry))) .lent) ⌝ }
+{
+    let a = normalise(packet, form != 0, out);
     256 * (a.place as u64) + a.number
 }

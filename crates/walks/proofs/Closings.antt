@@ -27,7 +27,7 @@ use Rattle.walks.specs.declared.Checked.the-variants.{Fine, Wrong}
 use Rattle.walks.specs.Meet.{total, any, weightOfEntry, checkedOf}
 use Rattle.walks.specs.Whole.{fineOf, closingBy}
 use Rattle.walks.proofs.Walks.{same-sizes}
-use Rattle.walks.proofs.Totals.{parts-sheet, parts-normal, entries-say, says-no-seal, entries-count, seal-last}
+use Rattle.walks.proofs.Totals.{parts-sheet, parts-normal, parts-inner, entries-say, says-no-seal, entries-count, seal-last}
 
 -- ---- as the code tests it
 
@@ -78,6 +78,9 @@ module _ (p : Packet) (h : All (λ e. eqb (tagOfEntry e) 1 ≡ false) (p .entrie
   normal-size : length (flatAll flatEntry (map entryOf (content p .parts))) ≡ summed (p .entries) .normal
   unfolding content
   normal-size = parts-normal (map partOf (p .entries)) (says-no-seal (p .entries) h) ∙ sym (ap (λ a. a .normal) (entries-say (p .entries)))
+
+  pub inner-less : summed (p .entries) .inner ≤ length (flatAll flatEntry (map entryOf (content p .parts)))
+  inner-less = omega (arith, normal-size, parts-inner (map partOf (p .entries)), ap (λ a. a .inner) (entries-say (p .entries)), ap (λ a. a .normal) (entries-say (p .entries)))
 
   -- a is what its entries weigh, with the checksum or without
   fine-is : {a : Sizes} → a .sheet ≡ summed (p .entries) .sheet → a .rows ≡ length (rowsOf p) → a .normal ≡ summed (p .entries) .normal → a .inner ≡ summed (p .entries) .inner

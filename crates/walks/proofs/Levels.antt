@@ -31,7 +31,7 @@ use Rattle.walks.specs.Meet.{pieceOf, itemSizes, total, weightOfPack, we
 
 -- ---- what a piece says of its item
 
-here-zero : {A : Type 0} (x : Ans A) (n q : ℕ) → Here x → x ≡ refused n q → q ≡ 0
+pub here-zero : {A : Type 0} (x : Ans A) (n q : ℕ) → Here x → x ≡ refused n q → q ≡ 0
 here-zero x n q h e = omega (arith, h .by n q e .2)
 
 fault-says : (l : Level) (x : Ans (Got Item)) (n : ℕ) → Here x → piece.Fault n ≡ pieceOf l x → x ≡ refused n 0

@@ -30,10 +30,10 @@ piece-tail q l f e = rw tail-part at e
 
 -- ---- the number of a refusal, 0 for none
 
-answer-none : (k : ℕ) {m : Ans (Unit {0})} → answerOf k ≡ m → k ≡ 0 → m ≡ ok tt
+pub answer-none : (k : ℕ) {m : Ans (Unit {0})} → answerOf k ≡ m → k ≡ 0 → m ≡ ok tt
 answer-none k e z = sym e ∙ ap answerOf z
 
-answer-some : (k : ℕ) {m : Ans (Unit {0})} → answerOf k ≡ m → (k ≡ 0 → ⊥) → m ≡ refused k 0
+pub answer-some : (k : ℕ) {m : Ans (Unit {0})} → answerOf k ≡ m → (k ≡ 0 → ⊥) → m ≡ refused k 0
 answer-some zero e z = absurd (z refl)
 answer-some (suc k) e z = sym e
 

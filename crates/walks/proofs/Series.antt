@@ -90,7 +90,7 @@ items-bad f s n q e = go (run always tagOfItem (item pack f) s) refl (rw run-pla
 
 -- ---- a pack
 
-after-not : {A : Type 0} (k : ℕ) (m : Ans A) (n p : ℕ) → m ≡ refused n p → after k m ≡ refused n (k + p)
+pub after-not : {A : Type 0} (k : ℕ) (m : Ans A) (n p : ℕ) → m ≡ refused n p → after k m ≡ refused n (k + p)
 unfolding after
 after-not k m n p e = rw e
 

@@ -1,6 +1,6 @@
 -- The sizes that a walk adds up are those of the sheet, of the rows and of the normal form.
 use mathlib.Core.Path.{_≡_, refl, ap, _∙_}
-use Prim.Native.Nat.{ℕ, suc, _+_}
+use Prim.Native.Nat.{ℕ, suc, _+_, _≤_}
 use native.Mathlib.Omega.{arith}
 use mathlib.Core.Bool.{Bool, true, false, _&&_}
 use mathlib.Core.List.{List, [], _∷_, _++_, map}
@@ -32,6 +32,14 @@ val-sheet l v z = rw (length-val, z, itemSizes) (omega arith)
 val-normal : (l : Level) (v : Val) → isSet l && eqb (v .tag) 1 ≡ false → length (flatItem (itemOf v)) ≡ weightOfVal l v .normal
 unfolding itemSizes itemOf
 val-normal l v z = rw (length-item, z, itemSizes) (omega arith)
+
+val-inner : (l : Level) (v : Val) → weightOfVal l v .inner ≡ 0
+unfolding itemSizes
+val-inner l v = go (isSet l && eqb (v .tag) 1) refl
+  where
+    go : (b : Bool) → isSet l && eqb (v .tag) 1 ≡ b → weightOfVal l v .inner ≡ 0
+    go true z = rw (z, itemSizes)
+    go false z = rw (z, itemSizes)
 
 pub vals-sheet : (vs : List Val) → length (flatAll (valBytes pack) vs) ≡ total (weightOfVal pack) vs .sheet
 unfolding flatAll total
@@ -93,14 +101,21 @@ unfolding flatAll total
 parts-normal [] h = refl
 parts-normal (p ∷ ps) h = rw (length-append, part-normal p (h .0), parts-normal ps (h .1))
 
+-- the packs of a series are among the bytes
+pub parts-inner : (ps : List Part) → total weightOfPart ps .inner ≤ total weightOfPart ps .normal
+unfolding total
+parts-inner [] = omega arith
+parts-inner (one v ∷ ps) = omega (arith, parts-inner ps, val-inner set v)
+parts-inner (targets ts ∷ ps) = omega (arith, parts-inner ps)
+
 -- ---- of what a packet holds: what it says weighs the same
 
-total-map : {X Y : Type 0} (f : X → Y) (a : X → Sizes) (b : Y → Sizes) → ((x : X) → a x ≡ b (f x)) → (xs : List X) → total a xs ≡ total b (map f xs)
+pub total-map : {X Y : Type 0} (f : X → Y) (a : X → Sizes) (b : Y → Sizes) → ((x : X) → a x ≡ b (f x)) → (xs : List X) → total a xs ≡ total b (map f xs)
 unfolding total
 total-map f a b e [] = refl
 total-map f a b e (x ∷ xs) = rw (e x, total-map f a b e xs)
 
-pack-says : (p : Pack) → weightOfPack p ≡ weightOfTarget (targetOf p)
+pub pack-says : (p : Pack) → weightOfPack p ≡ weightOfTarget (targetOf p)
 unfolding targetOf
 pack-says p = ap (packSizes (length (oidBytes (p .id)))) (total-map (valOf pack) (weightOfItem pack) (weightOfVal pack) (λ i. unfold valOf in refl) (p .items))
 

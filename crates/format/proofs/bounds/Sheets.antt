@@ -36,7 +36,7 @@ field-room l s r e =
     need-then _ _ _ _ e₂ λ _ e₃.
     rw (← ok-inj _ _ e₃) (leb-true _ _ a, leb-true _ _ b)
 
-value-here : (l : Level) (f : Form) (seen s : List ℕ) → Here (valueAt l f seen s)
+pub value-here : (l : Level) (f : Form) (seen s : List ℕ) → Here (valueAt l f seen s)
 unfolding valueAt
 value-here l f seen s =
     refuses-bind _ _ (field-here l (drop 2 s)) λ v _.

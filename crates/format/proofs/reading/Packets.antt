@@ -93,7 +93,7 @@ set-says f d es b e =
     let b′ : Bytes (flatAll flatEntry (es .val) ++ []) = rw (append-nil (flatAll flatEntry (es .val))) (rw (ran .bytes) at b) in
     (ran .bytes, along-map tagOfEntry flatEntry _ (λ seen e t. EntryRead f seen e (none? t)) (entry-stood f) [] (es .val) [] b′ (ran .along))
 
-set-once : (f : Form) (es : List Entry) → SetRead f [] es → Once (map tagOfEntry es)
+pub set-once : (f : Form) (es : List Entry) → SetRead f [] es → Once (map tagOfEntry es)
 set-once f es h =
     fresh-says [] (map tagOfEntry es)
     (along-fresh tagOfEntry flatEntry (λ seen e t. EntryRead f seen e (none? t)) (λ seen e t g. entry-stands f seen e (none? t) g .new) [] es [] h) .0

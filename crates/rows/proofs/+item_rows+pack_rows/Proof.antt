@@ -8,8 +8,10 @@ use borrow.Fn.Kinds.{In}
 use borrow.Fn.PlainCycle.{Measures, is, falls, and}
 use Rattle.items.specs.Meet.{formOf}
 use Rattle.walks.proofs.ItemTurns.{depth, series-deep}
-use Rattle.rows.proofs.LevelTurns.{LevelWriting, level-start, LevelHere, level-done, level-fault, level-here, entry-room, entry-fits, entry-end, value-long, item-more, series-ran, series-fits, series-end, series-more}
-use Rattle.rows.proofs.SeriesTurns.{SeriesWriting, series-start, SeriesHere, series-done, series-fault, series-here, pack-room, items-long, items-ran, pack-fits, pack-end, items-fit, items-end, pack-more}
+use Rattle.stores.proofs.Entries.{level-done, entry-fault, entry-room, value-long, packs-asked}
+use Rattle.stores.proofs.Packs.{series-done, pack-fault, pack-room, items-long, items-asked}
+use Rattle.rows.proofs.LevelTurns.{LevelRows, level-rows, RowsEntry, row-room, entry-end, item-more, series-fits, series-end, series-more}
+use Rattle.rows.proofs.SeriesTurns.{SeriesRows, series-rows, RowsPack, pack-fits, pack-end, items-fit, items-end, pack-more}
 use Rattle.rows.proofs.item_rows.Reads as item-rows
 use Rattle.rows.proofs.item_rows.Kinds as item-rows-kinds
 use Rattle.rows.proofs.+item_rows+pack_rows.Lts-item_rows as item-rows-lts
@@ -52,28 +54,39 @@ pack-claims t = (pack-head-reads.Asked, pack-head-reads.Learnt, put-row-reads.As
 -- ---- the items of a level
 
 abbrev item-rows-Inv-loop : item-rows-lts.InvT-loop
-item-rows-Inv-loop s at target set alone out₀ p₀ k₀ out p k = LevelWriting set (formOf alone) target at s out₀ out p k
+item-rows-Inv-loop s at target set alone out₀ p₀ k₀ out p k = LevelRows set (formOf alone) target at s out₀ out p k
 
 abbrev item-rows-μ-loop : item-rows-lts.MeasureT-loop
 item-rows-μ-loop s at target set alone out₀ p₀ k₀ out p k = length s - p
 
 -- what stands where the head was read
 item-here : (t : ℕ) (a : item-rows-lts.After-h (item-claims t) (item-rows-at t) item-rows.Post item-rows-Inv-loop item-rows-μ-loop)
-    → LevelHere (a .before .before .before .before .before .before .before .before .args .set) (formOf (a .before .before .before .before .before .before .before .before .args .alone)) (a .before .before .before .before .before .before .before .before .args .target) (a .before .before .before .before .before .before .before .before .args .at) (a .before .before .before .before .before .before .before .before .args .s .now) (a .before .before .before .before .before .before .before .before .args .out .now) (a .before .before .before .before .before .loop .out) (a .before .before .before .before .before .loop .p) (a .before .before .before .before .before .loop .k) (a .h .given .0 .0) (a .h .given .0 .1 .0) (a .h .given .0 .1 .1 .0) (a .h .given .0 .1 .1 .1 .0)
-item-here t a = level-here (a .before .before .before .before .before .loop .inv) (a .before .before .before .before .loop-test .taken) _ (a .before .before .item-head .ensures) (a .h .given .1) (λ i. a .before .before .before .before .before .before .before .shared-slice-known .given i .fits)
+    → RowsEntry (a .before .before .before .before .before .before .before .before .args .set) (formOf (a .before .before .before .before .before .before .before .before .args .alone)) (a .before .before .before .before .before .before .before .before .args .target) (a .before .before .before .before .before .before .before .before .args .at) (a .before .before .before .before .before .before .before .before .args .s .now) (a .before .before .before .before .before .before .before .before .args .out .now) (a .before .before .before .before .before .loop .out) (a .before .before .before .before .before .loop .p) (a .before .before .before .before .before .loop .k) (a .h .given .0 .0) (a .h .given .0 .1 .0) (a .h .given .0 .1 .1 .0) (a .h .given .0 .1 .1 .1 .0)
+item-here t a = record {
+  is = record {
+    going = a .before .before .before .before .before .loop .inv;
+    here = a .before .before .before .before .loop-test .taken;
+    head = _;
+    reads = a .before .before .item-head .ensures;
+    whole = a .h .given .1;
+    bytes = λ i. a .before .before .before .before .before .before .before .shared-slice-known .given i .fits;
+    most = omega (arith, a .before .before .before .before .before .before .before .before .pre .1 .0);
+    room = a .before .before .before .before .before .before .before .before .pre .1 .2;
+  };
+}
 
 -- it lies within the bytes lent
 item-fit : (t : ℕ) (a : item-rows-lts.After-h (item-claims t) (item-rows-at t) item-rows.Post item-rows-Inv-loop item-rows-μ-loop)
     → (a .before .before .before .before .before .loop .p + a .h .given .0 .1 .0 + a .h .given .0 .1 .1 .0 + a .h .given .0 .1 .1 .1 .0 ≤ length (a .before .before .before .before .before .before .before .before .args .s .now)) × (a .before .before .before .before .before .before .before .before .args .at + length (a .before .before .before .before .before .before .before .before .args .s .now) ≤ 8192)
-item-fit t a = (entry-room (item-here t a), a .before .before .before .before .before .before .before .before .pre .1 .0)
+item-fit t a = (entry-room (item-here t a .is) .0, a .before .before .before .before .before .before .before .before .pre .1 .0)
 
 -- its row ends within the table
 item-end : (t : ℕ) (d : item-rows-lts.After-put-row (item-claims t) (item-rows-at t) item-rows.Post item-rows-Inv-loop item-rows-μ-loop)
     → (d .put-row .result ≤ length (d .put-row .last .0)) × (length (d .put-row .last .0) ≡ length (d .before .before .before .before .before .before .before .before .before .before .before .args .out .now))
-item-end t d = entry-end (item-here t (d .before .before .before)) (d .before .before .before .before .before .before .before .before .before .before .before .pre .1 .2) (d .put-row .ensures)
+item-end t d = entry-end (item-here t (d .before .before .before)) (d .put-row .ensures)
 
 item-rows-loop-holds : (t : ℕ) → item-rows-lts.Need-loop-holds (item-claims t) (item-rows-at t) item-rows.Post item-rows-Inv-loop item-rows-μ-loop
-item-rows-loop-holds t c = level-start _ _ _ _ _ _ (c .before .before .pre .1 .1)
+item-rows-loop-holds t c = level-rows _ _ _ _ _ _ (c .before .before .pre .1 .1)
 
 item-rows-sub-item-head : (t : ℕ) → item-rows-lts.Need-sub-item-head (item-claims t) (item-rows-at t) item-rows.Post item-rows-Inv-loop item-rows-μ-loop
 item-rows-sub-item-head t c = search needs
@@ -97,7 +110,7 @@ item-rows-same-length : (t : ℕ) → item-rows-lts.Need-same-length (item-claim
 item-rows-same-length t c = c .before .before .before .before .before .loop .inv .writes .same
 
 item-rows-returns : (t : ℕ) → item-rows-lts.Need-returns (item-claims t) (item-rows-at t) item-rows.Post item-rows-Inv-loop item-rows-μ-loop
-item-rows-returns t c = level-fault (c .before .before .before .before .before .loop .inv) (c .before .before .before .before .loop-test .taken) _ (c .before .before .item-head .ensures) (c .enum-told .given .1)
+item-rows-returns t c = entry-fault (c .before .before .before .before .before .loop .inv) (c .before .before .before .before .loop-test .taken) (c .before .before .item-head .ensures) (c .enum-told .given .1)
 
 item-rows-add-from : (t : ℕ) → item-rows-lts.Need-add-from (item-claims t) (item-rows-at t) item-rows.Post item-rows-Inv-loop item-rows-μ-loop
 item-rows-add-from t c = omega (arith, item-fit t (c .before))
@@ -112,7 +125,7 @@ item-rows-add-put-row : (t : ℕ) → item-rows-lts.Need-add-put-row (item-claim
 item-rows-add-put-row t c = omega (arith, item-fit t (c .before .before))
 
 item-rows-put-row-requires : (t : ℕ) → item-rows-lts.Need-put-row-requires (item-claims t) (item-rows-at t) item-rows.Post item-rows-Inv-loop item-rows-μ-loop
-item-rows-put-row-requires t c κs = entry-fits (item-here t (c .before .before)) (c .before .before .before .before .before .before .before .before .before .before .pre .1 .2)
+item-rows-put-row-requires t c κs = row-room (item-here t (c .before .before))
 
 item-rows-is-series-requires : (t : ℕ) → item-rows-lts.Need-is-series-requires (item-claims t) (item-rows-at t) item-rows.Post item-rows-Inv-loop item-rows-μ-loop
 item-rows-is-series-requires t c κs = search needs
@@ -146,19 +159,19 @@ item-rows-pack-rows-requires t c κs =
     let e = item-here t (c .before .before .before .before .before .before .before .before .before) in
     let x = c .before .before .before .is-series .ensures in
     let y = c .before .before .if1 .taken in
-    (omega (arith, series-deep (c .before .before .before .before .before .before .before .before .before .before .before .before .before .before .before .before .before .args .set) (c .before .before .before .before .before .before .before .before .before .h .given .0 .0) x y, c .before .before .before .before .before .before .before .before .before .before .before .before .before .before .before .before .before .pre .0), (omega (arith, value-long e, item-fit t (c .before .before .before .before .before .before .before .before .before)), series-ran e x y, series-fits e x y (c .before .before .before .before .before .before .put-row .ensures) (c .before .before .before .before .before .before .before .before .before .before .before .before .before .before .before .before .before .pre .1 .2)))
+    (omega (arith, series-deep (c .before .before .before .before .before .before .before .before .before .before .before .before .before .before .before .before .before .args .set) (c .before .before .before .before .before .before .before .before .before .h .given .0 .0) x y, c .before .before .before .before .before .before .before .before .before .before .before .before .before .before .before .before .before .pre .0), (omega (arith, value-long (e .is), item-fit t (c .before .before .before .before .before .before .before .before .before)), packs-asked (e .is) x y .1, series-fits e x y (c .before .before .before .before .before .before .put-row .ensures)))
 
 item-rows-add-k : (t : ℕ) → item-rows-lts.Need-add-k (item-claims t) (item-rows-at t) item-rows.Post item-rows-Inv-loop item-rows-μ-loop
-item-rows-add-k t c = omega (arith, series-end (item-here t (c .before .before .before .before .before .before .before .before .before .before .before .before)) (c .before .before .before .before .before .before .is-series .ensures) (c .before .before .before .before .before .if1 .taken) (c .before .before .before .before .before .before .before .before .before .put-row .ensures) (c .before .before .before .before .before .before .before .before .before .before .before .before .before .before .before .before .before .before .before .before .pre .1 .2), c .before .before .pack-rows .ensures .0, c .before .before .before .before .before .before .before .before .before .before .before .before .before .before .before .before .before .before .before .before .good)
+item-rows-add-k t c = omega (arith, series-end (item-here t (c .before .before .before .before .before .before .before .before .before .before .before .before)) (c .before .before .before .before .before .before .is-series .ensures) (c .before .before .before .before .before .if1 .taken) (c .before .before .before .before .before .before .before .before .before .put-row .ensures), c .before .before .pack-rows .ensures .0, c .before .before .before .before .before .before .before .before .before .before .before .before .before .before .before .before .before .before .before .before .good)
 
 item-rows-loop-less : (t : ℕ) → item-rows-lts.Need-loop-less (item-claims t) (item-rows-at t) item-rows.Post item-rows-Inv-loop item-rows-μ-loop
-item-rows-loop-less t c = omega (arith, item-here t (c .before .before .before .before .before .before .before .before .before .before .before .before) .entry .some, item-fit t (c .before .before .before .before .before .before .before .before .before .before .before .before))
+item-rows-loop-less t c = omega (arith, entry-room (item-here t (c .before .before .before .before .before .before .before .before .before .before .before .before) .is) .1, item-fit t (c .before .before .before .before .before .before .before .before .before .before .before .before))
 
 item-rows-loop-again : (t : ℕ) → item-rows-lts.Need-loop-again (item-claims t) (item-rows-at t) item-rows.Post item-rows-Inv-loop item-rows-μ-loop
 item-rows-loop-again t c = series-more (item-here t (c .before .before .before .before .before .before .before .before .before .before .before .before)) (c .before .before .before .before .before .before .is-series .ensures) (c .before .before .before .before .before .if1 .taken) (c .before .before .before .before .before .before .before .before .before .put-row .ensures) (c .before .before .pack-rows .ensures)
 
 item-rows-loop-less-2 : (t : ℕ) → item-rows-lts.Need-loop-less-2 (item-claims t) (item-rows-at t) item-rows.Post item-rows-Inv-loop item-rows-μ-loop
-item-rows-loop-less-2 t c = omega (arith, item-here t (c .before .before .before .before .before .before .before) .entry .some, item-fit t (c .before .before .before .before .before .before .before))
+item-rows-loop-less-2 t c = omega (arith, entry-room (item-here t (c .before .before .before .before .before .before .before) .is) .1, item-fit t (c .before .before .before .before .before .before .before))
 
 item-rows-loop-again-2 : (t : ℕ) → item-rows-lts.Need-loop-again-2 (item-claims t) (item-rows-at t) item-rows.Post item-rows-Inv-loop item-rows-μ-loop
 item-rows-loop-again-2 t c = item-more (item-here t (c .before .before .before .before .before .before .before)) (c .before .is-series .ensures) (c .if1 .left) (c .before .before .before .before .put-row .ensures)
@@ -172,28 +185,40 @@ item-rows-returns-2 t c = level-done (c .before .loop .inv) (c .loop-test .left)
 -- ---- the packs of a series
 
 abbrev pack-rows-Inv-loop : pack-rows-lts.InvT-loop
-pack-rows-Inv-loop s at alone out₀ p₀ k₀ n₀ out p k n = SeriesWriting (formOf alone) at s out₀ out p k n
+pack-rows-Inv-loop s at alone out₀ p₀ k₀ n₀ out p k n = SeriesRows (formOf alone) at s out₀ out p k n
 
 abbrev pack-rows-μ-loop : pack-rows-lts.MeasureT-loop
 pack-rows-μ-loop s at alone out₀ p₀ k₀ n₀ out p k n = length s - p
 
 -- what stands where the head was read
 pack-here : (t : ℕ) (a : pack-rows-lts.After-h (pack-claims t) (pack-rows-at t) pack-rows.Post pack-rows-Inv-loop pack-rows-μ-loop)
-    → SeriesHere (formOf (a .before .before .before .before .before .before .before .before .args .alone)) (a .before .before .before .before .before .before .before .before .args .at) (a .before .before .before .before .before .before .before .before .args .s .now) (a .before .before .before .before .before .before .before .before .args .out .now) (a .before .before .before .before .before .loop .out) (a .before .before .before .before .before .loop .p) (a .before .before .before .before .before .loop .k) (a .before .before .before .before .before .loop .n) (a .h .given .0 .0) (a .h .given .0 .1 .0) (a .h .given .0 .1 .1 .0) (a .h .given .0 .1 .1 .1 .0)
-pack-here t a = series-here (a .before .before .before .before .before .loop .inv) (a .before .before .before .before .loop-test .taken) _ (a .before .before .pack-head .ensures) (a .h .given .1) (λ i. a .before .before .before .before .before .before .before .shared-slice-known .given i .fits)
+    → RowsPack (formOf (a .before .before .before .before .before .before .before .before .args .alone)) (a .before .before .before .before .before .before .before .before .args .at) (a .before .before .before .before .before .before .before .before .args .s .now) (a .before .before .before .before .before .before .before .before .args .out .now) (a .before .before .before .before .before .loop .out) (a .before .before .before .before .before .loop .p) (a .before .before .before .before .before .loop .k) (a .before .before .before .before .before .loop .n) (a .h .given .0 .0) (a .h .given .0 .1 .0) (a .h .given .0 .1 .1 .0) (a .h .given .0 .1 .1 .1 .0)
+pack-here t a = record {
+  is = record {
+    going = a .before .before .before .before .before .loop .inv .going;
+    here = a .before .before .before .before .loop-test .taken;
+    head = _;
+    reads = a .before .before .pack-head .ensures;
+    whole = a .h .given .1;
+    bytes = λ i. a .before .before .before .before .before .before .before .shared-slice-known .given i .fits;
+    most = omega (arith, a .before .before .before .before .before .before .before .before .pre .1 .0);
+    room = a .before .before .before .before .before .before .before .before .pre .1 .2;
+  };
+  few = a .before .before .before .before .before .loop .inv .few;
+}
 
 -- it lies within the bytes lent, and its id within the pack
 pack-fit : (t : ℕ) (a : pack-rows-lts.After-h (pack-claims t) (pack-rows-at t) pack-rows.Post pack-rows-Inv-loop pack-rows-μ-loop)
     → (a .before .before .before .before .before .loop .p + a .h .given .0 .1 .1 .0 + a .h .given .0 .1 .1 .1 .0 ≤ length (a .before .before .before .before .before .before .before .before .args .s .now)) × (a .before .before .before .before .before .before .before .before .args .at + length (a .before .before .before .before .before .before .before .before .args .s .now) ≤ 8192) × (a .h .given .0 .1 .0 ≤ a .h .given .0 .1 .1 .1 .0)
-pack-fit t a = (pack-room (pack-here t a), a .before .before .before .before .before .before .before .before .pre .1 .0, pack-here t a .pack-is .body)
+pack-fit t a = (pack-room (pack-here t a .is) .0, a .before .before .before .before .before .before .before .before .pre .1 .0, pack-room (pack-here t a .is) .2)
 
 -- its row ends within the table
 row-end : (t : ℕ) (d : pack-rows-lts.After-put-row (pack-claims t) (pack-rows-at t) pack-rows.Post pack-rows-Inv-loop pack-rows-μ-loop)
     → (d .put-row .result ≤ length (d .put-row .last .0)) × (length (d .put-row .last .0) ≡ length (d .before .before .before .before .before .before .before .before .before .before .before .args .out .now))
-row-end t d = pack-end (pack-here t (d .before .before .before)) (d .put-row .ensures) (d .before .before .before .before .before .before .before .before .before .before .before .pre .1 .2)
+row-end t d = pack-end (pack-here t (d .before .before .before)) (d .put-row .ensures)
 
 pack-rows-loop-holds : (t : ℕ) → pack-rows-lts.Need-loop-holds (pack-claims t) (pack-rows-at t) pack-rows.Post pack-rows-Inv-loop pack-rows-μ-loop
-pack-rows-loop-holds t c = series-start _ _ _ _ (c .before .before .pre .1 .1)
+pack-rows-loop-holds t c = series-rows _ _ _ _ (c .before .before .pre .1 .1)
 
 pack-rows-sub-pack-head : (t : ℕ) → pack-rows-lts.Need-sub-pack-head (pack-claims t) (pack-rows-at t) pack-rows.Post pack-rows-Inv-loop pack-rows-μ-loop
 pack-rows-sub-pack-head t c = search needs
@@ -214,10 +239,10 @@ pack-rows-enum-told : (t : ℕ) → pack-rows-lts.Need-enum-told (pack-claims t)
 pack-rows-enum-told t c = search needs
 
 pack-rows-same-length : (t : ℕ) → pack-rows-lts.Need-same-length (pack-claims t) (pack-rows-at t) pack-rows.Post pack-rows-Inv-loop pack-rows-μ-loop
-pack-rows-same-length t c = c .before .before .before .before .before .loop .inv .writes .same
+pack-rows-same-length t c = c .before .before .before .before .before .loop .inv .going .writes .same
 
 pack-rows-returns : (t : ℕ) → pack-rows-lts.Need-returns (pack-claims t) (pack-rows-at t) pack-rows.Post pack-rows-Inv-loop pack-rows-μ-loop
-pack-rows-returns t c = series-fault (c .before .before .before .before .before .loop .inv) (c .before .before .before .before .loop-test .taken) _ (c .before .before .pack-head .ensures) (c .enum-told .given .1)
+pack-rows-returns t c = pack-fault (c .before .before .before .before .before .loop .inv .going) (c .before .before .before .before .loop-test .taken) (c .before .before .pack-head .ensures) (c .enum-told .given .1)
 
 pack-rows-add-from : (t : ℕ) → pack-rows-lts.Need-add-from (pack-claims t) (pack-rows-at t) pack-rows.Post pack-rows-Inv-loop pack-rows-μ-loop
 pack-rows-add-from t c = omega (arith, pack-fit t (c .before))
@@ -238,7 +263,7 @@ pack-rows-add-put-row-2 : (t : ℕ) → pack-rows-lts.Need-add-put-row-2 (pack-c
 pack-rows-add-put-row-2 t c = omega (arith, pack-fit t (c .before .before))
 
 pack-rows-put-row-requires : (t : ℕ) → pack-rows-lts.Need-put-row-requires (pack-claims t) (pack-rows-at t) pack-rows.Post pack-rows-Inv-loop pack-rows-μ-loop
-pack-rows-put-row-requires t c κs = pack-fits (pack-here t (c .before .before)) (c .before .before .before .before .before .before .before .before .before .before .pre .1 .2)
+pack-rows-put-row-requires t c κs = pack-fits (pack-here t (c .before .before))
 
 pack-rows-sub-item-rows : (t : ℕ) → pack-rows-lts.Need-sub-item-rows (pack-claims t) (pack-rows-at t) pack-rows.Post pack-rows-Inv-loop pack-rows-μ-loop
 pack-rows-sub-item-rows t c = omega (arith, pack-fit t (c .before .before .before .before .before))
@@ -267,25 +292,25 @@ pack-rows-part-item-rows-end-2 t c = omega (arith, row-end t (c .before .before 
 pack-rows-item-rows-requires : (t : ℕ) → pack-rows-lts.Need-item-rows-requires (pack-claims t) (pack-rows-at t) pack-rows.Post pack-rows-Inv-loop pack-rows-μ-loop
 pack-rows-item-rows-requires t c κs =
     let e = pack-here t (c .before .before .before .before .before .before .before) in
-    (omega (arith, c .before .before .before .before .before .before .before .before .before .before .before .before .before .before .before .pre .0), (omega (arith, items-long e, pack-fit t (c .before .before .before .before .before .before .before)), items-ran e, items-fit e (c .before .before .before .before .put-row .ensures) (c .before .before .before .before .before .before .before .before .before .before .before .before .before .before .before .pre .1 .2)))
+    (omega (arith, c .before .before .before .before .before .before .before .before .before .before .before .before .before .before .before .pre .0), (omega (arith, items-long (e .is), pack-fit t (c .before .before .before .before .before .before .before)), items-asked (e .is) .1, items-fit e (c .before .before .before .before .put-row .ensures)))
 
 pack-rows-add-k : (t : ℕ) → pack-rows-lts.Need-add-k (pack-claims t) (pack-rows-at t) pack-rows.Post pack-rows-Inv-loop pack-rows-μ-loop
-pack-rows-add-k t c = omega (arith, items-end (pack-here t (c .before .before .before .before .before .before .before .before .before .before)) (c .before .before .before .before .before .before .before .put-row .ensures) (c .before .before .before .before .before .before .before .before .before .before .before .before .before .before .before .before .before .before .pre .1 .2), c .before .before .item-rows .ensures .0, c .before .before .before .before .before .before .before .before .before .before .before .before .before .before .before .before .before .before .good)
+pack-rows-add-k t c = omega (arith, items-end (pack-here t (c .before .before .before .before .before .before .before .before .before .before)) (c .before .before .before .before .before .before .before .put-row .ensures), c .before .before .item-rows .ensures .0, c .before .before .before .before .before .before .before .before .before .before .before .before .before .before .before .before .before .before .good)
 
 pack-rows-add-n : (t : ℕ) → pack-rows-lts.Need-add-n (pack-claims t) (pack-rows-at t) pack-rows.Post pack-rows-Inv-loop pack-rows-μ-loop
 pack-rows-add-n t c = omega (arith, pack-fit t (c .before .before .before .before .before .before .before .before .before .before), c .before .before .before .before .before .before .before .before .before .before .before .before .before .before .before .loop .inv .few)
 
 pack-rows-loop-less : (t : ℕ) → pack-rows-lts.Need-loop-less (pack-claims t) (pack-rows-at t) pack-rows.Post pack-rows-Inv-loop pack-rows-μ-loop
-pack-rows-loop-less t c = omega (arith, pack-here t (c .before .before .before .before .before .before .before .before .before .before) .pack-is .len, pack-fit t (c .before .before .before .before .before .before .before .before .before .before))
+pack-rows-loop-less t c = omega (arith, pack-room (pack-here t (c .before .before .before .before .before .before .before .before .before .before) .is) .1, pack-fit t (c .before .before .before .before .before .before .before .before .before .before))
 
 pack-rows-loop-again : (t : ℕ) → pack-rows-lts.Need-loop-again (pack-claims t) (pack-rows-at t) pack-rows.Post pack-rows-Inv-loop pack-rows-μ-loop
 pack-rows-loop-again t c = pack-more (pack-here t (c .before .before .before .before .before .before .before .before .before .before)) (c .before .before .before .before .before .before .before .put-row .ensures) (c .before .before .item-rows .ensures)
 
 pack-rows-same-length-2 : (t : ℕ) → pack-rows-lts.Need-same-length-2 (pack-claims t) (pack-rows-at t) pack-rows.Post pack-rows-Inv-loop pack-rows-μ-loop
-pack-rows-same-length-2 t c = c .before .loop .inv .writes .same
+pack-rows-same-length-2 t c = c .before .loop .inv .going .writes .same
 
 pack-rows-returns-2 : (t : ℕ) → pack-rows-lts.Need-returns-2 (pack-claims t) (pack-rows-at t) pack-rows.Post pack-rows-Inv-loop pack-rows-μ-loop
-pack-rows-returns-2 t c = series-done (c .before .loop .inv) (c .loop-test .left)
+pack-rows-returns-2 t c = series-done (c .before .loop .inv .going) (c .loop-test .left)
 
 pub +item-rows+pack-rows-spec : {M : Type 1} → statement M
 +item-rows+pack-rows-spec =

@@ -7,7 +7,11 @@ use borrow.Fn.Kinds.{In}
 use borrow.Fn.PlainCycle.{Measures, is, falls, and}
 use Rattle.items.specs.Meet.{formOf}
 use Rattle.walks.proofs.ItemTurns.{depth, series-deep}
-use Rattle.sheets.proofs.Turns.{LevelWriting, level-start, level-done, entry-fault, EntryAt, entry-room, one-room, one-more, mark-room, series-behind, series-asked, series-more, SeriesWriting, series-start, series-done, pack-fault, PackAt, pack-room, target-room, items-behind, items-asked, items-more}
+use Rattle.stores.proofs.Writing.{each}
+use Rattle.stores.proofs.Entries.{level-start, level-done, entry-fault, entry-room}
+use Rattle.stores.proofs.Packs.{series-start, series-done, pack-fault, pack-room}
+use Rattle.sheets.specs.Meet.{packSheet}
+use Rattle.sheets.proofs.Turns.{LevelSheets, SheetEntry, one-room, one-more, mark-room, series-behind, series-asked, series-more, SeriesSheets, SheetPack, target-room, items-behind, level-asked, items-more}
 use Rattle.sheets.proofs.item_sheet.Reads as item-sheet
 use Rattle.sheets.proofs.item_sheet.Kinds as item-sheet-kinds
 use Rattle.sheets.proofs.+item_sheet+pack_sheet.Lts-item_sheet as item-sheet-lts
@@ -52,14 +56,14 @@ pack-claims t = (pack-head-reads.Asked, pack-head-reads.Learnt, put-target-reads
 -- ---- the item walk
 
 abbrev item-sheet-Inv-loop : item-sheet-lts.InvT-loop
-item-sheet-Inv-loop table s set alone out₀ p₀ k₀ out p k = LevelWriting set (formOf alone) s out₀ out p k
+item-sheet-Inv-loop table s set alone out₀ p₀ k₀ out p k = LevelSheets set (formOf alone) s out₀ out p k
 
 abbrev item-sheet-μ-loop : item-sheet-lts.MeasureT-loop
 item-sheet-μ-loop table s set alone out₀ p₀ k₀ out p k = length s - p
 
 -- the entry at the head that was read
 item-here : (t : ℕ) (a : item-sheet-lts.After-h (item-claims t) (item-sheet-at t) item-sheet.Post item-sheet-Inv-loop item-sheet-μ-loop)
-    → EntryAt (a .before .before .before .before .before .before .before .before .before .args .set) (formOf (a .before .before .before .before .before .before .before .before .before .args .alone)) (a .before .before .before .before .before .before .before .before .before .args .s .now) (a .before .before .before .before .before .before .before .before .before .args .out .now)
+    → SheetEntry (a .before .before .before .before .before .before .before .before .before .args .set) (formOf (a .before .before .before .before .before .before .before .before .before .args .alone)) (a .before .before .before .before .before .before .before .before .before .args .s .now) (a .before .before .before .before .before .before .before .before .before .args .out .now)
     (a .before .before .before .before .before .loop .out) (a .before .before .before .before .before .loop .p) (a .before .before .before .before .before .loop .k) (a .h .given .0 .0) (a .h .given .0 .1 .0) (a .h .given .0 .1 .1 .0) (a .h .given .0 .1 .1 .1 .0)
 item-here t a = record {
   going = a .before .before .before .before .before .loop .inv;
@@ -68,11 +72,12 @@ item-here t a = record {
   reads = a .before .before .item-head .ensures;
   whole = a .h .given .1;
   bytes = λ i. a .before .before .before .before .before .before .before .shared-slice-known2 .given i .fits;
-  asked = a .before .before .before .before .before .before .before .before .before .pre .1 .1;
+  most = a .before .before .before .before .before .before .before .before .before .pre .1 .1 .0;
+  room = a .before .before .before .before .before .before .before .before .before .pre .1 .1 .2;
 }
 
 item-sheet-loop-holds : (t : ℕ) → item-sheet-lts.Need-loop-holds (item-claims t) (item-sheet-at t) item-sheet.Post item-sheet-Inv-loop item-sheet-μ-loop
-item-sheet-loop-holds t c = level-start (c .before .before .before .args .set) (formOf (c .before .before .before .args .alone)) _ _ (c .before .before .before .pre .1 .1 .1)
+item-sheet-loop-holds t c = level-start _ _ _ tt _ _ (c .before .before .before .pre .1 .1 .1)
 
 item-sheet-sub-item-head : (t : ℕ) → item-sheet-lts.Need-sub-item-head (item-claims t) (item-sheet-at t) item-sheet.Post item-sheet-Inv-loop item-sheet-μ-loop
 item-sheet-sub-item-head t c = search needs
@@ -93,10 +98,10 @@ item-sheet-enum-told : (t : ℕ) → item-sheet-lts.Need-enum-told (item-claims 
 item-sheet-enum-told t c = search needs
 
 item-sheet-same-length : (t : ℕ) → item-sheet-lts.Need-same-length (item-claims t) (item-sheet-at t) item-sheet.Post item-sheet-Inv-loop item-sheet-μ-loop
-item-sheet-same-length t c = c .before .before .before .before .before .loop .inv .same
+item-sheet-same-length t c = c .before .before .before .before .before .loop .inv .writes .same
 
 item-sheet-returns : (t : ℕ) → item-sheet-lts.Need-returns (item-claims t) (item-sheet-at t) item-sheet.Post item-sheet-Inv-loop item-sheet-μ-loop
-item-sheet-returns t c = entry-fault (c .before .before .before .before .before .before .before .before .before .args .set) (formOf (c .before .before .before .before .before .before .before .before .before .args .alone)) (c .before .before .before .before .before .loop .inv) (c .before .before .before .before .loop-test .taken) (c .before .before .item-head .ensures) (c .enum-told .given .1)
+item-sheet-returns t c = entry-fault (c .before .before .before .before .before .loop .inv) (c .before .before .before .before .loop-test .taken) (c .before .before .item-head .ensures) (c .enum-told .given .1)
 
 item-sheet-add-from : (t : ℕ) → item-sheet-lts.Need-add-from (item-claims t) (item-sheet-at t) item-sheet.Post item-sheet-Inv-loop item-sheet-μ-loop
 item-sheet-add-from t c = omega (arith, entry-room (item-here t (c .before)))
@@ -135,7 +140,7 @@ item-sheet-pack-sheet-requires : (t : ℕ) → item-sheet-lts.Need-pack-sheet-re
 item-sheet-pack-sheet-requires t c κs = (omega (arith, series-deep (c .before .before .before .before .before .before .before .before .before .before .before .before .before .before .before .before .before .before .args .set) (c .before .before .before .before .before .before .before .before .before .h .given .0 .0) (c .before .before .before .before .before .before .before .is-series .ensures) (c .before .before .before .before .before .before .if1 .taken), c .before .before .before .before .before .before .before .before .before .before .before .before .before .before .before .before .before .before .pre .0), (c .before .before .before .before .before .before .before .before .before .before .before .before .before .before .before .before .before .before .pre .1 .0, series-asked (item-here t (c .before .before .before .before .before .before .before .before .before)) (c .before .before .before .before .before .before .before .is-series .ensures) (c .before .before .before .before .before .before .if1 .taken) (c .before .before .before .before .put-number .ensures)))
 
 item-sheet-add-k : (t : ℕ) → item-sheet-lts.Need-add-k (item-claims t) (item-sheet-at t) item-sheet.Post item-sheet-Inv-loop item-sheet-μ-loop
-item-sheet-add-k t c = omega (arith, series-more (item-here t (c .before .before .before .before .before .before .before .before .before .before .before .before)) (c .before .before .before .before .before .before .before .before .before .before .is-series .ensures) (c .before .before .before .before .before .before .before .before .before .if1 .taken) (c .before .before .before .before .before .before .before .put-number .ensures) (c .before .before .pack-sheet .ensures) .sum, c .before .before .before .before .before .before .before .before .before .before .before .before .before .before .before .before .before .before .before .before .before .pre .1 .1 .2, c .before .before .before .before .before .before .before .before .before .before .before .before .before .before .before .before .before .before .before .before .before .good)
+item-sheet-add-k t c = omega (arith, series-more (item-here t (c .before .before .before .before .before .before .before .before .before .before .before .before)) (c .before .before .before .before .before .before .before .before .before .before .is-series .ensures) (c .before .before .before .before .before .before .before .before .before .if1 .taken) (c .before .before .before .before .before .before .before .put-number .ensures) (c .before .before .pack-sheet .ensures) .writes .sum, c .before .before .before .before .before .before .before .before .before .before .before .before .before .before .before .before .before .before .before .before .before .pre .1 .1 .2, c .before .before .before .before .before .before .before .before .before .before .before .before .before .before .before .before .before .before .before .before .before .good)
 
 item-sheet-sub-put-plain : (t : ℕ) → item-sheet-lts.Need-sub-put-plain (item-claims t) (item-sheet-at t) item-sheet.Post item-sheet-Inv-loop item-sheet-μ-loop
 item-sheet-sub-put-plain t c = omega (arith, entry-room (item-here t (c .before .before .before .before)))
@@ -162,22 +167,22 @@ item-sheet-loop-again-2 : (t : ℕ) → item-sheet-lts.Need-loop-again-2 (item-c
 item-sheet-loop-again-2 t c = one-more (item-here t (c .before .before .before .before .before .before .before .before)) (c .before .before .before .before .before .before .is-series .ensures) (c .before .before .before .before .before .if1 .left) (c .before .before .put-plain .ensures)
 
 item-sheet-same-length-2 : (t : ℕ) → item-sheet-lts.Need-same-length-2 (item-claims t) (item-sheet-at t) item-sheet.Post item-sheet-Inv-loop item-sheet-μ-loop
-item-sheet-same-length-2 t c = c .before .loop .inv .same
+item-sheet-same-length-2 t c = c .before .loop .inv .writes .same
 
 item-sheet-returns-2 : (t : ℕ) → item-sheet-lts.Need-returns-2 (item-claims t) (item-sheet-at t) item-sheet.Post item-sheet-Inv-loop item-sheet-μ-loop
-item-sheet-returns-2 t c = level-done (c .before .before .before .before .before .args .set) (formOf (c .before .before .before .before .before .args .alone)) _ _ (c .before .loop .inv) (c .loop-test .left)
+item-sheet-returns-2 t c = level-done (c .before .loop .inv) (c .loop-test .left)
 
 -- ---- the pack walk
 
 abbrev pack-sheet-Inv-loop : pack-sheet-lts.InvT-loop
-pack-sheet-Inv-loop table s alone out₀ p₀ k₀ out p k = SeriesWriting (formOf alone) s out₀ out p k
+pack-sheet-Inv-loop table s alone out₀ p₀ k₀ out p k = SeriesSheets (formOf alone) s out₀ out p k
 
 abbrev pack-sheet-μ-loop : pack-sheet-lts.MeasureT-loop
 pack-sheet-μ-loop table s alone out₀ p₀ k₀ out p k = length s - p
 
 -- the pack at the head that was read
 pack-at : (t : ℕ) (a : pack-sheet-lts.After-h (pack-claims t) (pack-sheet-at t) pack-sheet.Post pack-sheet-Inv-loop pack-sheet-μ-loop)
-    → PackAt (formOf (a .before .before .before .before .before .before .before .before .before .args .alone)) (a .before .before .before .before .before .before .before .before .before .args .s .now) (a .before .before .before .before .before .before .before .before .before .args .out .now)
+    → SheetPack (formOf (a .before .before .before .before .before .before .before .before .before .args .alone)) (a .before .before .before .before .before .before .before .before .before .args .s .now) (a .before .before .before .before .before .before .before .before .before .args .out .now)
     (a .before .before .before .before .before .loop .out) (a .before .before .before .before .before .loop .p) (a .before .before .before .before .before .loop .k) (a .h .given .0 .0) (a .h .given .0 .1 .0) (a .h .given .0 .1 .1 .0) (a .h .given .0 .1 .1 .1 .0)
 pack-at t a = record {
   going = a .before .before .before .before .before .loop .inv;
@@ -186,11 +191,12 @@ pack-at t a = record {
   reads = a .before .before .pack-head .ensures;
   whole = a .h .given .1;
   bytes = λ i. a .before .before .before .before .before .before .before .shared-slice-known2 .given i .fits;
-  asked = a .before .before .before .before .before .before .before .before .before .pre .1 .1;
+  most = a .before .before .before .before .before .before .before .before .before .pre .1 .1 .0;
+  room = a .before .before .before .before .before .before .before .before .before .pre .1 .1 .2;
 }
 
 pack-sheet-loop-holds : (t : ℕ) → pack-sheet-lts.Need-loop-holds (pack-claims t) (pack-sheet-at t) pack-sheet.Post pack-sheet-Inv-loop pack-sheet-μ-loop
-pack-sheet-loop-holds t c = series-start _ _ _ (c .before .before .before .pre .1 .1 .1)
+pack-sheet-loop-holds t c = series-start (each packSheet) _ tt _ _ (c .before .before .before .pre .1 .1 .1)
 
 pack-sheet-sub-pack-head : (t : ℕ) → pack-sheet-lts.Need-sub-pack-head (pack-claims t) (pack-sheet-at t) pack-sheet.Post pack-sheet-Inv-loop pack-sheet-μ-loop
 pack-sheet-sub-pack-head t c = search needs
@@ -211,10 +217,10 @@ pack-sheet-enum-told : (t : ℕ) → pack-sheet-lts.Need-enum-told (pack-claims 
 pack-sheet-enum-told t c = search needs
 
 pack-sheet-same-length : (t : ℕ) → pack-sheet-lts.Need-same-length (pack-claims t) (pack-sheet-at t) pack-sheet.Post pack-sheet-Inv-loop pack-sheet-μ-loop
-pack-sheet-same-length t c = c .before .before .before .before .before .loop .inv .same
+pack-sheet-same-length t c = c .before .before .before .before .before .loop .inv .writes .same
 
 pack-sheet-returns : (t : ℕ) → pack-sheet-lts.Need-returns (pack-claims t) (pack-sheet-at t) pack-sheet.Post pack-sheet-Inv-loop pack-sheet-μ-loop
-pack-sheet-returns t c = pack-fault _ (c .before .before .before .before .before .loop .inv) (c .before .before .before .before .loop-test .taken) (c .before .before .pack-head .ensures) (c .enum-told .given .1)
+pack-sheet-returns t c = pack-fault (c .before .before .before .before .before .loop .inv) (c .before .before .before .before .loop-test .taken) (c .before .before .pack-head .ensures) (c .enum-told .given .1)
 
 pack-sheet-add-from : (t : ℕ) → pack-sheet-lts.Need-add-from (pack-claims t) (pack-sheet-at t) pack-sheet.Post pack-sheet-Inv-loop pack-sheet-μ-loop
 pack-sheet-add-from t c = omega (arith, pack-room (pack-at t (c .before)))
@@ -250,10 +256,10 @@ pack-sheet-part-item-sheet-end-2 : (t : ℕ) → pack-sheet-lts.Need-part-item-s
 pack-sheet-part-item-sheet-end-2 t c = search needs
 
 pack-sheet-item-sheet-requires : (t : ℕ) → pack-sheet-lts.Need-item-sheet-requires (pack-claims t) (pack-sheet-at t) pack-sheet.Post pack-sheet-Inv-loop pack-sheet-μ-loop
-pack-sheet-item-sheet-requires t c κs = (omega (arith, c .before .before .before .before .before .before .before .before .before .before .before .before .before .before .before .before .pre .0), (c .before .before .before .before .before .before .before .before .before .before .before .before .before .before .before .before .pre .1 .0, items-asked (pack-at t (c .before .before .before .before .before .before .before)) (c .before .before .before .before .put-target .ensures)))
+pack-sheet-item-sheet-requires t c κs = (omega (arith, c .before .before .before .before .before .before .before .before .before .before .before .before .before .before .before .before .pre .0), (c .before .before .before .before .before .before .before .before .before .before .before .before .before .before .before .before .pre .1 .0, level-asked (pack-at t (c .before .before .before .before .before .before .before)) (c .before .before .before .before .put-target .ensures)))
 
 pack-sheet-add-k : (t : ℕ) → pack-sheet-lts.Need-add-k (pack-claims t) (pack-sheet-at t) pack-sheet.Post pack-sheet-Inv-loop pack-sheet-μ-loop
-pack-sheet-add-k t c = omega (arith, items-more (pack-at t (c .before .before .before .before .before .before .before .before .before .before)) (c .before .before .before .before .before .before .before .put-target .ensures) (c .before .before .item-sheet .ensures) .sum, c .before .before .before .before .before .before .before .before .before .before .before .before .before .before .before .before .before .before .before .pre .1 .1 .2, c .before .before .before .before .before .before .before .before .before .before .before .before .before .before .before .before .before .before .before .good)
+pack-sheet-add-k t c = omega (arith, items-more (pack-at t (c .before .before .before .before .before .before .before .before .before .before)) (c .before .before .before .before .before .before .before .put-target .ensures) (c .before .before .item-sheet .ensures) .writes .sum, c .before .before .before .before .before .before .before .before .before .before .before .before .before .before .before .before .before .before .before .pre .1 .1 .2, c .before .before .before .before .before .before .before .before .before .before .before .before .before .before .before .before .before .before .before .good)
 
 pack-sheet-loop-less : (t : ℕ) → pack-sheet-lts.Need-loop-less (pack-claims t) (pack-sheet-at t) pack-sheet.Post pack-sheet-Inv-loop pack-sheet-μ-loop
 pack-sheet-loop-less t c = omega (arith, pack-room (pack-at t (c .before .before .before .before .before .before .before .before .before .before)))
@@ -262,10 +268,10 @@ pack-sheet-loop-again : (t : ℕ) → pack-sheet-lts.Need-loop-again (pack-claim
 pack-sheet-loop-again t c = items-more (pack-at t (c .before .before .before .before .before .before .before .before .before .before)) (c .before .before .before .before .before .before .before .put-target .ensures) (c .before .before .item-sheet .ensures)
 
 pack-sheet-same-length-2 : (t : ℕ) → pack-sheet-lts.Need-same-length-2 (pack-claims t) (pack-sheet-at t) pack-sheet.Post pack-sheet-Inv-loop pack-sheet-μ-loop
-pack-sheet-same-length-2 t c = c .before .loop .inv .same
+pack-sheet-same-length-2 t c = c .before .loop .inv .writes .same
 
 pack-sheet-returns-2 : (t : ℕ) → pack-sheet-lts.Need-returns-2 (pack-claims t) (pack-sheet-at t) pack-sheet.Post pack-sheet-Inv-loop pack-sheet-μ-loop
-pack-sheet-returns-2 t c = series-done _ _ _ (c .before .loop .inv) (c .loop-test .left)
+pack-sheet-returns-2 t c = series-done (c .before .loop .inv) (c .loop-test .left)
 
 pub +item-sheet+pack-sheet-spec : {M : Type 1} → statement M
 +item-sheet+pack-sheet-spec =

@@ -3,7 +3,8 @@ use mathlib.Core.Logic.{⊎-elim}
 use borrow.Author.Needs.{needs}
 use Rattle.items.proofs.rule_of.Reads as rule-of-reads
 use Rattle.items.proofs.short_size.Reads as short-size-reads
-use Rattle.sheets.proofs.Records.{NoSeal, seal-stored, other-tag, of-pack, short-less, plain-room, plain-stored}
+use Rattle.stores.proofs.Shortest.{NoSeal, other-tag, of-pack, short-less}
+use Rattle.sheets.proofs.Records.{seal-stored, plain-room, plain-stored}
 use Rattle.sheets.proofs.put_item.Reads as put-item-reads
 use Rattle.sheets.proofs.put_plain.Statement.{statement}
 use Rattle.sheets.proofs.put_plain.Reads as reads

@@ -1,0 +1,4 @@
+pub mod Forms
+pub mod Pieces
+pub mod Turns
+pub mod Packet

@@ -1,0 +1,7 @@
+pub mod Values
+pub mod Opens
+pub mod Parts
+pub mod Runs
+pub mod PartTurns
+pub mod TargetTurns
+pub mod Sheeting

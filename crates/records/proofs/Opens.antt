@@ -1,0 +1,109 @@
+-- A `TS` or a `TG` before what it holds, and a record of either level, as the code reads them.
+use mathlib.Core.Path.{_≡_, sym, ap, _∙_}
+use Prim.Native.Nat.{ℕ, _+_, _-_, _^_, _≤_, _<_}
+use native.Mathlib.Omega.{arith}
+use mathlib.Core.Bool.{Bool, true, false, not}
+use mathlib.Core.List.{List}
+use lib.ListN.{length, take, drop, length-drop}
+use lib.Seq.{drop-drop}
+use lib.Dec.{ltb}
+use borrow.Author.Tests.{le-leb, lt-leb, lt-ltb, le-ltb}
+use Rattle.format.specs.Answer.{ok, _>>=_, need}
+use Rattle.format.specs.Coding.{bytesNumber}
+use Rattle.format.specs.Lists.{has}
+use Rattle.format.specs.Table.{Form, set, standing}
+use Rattle.format.specs.Sheet.{IT, TS, TG, is, valueAt}
+use Rattle.coding.proofs.Rooms.{tail-part}
+use Rattle.items.specs.Meet.{answerOf, levelOf}
+use Rattle.items.proofs.Tests.{need-so, need-not}
+use Rattle.heads.specs.Meet.{peek, Past}
+use Rattle.walks.specs.declared.Piece.{Piece}
+use Rattle.walks.specs.declared.Piece.the-variants as piece
+use Rattle.walks.proofs.Pieces.{answer-none, answer-some}
+use Rattle.records.specs.Meet.{pieceBy, valueWhole, seriesWhole, targetWhole, seriesOpens, targetOpens, partPiece}
+
+-- ---- the series; x: a `TG` follows its mark
+
+module _ (f : Form) (s : List ℕ) (p : ℕ) {x : Bool} (ex : x ≡ is TG (drop (p + 2) s)) (seen : List ℕ) where
+  follows : is TG (drop 2 (drop p s)) ≡ x
+  follows = ap (is TG) (drop-drop 2 p s) ∙ sym ex
+
+  pub series-alone : x ≡ false → piece.Fault 17 ≡ pieceBy seriesWhole (seriesOpens f seen (drop p s))
+  unfolding seriesOpens
+  series-alone tx = sym (ap (pieceBy seriesWhole) (need-not _ _ _ (follows ∙ tx)))
+
+  module _ (tx : x ≡ true) where
+    opens : seriesOpens f seen (drop p s) ≡ standing set f seen 101 true
+    unfolding seriesOpens
+    opens = need-so _ _ _ (follows ∙ tx)
+
+    -- k is the answer on where it stands
+    pub series-standing : (k : ℕ) → answerOf k ≡ standing set f seen 101 true → (k ≡ 0 → ⊥) → piece.Fault k ≡ pieceBy seriesWhole (seriesOpens f seen (drop p s))
+    series-standing k ek z = sym (ap (pieceBy seriesWhole) (opens ∙ answer-some k ek z))
+
+    pub series-whole : (k : ℕ) → answerOf k ≡ standing set f seen 101 true → k ≡ 0 → piece.Whole 101 2 0 0 ≡ pieceBy seriesWhole (seriesOpens f seen (drop p s))
+    series-whole k ek z = sym (ap (pieceBy seriesWhole) (opens ∙ answer-none k ek z))
+
+-- ---- a target
+
+module _ (s : List ℕ) (p : ℕ) (seen : List ℕ) where
+  abbrev idAt : ℕ
+  idAt = bytesNumber (take 8 (drop 2 (drop p s)))
+
+  pub target-cut : length s - p < 10 → piece.Fault 17 ≡ pieceBy targetWhole (targetOpens seen (drop p s))
+  unfolding targetOpens
+  target-cut h = sym (ap (pieceBy targetWhole) (need-not _ _ _ (lt-leb 10 (length (drop p s)) (rw length-drop h))))
+
+  module _ (h : 10 ≤ length s - p) where
+    ten : targetOpens seen (drop p s) ≡ (need (ltb idAt (2 ^ 63)) 17 >>= λ _. need (not (has idAt seen)) 10 >>= λ _. ok idAt)
+    unfolding targetOpens
+    ten = need-so _ _ _ (le-leb 10 (length (drop p s)) (rw length-drop h))
+
+    -- i is its id
+    module _ {i : ℕ} (ei : i ≡ bytesNumber (take 8 (take (length s - (p + 2)) (drop (p + 2) s)))) where
+      id-is : idAt ≡ i
+      id-is = ap (λ t. bytesNumber (take 8 t)) (drop-drop 2 p s ∙ sym (tail-part (p + 2) s)) ∙ sym ei
+
+      pub target-high : 9223372036854775807 < i → piece.Fault 17 ≡ pieceBy targetWhole (targetOpens seen (drop p s))
+      target-high g = sym (ap (pieceBy targetWhole) (ten ∙ need-not _ _ _ (le-ltb idAt (2 ^ 63) (omega (arith, id-is)))))
+
+      module _ (g : i ≤ 9223372036854775807) where
+        low-is : targetOpens seen (drop p s) ≡ (need (not (has idAt seen)) 10 >>= λ _. ok idAt)
+        low-is = ten ∙ need-so _ _ _ (lt-ltb idAt (2 ^ 63) (omega (arith, id-is)))
+
+        -- x: a target before has this id
+        pub target-again : {x : Bool} → x ≡ has i seen → x ≡ true → piece.Fault 10 ≡ pieceBy targetWhole (targetOpens seen (drop p s))
+        target-again ex tx = sym (ap (pieceBy targetWhole) (low-is ∙ need-not _ _ _ (ap (λ k. not (has k seen)) id-is ∙ ap not (sym ex ∙ tx))))
+
+        pub target-whole : {x : Bool} → x ≡ has i seen → x ≡ false → piece.Whole i 10 0 0 ≡ pieceBy targetWhole (targetOpens seen (drop p s))
+        target-whole ex tx =
+            ap targetWhole (sym id-is)
+            ∙ sym (ap (pieceBy targetWhole) (low-is ∙ need-so _ _ _ (ap (λ k. not (has k seen)) id-is ∙ ap not (sym ex ∙ tx))))
+
+-- ---- a record of the set, or a `TI`; b: it is the set's
+
+pub past-set : {b : Bool} {s : List ℕ} {p top low : ℕ} {seen : List ℕ} → b ≡ true → Past (peek true false b) s p top low seen → Past (peek true false true) s p top low seen
+past-set {b = true} tb q = q
+past-set {b = false} tb q = absurd (let z : _≡_ {A = ℕ} 0 1 = cc in omega arith)
+
+module _ (f : Form) (seen u : List ℕ) where
+  pub part-inner : {b : Bool} → b ≡ false → {r : Piece} → r ≡ pieceBy valueWhole (valueAt (levelOf b) f seen u) → r ≡ partPiece (levelOf b) f seen u
+  unfolding partPiece
+  part-inner {b = false} tb e = e
+  part-inner {b = true} tb e = absurd (let z : _≡_ {A = ℕ} 0 1 = cc in omega arith)
+
+  -- x: an `IT` stands here
+  module _ {b : Bool} (tb : b ≡ true) {x : Bool} (ex : x ≡ is IT u) where
+    pub part-value : x ≡ true → {r : Piece} → r ≡ pieceBy valueWhole (valueAt (levelOf b) f seen u) → r ≡ partPiece (levelOf b) f seen u
+    unfolding partPiece
+    part-value tx e = rw tb (rw (sym ex ∙ tx, partPiece) (rw tb at e))
+
+    -- y: a `TS`
+    module _ (tx : x ≡ false) {y : Bool} (ey : y ≡ is TS u) where
+      pub part-series : y ≡ true → {r : Piece} → r ≡ pieceBy seriesWhole (seriesOpens f seen u) → r ≡ partPiece (levelOf b) f seen u
+      unfolding partPiece
+      part-series ty e = rw tb (rw (sym ex ∙ tx, partPiece, sym ey ∙ ty, partPiece) e)
+
+      pub part-unknown : y ≡ false → piece.Fault 17 ≡ partPiece (levelOf b) f seen u
+      unfolding partPiece
+      part-unknown ty = rw tb (rw (sym ex ∙ tx, partPiece, sym ey ∙ ty, partPiece))

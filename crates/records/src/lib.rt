@@ -1,0 +1,282 @@
+// The walks that check a sheet: one record at a time, the records of a level and the targets of the series, with the sizes of what they find.
+ghost use mathlib.Core.Path.{_≡_};
+ghost use Prim.Native.Nat.{ℕ, _≤_};
+ghost use mathlib.Core.List.{List};
+ghost use mathlib.Core.Bool.{true, false};
+ghost use lib.ListN.{length, drop};
+ghost use Rattle.format.specs.Sheet.{valueAt};
+ghost use Rattle.items.specs.Meet.{formOf, levelOf, itemTable};
+ghost use Rattle.heads.specs.Meet.{peek, Past};
+ghost use Rattle.walks.specs.Meet.{laterBy, seriesFrom, Within};
+ghost use Rattle.records.specs.Meet.{pieceBy, valueWhole, seriesWhole, targetWhole, seriesOpens, targetOpens, partPiece, moreAt, recordsWalk, targetsWalk};
+use heads::records::Field;
+use walks::Piece;
+use walks::Sizes;
+use walks::Walked;
+
+// ---- one record; no key before p is above top or below low
+
+// An `IT` or a `TI`, its mark passed over: 17, 7, 9, 13, 14, 11, 12, and 17 for a number that is not shortest.
+fn value_at(table: &[u64], s: &[u8], p: usize, set: bool, alone: bool, top: u64, low: u64) -> Piece
+    requires { ⌜ (now table ≡ itemTable) × (p ≤ length (now s)) ⌝ }
+    ensures { λ r. ⌜ ((seen : List ℕ) → Past (peek true false set) (now (s .entry)) p top low seen → r ≡ pieceBy valueWhole (valueAt (levelOf set) (formOf alone) seen (drop p (now (s .entry))))) ⌝ }
+{
+    let t = &s[p..];
+    let h = heads::records::field_of(t, set);
+    let Field::Whole { tag, size } = h else {
+        return Piece::Fault(17);
+    };
+    if size == 0 {
+        return Piece::Fault(7);
+    }
+    let dup = heads::is_seen(s, p, top, low, tag, true, false, set);
+    let k = items::standing_of(set, alone, dup, p == 0, tag, true);
+    if k != 0 {
+        return Piece::Fault(k);
+    }
+    let rule = items::rule_of(table, set, tag);
+    let v = &t[6..6 + size];
+    let m = items::valued_of(rule, v);
+    if m != 0 {
+        return Piece::Fault(m);
+    }
+    let short = items::short_size(rule, v);
+    if short != size {
+        return Piece::Fault(17);
+    }
+    Piece::Whole {
+        tag,
+        from: 6,
+        size,
+        short,
+    }
+}
+
+// A `TS`, before its targets: 17 if no `TG` follows, 9, 14.
+fn series_at(s: &[u8], p: usize, alone: bool, top: u64, low: u64) -> Piece
+    requires { ⌜ p ≤ length (now s) ⌝ }
+    ensures { λ r. ⌜ ((seen : List ℕ) → Past (peek true false true) (now (s .entry)) p top low seen → r ≡ pieceBy seriesWhole (seriesOpens (formOf alone) seen (drop p (now (s .entry))))) ⌝ }
+{
+    if heads::records::is_mark(s, p + 2, b'T', b'G') {
+        let dup = heads::is_seen(s, p, top, low, 101, true, false, true);
+        let k = items::standing_of(true, alone, dup, p == 0, 101, true);
+        if k != 0 {
+            return Piece::Fault(k);
+        }
+        return Piece::Whole {
+            tag: 101,
+            from: 2,
+            size: 0,
+            short: 0,
+        };
+    }
+    Piece::Fault(17)
+}
+
+// The record at p of a level s: of the set an `IT` or a `TS`, else a `TI`.
+pub fn part_at(
+    table: &[u64],
+    s: &[u8],
+    p: usize,
+    set: bool,
+    alone: bool,
+    top: u64,
+    low: u64,
+) -> Piece
+    requires { ⌜ (now table ≡ itemTable) × (p ≤ length (now s)) ⌝ }
+    ensures { λ r. ⌜ ((seen : List ℕ) → Past (peek true false set) (now (s .entry)) p top low seen → r ≡ partPiece (levelOf set) (formOf alone) seen (drop p (now (s .entry)))) ⌝ }
+{
+    if set {
+        if heads::records::is_mark(s, p, b'I', b'T') {
+            return value_at(table, s, p, set, alone, top, low);
+        }
+        if heads::records::is_mark(s, p, b'T', b'S') {
+            return series_at(s, p, alone, top, low);
+        }
+        return Piece::Fault(17);
+    }
+    value_at(table, s, p, set, alone, top, low)
+}
+
+// The `TG` at p, before its `TI`s: 17, 10. Its id stands for a tag.
+fn target_at(s: &[u8], p: usize, top: u64, low: u64) -> Piece
+    requires { ⌜ p ≤ length (now s) ⌝ }
+    ensures { λ r. ⌜ ((seen : List ℕ) → Past (peek true true false) (now (s .entry)) p top low seen → r ≡ pieceBy targetWhole (targetOpens seen (drop p (now (s .entry))))) ⌝ }
+{
+    if s.len() - p < 10 {
+        return Piece::Fault(17);
+    }
+    let id = coding::number_of(&s[p + 2..], 8);
+    if 9223372036854775807 < id {
+        return Piece::Fault(17);
+    }
+    if heads::is_seen(s, p, top, low, id, true, true, false) {
+        return Piece::Fault(10);
+    }
+    Piece::Whole {
+        tag: id,
+        from: 10,
+        size: 0,
+        short: 0,
+    }
+}
+
+// ---- walks
+
+// A refusal k bytes further on.
+fn later(w: Walked, k: usize) -> Walked
+    requires { ⌜ Within w 65536 × (k ≤ 65536) ⌝ }
+    ensures { λ r. ⌜ r ≡ laterBy k w ⌝ }
+{
+    match w {
+        Walked::Good { sizes, mark } => Walked::Good { sizes, mark },
+        Walked::Bad { number, place } => Walked::Bad {
+            number,
+            place: k + place,
+        },
+    }
+}
+
+// The series, given its targets.
+fn series_of(w: Walked) -> Walked
+    requires { ⌜ Within w 65536 ⌝ }
+    ensures { λ r. ⌜ r ≡ seriesFrom 2 w ⌝ }
+{
+    match w {
+        Walked::Good { sizes, mark: _ } => Walked::Good {
+            sizes: walks::series_sizes(sizes),
+            mark: false,
+        },
+        Walked::Bad { number, place } => Walked::Bad {
+            number,
+            place: 2 + place,
+        },
+    }
+}
+
+// Whether a level goes on at p: the set to its end, a target while `TI`s stand there.
+fn goes_on(s: &[u8], p: usize, set: bool) -> bool
+    ensures { λ r. ⌜ r ≡ moreAt (levelOf set) (drop p (now (s .entry))) ⌝ }
+{
+    if set {
+        return true;
+    }
+    heads::records::is_mark(s, p, b'T', b'I')
+}
+
+// The records of a level: the set, or a target. A part takes as many bytes as it adds to the sheet.
+pub fn item_records(table: &[u64], s: &[u8], set: bool, alone: bool) -> Walked
+    requires { ⌜ (now table ≡ itemTable) × (length (now s) ≤ 65536) ⌝ }
+    ensures { λ r. ⌜ (r ≡ recordsWalk (levelOf set) (formOf alone) (now (s .entry))) × Within r (length (now (s .entry))) ⌝ }
+{
+    let mut p: usize = 0;
+    let mut sum = Sizes {
+        sheet: 0,
+        rows: 0,
+        normal: 0,
+        inner: 0,
+    };
+    let mut mark = false;
+    let mut top: u64 = 0;
+    let mut low: u64 = 18446744073709551615;
+    while p < s.len() {
+        if !goes_on(s, p, set) {
+            return Walked::Good { sizes: sum, mark };
+        }
+        let a = part_at(table, s, p, set, alone, top, low);
+        let Piece::Whole {
+            tag,
+            from: _,
+            size,
+            short: _,
+        } = a
+        else {
+            return walks::stop(a, p);
+        };
+        let w = if walks::is_series(set, tag) {
+            series_of(target_records(table, &s[p + 2..], alone))
+        } else {
+            walks::one_item(set, tag, size)
+        };
+        let Walked::Good { sizes, mark: m } = w else {
+            return later(w, p);
+        };
+        sum = walks::plus(sum, sizes);
+        mark = walks::either(mark, m);
+        top = walks::larger(top, tag);
+        low = walks::smaller(low, tag);
+        p += sizes.sheet;
+    }
+    Walked::Good { sizes: sum, mark }
+}
+
+// The targets of the series.
+pub fn target_records(table: &[u64], s: &[u8], alone: bool) -> Walked
+    requires { ⌜ (now table ≡ itemTable) × (length (now s) ≤ 65536) ⌝ }
+    ensures { λ r. ⌜ (r ≡ targetsWalk (formOf alone) (now (s .entry))) × Within r (length (now (s .entry))) ⌝ }
+{
+    let mut p: usize = 0;
+    let mut sum = Sizes {
+        sheet: 0,
+        rows: 0,
+        normal: 0,
+        inner: 0,
+    };
+    let mut top: u64 = 0;
+    let mut low: u64 = 18446744073709551615;
+    while p < s.len() {
+        if !heads::records::is_mark(s, p, b'T', b'G') {
+            return Walked::Good {
+                sizes: sum,
+                mark: false,
+            };
+        }
+        let a = target_at(s, p, top, low);
+        let Piece::Whole {
+            tag: id,
+            from: _,
+            size: _,
+            short: _,
+        } = a
+        else {
+            return walks::stop(a, p);
+        };
+        let from = p + 10;
+        let w = item_records(table, &s[from..], false, alone);
+        let Walked::Good { sizes, mark } = w else {
+            return later(w, from);
+        };
+        if walks::either(!alone, mark) {
+            sum = walks::plus(sum, walks::pack_sizes(coding::widths::oid_width(id), sizes));
+            top = walks::larger(top, id);
+            low = walks::smaller(low, id);
+            p = from + sizes.sheet;
+        } else {
+            return Walked::Bad {
+                number: 14,
+                place: p,
+            };
+        }
+    }
+    Walked::Good {
+        sizes: sum,
+        mark: false,
+    }
+}
+
+// ---- the whole sheet
+
+// Its form, the bytes of its packet's set but for the checksum, and those of the series' packs; or the refusal.
+pub enum Sheeted {
+    Fine {
+        alone: bool,
+        normal: usize,
+        inner: usize,
+    },
+    Wrong {
+        number: u64,
+        place: usize,
+    },
+}
+
+pub mod whole; // whole.rt: the whole sheet

@@ -1,7 +1,7 @@
 /* vmti.h -- VMTI packets (MISB ST 0903.6) for C
  *
- * The library reads the packets that aerial detectors send: lists of targets,
- * in one of two forms.
+ * The library reads and writes the packets that aerial detectors send: lists
+ * of targets, in one of two forms.
  *
  *   embedded     only the value, as ST 0601 carries it in Item 74
  *   standalone   the 16-byte key, a BER length, and exactly that many bytes
@@ -26,18 +26,19 @@
  *   VMTI_PLACE(answer)    on success how many bytes were written; on a refusal
  *                         its place
  *
- * The first fault of the packet, left to right, is the one that is answered.
- * Its place is counted from the packet's first byte, and is where the item's
- * tag or the pack's length begins, never the faulty byte within. For a 14 that
- * is found only at the end it is the packet's length; for 1, 2 and a fault of
- * the outer length it is 0; for 16 it is no place but the size needed.
+ * The first fault of the input, left to right, is the one that is answered.
+ * Its place is counted from the input's first byte, and is where the item's
+ * tag, the pack's length or the sheet's record begins, never the faulty byte
+ * within. For a 14 that is found only at the end it is the input's length; for
+ * 1, 2 and a fault of the outer length it is 0; for 16 it is no place but the
+ * size needed.
  *
  *
  * What is lent
  * ------------
  *
  * A buffer is a pointer and a length in bytes. Any alignment will do. Where
- * the length is 0 the pointer is not used and may be NULL. The packet is never
+ * the length is 0 the pointer is not used and may be NULL. The input is never
  * changed, and nothing outside the lengths given is read or written. The two
  * buffers may not overlap. What stood in the output before does not matter.
  *
@@ -59,19 +60,24 @@ extern "C" {
 #define VMTI_EMBEDDED 0
 #define VMTI_STANDALONE 1
 
-/* The most bytes that a packet may have: a longer one is refused with 1. */
+/* The most bytes that a packet may have: a longer one is refused with 1. Room
+ * for so many always suffices for a packet that is written. */
 #define VMTI_PACKET_MOST 8192
 
 /* The most bytes that the sheet of an accepted packet has: room for so many
- * always suffices, and 16 is then never answered. */
+ * always suffices for a sheet, and 16 is then never answered. */
 #define VMTI_SHEET_MOST 40963
+
+/* The most bytes that a sheet may have that is to be written: a longer one is
+ * refused with 1. */
+#define VMTI_SHEET_LIMIT 65536
 
 /* The two parts of the one number. */
 #define VMTI_NUMBER(answer) ((unsigned)((answer) & 255u))
 #define VMTI_PLACE(answer) ((uint64_t)(answer) >> 8)
 
 /* The refusal numbers. */
-#define VMTI_OVER_LIMIT 1           /* the packet is over its limit */
+#define VMTI_OVER_LIMIT 1           /* the packet or the sheet is over its limit, or the packet of a sheet would be */
 #define VMTI_NOT_THE_KEY 2          /* standalone: not this key, or under 16 bytes */
 #define VMTI_CUT_OFF 3              /* tag, id or length cut off by the end of what holds it */
 #define VMTI_BAD_TAG 4              /* tag: first byte 80, value 0, or a third byte needed */
@@ -87,6 +93,9 @@ extern "C" {
 #define VMTI_MISSING 14             /* standalone not beginning with tag 2, or no tag 1 at the end, or pack without tag 17 */
 #define VMTI_CHECKSUM_DIFFERS 15    /* checksum differs */
 #define VMTI_ROOM_TOO_SHORT 16      /* the output is too short; the place is the number of bytes needed */
+#define VMTI_BAD_RECORD 17          /* sheet: cut or unknown record, bad form byte, record where it may not stand, TS
+                                     * without TG, tag 0 or above 16,383, IT with 1 or 101, id of 2^63 or more, or a
+                                     * number that is not shortest */
 
 /* Reads a packet to its sheet.
  *
@@ -136,6 +145,35 @@ extern "C" {
  *     }
  */
 uint64_t vmti_read(uint64_t form, const uint8_t *packet, size_t packet_len, uint8_t *sheet, size_t sheet_room);
+
+/* Writes a sheet to its packet, in the form that the sheet names.
+ *
+ *   sheet        sheet_len bytes, records as vmti_read writes them
+ *   packet       room for packet_room bytes; VMTI_PACKET_MOST always suffices
+ *
+ * Answers with the one number: success with the count of bytes of the packet,
+ * or a refusal: 17, 7, 9 to 14 at a record, or 1 or 16. The rules for an item
+ * are those of a packet; a number must be in its shortest form, and the
+ * records must stand as vmti_read lets them stand.
+ *
+ * The packet has shortest lengths and a fresh checksum. Reading it gives the
+ * very sheet again.
+ */
+uint64_t vmti_write(const uint8_t *sheet, size_t sheet_len, uint8_t *packet, size_t packet_room);
+
+/* Writes a packet's normal form: what vmti_write makes of the sheet that
+ * vmti_read gives, with no sheet between.
+ *
+ *   form         VMTI_EMBEDDED or VMTI_STANDALONE
+ *   packet       packet_len bytes
+ *   out          room for out_room bytes; packet_len always suffices
+ *
+ * Answers with the one number: success with the count of bytes of the normal
+ * form, or a refusal of 1 to 16 as vmti_read's. Two accepted packets mean the
+ * same exactly when their normal forms are equal. Only the numbers that
+ * document 01 lists lose leading zero bytes, and lengths become shortest.
+ */
+uint64_t vmti_normalise(uint64_t form, const uint8_t *packet, size_t packet_len, uint8_t *out, size_t out_room);
 
 #ifdef __cplusplus
 }

@@ -1,4 +1,4 @@
-/* Times vmti_read: prints for each packet its name, its bytes and the nanoseconds of one call, packet to sheet.
+/* Times the calls: prints for each call and packet their names, the packet's bytes and the nanoseconds of one call.
  *
  *   bench FILE.. */
 #define _POSIX_C_SOURCE 199309L
@@ -11,29 +11,29 @@ enum { ROUNDS = 5, ROUND = 200000000 };
 static struct packet p;
 
 /* Nanoseconds of so many calls. */
-static double round_of(unsigned long times)
+static double round_of(int which, unsigned long times)
 {
     struct timespec start, end;
     clock_gettime(CLOCK_MONOTONIC, &start);
     while (times-- > 0)
-        vmti_read(p.form, p.bytes, p.size, sheet, sizeof sheet);
+        calls[which].make(&p);
     clock_gettime(CLOCK_MONOTONIC, &end);
     return 1e9 * (double)(end.tv_sec - start.tv_sec) + (double)(end.tv_nsec - start.tv_nsec);
 }
 
 /* The least of the rounds, for one call. */
-static double time_of(void)
+static double time_of(int which)
 {
     unsigned long times = 1;
     double one, least = 1e30;
     int r;
 
-    while (round_of(times) < ROUND / 8)
+    while (round_of(which, times) < ROUND / 8)
         times *= 2;
-    one = round_of(times) / (double)times;
+    one = round_of(which, times) / (double)times;
     times = one < ROUND ? (unsigned long)(ROUND / one) : 1;
     for (r = 0; r < ROUNDS; r++) {
-        const double all = round_of(times);
+        const double all = round_of(which, times);
         if (all < least)
             least = all;
     }
@@ -42,11 +42,13 @@ static double time_of(void)
 
 int main(int argc, char **argv)
 {
-    int i;
+    int i, which;
     for (i = 1; i < argc; i++) {
         get_packet(&p, argv[i]);
-        printf("%s %zu %.1f\n", p.name, p.size, time_of());
-        fflush(stdout);
+        for (which = 0; which < CALLS; which++) {
+            printf("%s %s %zu %.1f\n", calls[which].name, p.name, p.size, time_of(which));
+            fflush(stdout);
+        }
     }
     return 0;
 }

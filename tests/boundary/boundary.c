@@ -1,9 +1,9 @@
-/* Calls vmti_read on a stream of cases (tests/compare/src/bin/boundary.rs says how it goes) and holds the
+/* Makes the calls of a stream of cases (tests/compare/src/bin/boundary.rs says how it goes) and holds the
  * number, every lent byte and the bytes around them to it.
  *
  *   boundary [heap] < STREAM
  *
- * Packet and sheet each end right before a page that may not be touched or, every other case, start right
+ * Input and output each end right before a page that may not be touched or, every other case, start right
  * after one. With 'heap' each is an exact allocation instead, for valgrind to watch. */
 #define _GNU_SOURCE
 #include <setjmp.h>
@@ -14,9 +14,21 @@
 #include <sys/mman.h>
 #include "vmti.h"
 
-enum { PAGE = 4096, SPAN = 32 * PAGE, AROUND = 64, ROOMS = 2, SHOWN = 5, LAST_OF_READING = 16 };
+enum { PAGE = 4096, SPAN = 32 * PAGE, AROUND = 64, ROOMS = 2, SHOWN = 5 };
 
-/* What the sheet is filled with, and what stands around both: no two bytes near each other are alike. */
+/* The calls, and the numbers that each can answer, in the order of document 01's table. */
+enum { READ, WRITE, NORMALISE, CALLS };
+
+static const struct {
+    const char *name;
+    const char *answers;    /* one sign for each number from 0 on, '+' where the call can answer it */
+} calls[CALLS] = {
+    {"vmti_read", "+++++++++++++++++"},
+    {"vmti_write", "++.....+.++++++.++"},
+    {"vmti_normalise", "+++++++++++++++++"},
+};
+
+/* What the output is filled with, and what stands around both: no two bytes near each other are alike. */
 static uint8_t pattern[SPAN + 256];
 
 static int heap;
@@ -85,11 +97,16 @@ static void take_back(struct lent *l)
 }
 
 /* 0 if the call touched a page that it may not. */
-static int call(uint64_t form, const struct lent *p, const struct lent *s, uint64_t *answer)
+static int call(uint64_t which, uint64_t form, const struct lent *in, const struct lent *out, uint64_t *answer)
 {
     if (sigsetjmp(touched, 0) != 0)
         return 0;
-    *answer = vmti_read(form, p->at, p->size, s->at, s->size);
+    if (which == READ)
+        *answer = vmti_read(form, in->at, in->size, out->at, out->size);
+    else if (which == WRITE)
+        *answer = vmti_write(in->at, in->size, out->at, out->size);
+    else
+        *answer = vmti_normalise(form, in->at, in->size, out->at, out->size);
     return 1;
 }
 
@@ -118,48 +135,69 @@ static size_t get_bytes(uint8_t *to)
     return count;
 }
 
-static void show(const char *why, uint64_t form, const uint8_t *packet, size_t packet_len, size_t room, uint64_t wanted,
-                 uint64_t got)
+static void show(const char *why, uint64_t which, uint64_t form, const uint8_t *input, size_t input_len, size_t room,
+                 uint64_t wanted, uint64_t got)
 {
     size_t i;
-    printf("%s: form %llu, room %zu, packet of %zu:", why, (unsigned long long)form, room, packet_len);
-    for (i = 0; i < packet_len && i < 200; i++)
-        printf(" %02X", packet[i]);
-    printf("%s\n  expected %u at %llu, got %u at %llu\n", i < packet_len ? " .." : "", VMTI_NUMBER(wanted),
+    printf("%s, %s: form %llu, room %zu, input of %zu:", calls[which].name, why, (unsigned long long)form, room, input_len);
+    for (i = 0; i < input_len && i < 200; i++)
+        printf(" %02X", input[i]);
+    printf("%s\n  expected %u at %llu, got %u at %llu\n", i < input_len ? " .." : "", VMTI_NUMBER(wanted),
            (unsigned long long)VMTI_PLACE(wanted), VMTI_NUMBER(got), (unsigned long long)VMTI_PLACE(got));
+}
+
+/* What came up as expected; 1 if a number never did that the call can answer. */
+static int report(uint64_t which, const uint64_t *seen)
+{
+    int missing = 0;
+    size_t n;
+    printf("%s answered as expected: success %llu", calls[which].name, (unsigned long long)seen[0]);
+    for (n = 1; n < strlen(calls[which].answers); n++)
+        if (calls[which].answers[n] == '+')
+            printf(", %zu: %llu", n, (unsigned long long)seen[n]);
+    printf("\n");
+    for (n = 0; n < strlen(calls[which].answers); n++)
+        if (calls[which].answers[n] == '+' && seen[n] == 0) {
+            printf("%zu never came up\n", n);
+            missing = 1;
+        }
+    return missing;
 }
 
 int main(int argc, char **argv)
 {
-    static uint8_t packet[SPAN], after[SPAN];
-    struct lent p, s;
+    static uint8_t input[SPAN], after[SPAN];
+    static uint64_t seen[CALLS][256];
+    struct lent in, out;
     struct sigaction action;
-    uint64_t packets, index, seen[256] = {0};
+    uint64_t inputs, index;
     unsigned long cases = 0, failed = 0;
-    unsigned n;
     int missing = 0;
 
     heap = argc > 1 && strcmp(argv[1], "heap") == 0;
     for (index = 0; index < sizeof pattern; index++)
         pattern[index] = (uint8_t)(0xA5 + 29 * index + index / 256);
-    map(&p);
-    map(&s);
+    map(&in);
+    map(&out);
     memset(&action, 0, sizeof action);
     action.sa_handler = on_touch;
     action.sa_flags = SA_NODEFER;
     if (!heap && (sigaction(SIGSEGV, &action, NULL) != 0 || sigaction(SIGBUS, &action, NULL) != 0))
         die("no handler");
 
-    packets = get_number(8);
-    for (index = 0; index < packets; index++) {
+    inputs = get_number(8);
+    for (index = 0; index < inputs; index++) {
+        const uint64_t which = get_number(8);
         const uint64_t form = get_number(8);
-        const size_t packet_len = get_bytes(packet);
+        const size_t input_len = get_bytes(input);
         unsigned r;
+        if (which >= CALLS)
+            die("no such call");
         for (r = 0; r < ROOMS; r++) {
             const size_t room = get_number(4);
             const uint64_t wanted = get_number(8);
             const size_t written = get_bytes(after);
-            /* both ends of both, whatever the room and the kind of packet, which goes round in sixteens */
+            /* both ends of both, whatever the room and the kind of input, which goes round in sixteens */
             const unsigned turn = (unsigned)(index + index / 16 + r);
             const uint8_t *filled = pattern + cases % 256;
             const char *why = NULL;
@@ -168,37 +206,30 @@ int main(int argc, char **argv)
             if (room > SPAN || written > room)
                 die("a case is too long");
             memcpy(after + written, filled + written, room - written);
-            lend(&p, packet_len, turn & 1, packet);
-            lend(&s, room, turn >> 1 & 1, filled);
-            if (!call(form, &p, &s, &got))
+            lend(&in, input_len, turn & 1, input);
+            lend(&out, room, turn >> 1 & 1, filled);
+            if (!call(which, form, &in, &out, &got))
                 why = "a byte beyond what was lent was touched";
             else if (got != wanted)
                 why = "another number";
-            else if (!is_as_lent(&s, after))
-                why = "another sheet, or a byte around it changed";
-            else if (!is_as_lent(&p, packet))
-                why = "the packet, or a byte around it, changed";
-            take_back(&p);
-            take_back(&s);
+            else if (!is_as_lent(&out, after))
+                why = "another output, or a byte around it changed";
+            else if (!is_as_lent(&in, input))
+                why = "the input, or a byte around it, changed";
+            take_back(&in);
+            take_back(&out);
             cases++;
             if (why == NULL)
-                seen[VMTI_NUMBER(got)]++;
+                seen[which][VMTI_NUMBER(got)]++;
             else if (failed++ < SHOWN)
-                show(why, form, packet, packet_len, room, wanted, got);
+                show(why, which, form, input, input_len, room, wanted, got);
         }
     }
     if (getchar() != EOF)
         die("the stream goes on");
 
-    printf("answered as expected: success %llu", (unsigned long long)seen[0]);
-    for (n = 1; n <= LAST_OF_READING; n++)
-        printf(", %u: %llu", n, (unsigned long long)seen[n]);
-    printf("\n");
-    for (n = 0; n <= LAST_OF_READING; n++)
-        if (seen[n] == 0) {
-            printf("%u never came up\n", n);
-            missing = 1;
-        }
+    for (index = 0; index < CALLS; index++)
+        missing |= report(index, seen[index]);
     printf("boundary: %lu cases, %lu failed\n", cases, failed);
     return failed > 0 || missing;
 }

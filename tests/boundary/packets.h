@@ -1,4 +1,4 @@
-/* The packets that bench.c and stack.c are given, a file each, NAME.packet. */
+/* The packets that bench.c and stack.c are given, a file each, NAME.packet, and the calls that are made on them. */
 #ifndef PACKETS_H
 #define PACKETS_H
 
@@ -12,9 +12,12 @@ struct packet {
     uint64_t form;
     size_t size;
     uint8_t bytes[VMTI_PACKET_MOST];
+    size_t sheet_size;
+    uint8_t sheet[VMTI_SHEET_MOST];
 };
 
-static uint8_t sheet[VMTI_SHEET_MOST];
+/* Room for what a call writes. */
+static uint8_t out[VMTI_SHEET_MOST];
 
 static void die(const char *why, const char *of)
 {
@@ -30,6 +33,7 @@ static void get_packet(struct packet *p, const char *path)
     const char *slash = strrchr(path, '/'), *name = slash != NULL ? slash + 1 : path;
     const size_t letters = strcspn(name, ".");
     FILE *file = fopen(path, "rb");
+    uint64_t answer;
 
     if (file == NULL || letters >= sizeof p->name)
         die("no such packet", path);
@@ -40,8 +44,33 @@ static void get_packet(struct packet *p, const char *path)
         die("a packet too long", path);
     fclose(file);
     p->form = p->size >= sizeof key && memcmp(p->bytes, key, sizeof key) == 0 ? VMTI_STANDALONE : VMTI_EMBEDDED;
-    if (VMTI_NUMBER(vmti_read(p->form, p->bytes, p->size, sheet, sizeof sheet)) != 0)
+    answer = vmti_read(p->form, p->bytes, p->size, p->sheet, sizeof p->sheet);
+    if (VMTI_NUMBER(answer) != 0)
         die("refused", path);
+    p->sheet_size = (size_t)VMTI_PLACE(answer);
 }
+
+/* The calls, each made on the packet or on its sheet; all are accepted, and given room. */
+static uint64_t call_read(const struct packet *p)
+{
+    return vmti_read(p->form, p->bytes, p->size, out, sizeof out);
+}
+
+static uint64_t call_write(const struct packet *p)
+{
+    return vmti_write(p->sheet, p->sheet_size, out, sizeof out);
+}
+
+static uint64_t call_normalise(const struct packet *p)
+{
+    return vmti_normalise(p->form, p->bytes, p->size, out, sizeof out);
+}
+
+static const struct {
+    const char *name;
+    uint64_t (*make)(const struct packet *p);
+} calls[] = {{"read", call_read}, {"write", call_write}, {"normalise", call_normalise}};
+
+enum { CALLS = sizeof calls / sizeof calls[0] };
 
 #endif

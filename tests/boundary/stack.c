@@ -1,5 +1,5 @@
-/* How much of the stack vmti_read uses: prints for each packet its name, its bytes and those of the stack, the
- * few of its caller here with them, and fails if they are more than MOST.
+/* How much of the stack the calls use: prints for each call and packet their names, the packet's bytes and those of
+ * the stack, the few of its caller here with them, and fails if they are more than MOST.
  *
  *   stack FILE..
  *
@@ -13,11 +13,12 @@
 enum { PAGE = 4096, ROOM = 16 * PAGE, MOST = 4096 };
 
 static struct packet p;
+static int which;
 static ucontext_t here, there;
 
 static void call(void)
 {
-    vmti_read(p.form, p.bytes, p.size, sheet, sizeof sheet);
+    calls[which].make(&p);
 }
 
 /* The bytes from the deepest that no longer has the pattern. */
@@ -46,17 +47,15 @@ int main(int argc, char **argv)
     if (all == MAP_FAILED || mprotect(all, PAGE, PROT_NONE) != 0)
         die("no memory", "stack");
     for (i = 1; i < argc; i++) {
-        size_t one, other;
         get_packet(&p, argv[i]);
-        /* a byte that is written may be as the pattern was, but not as both */
-        one = used(all + PAGE, 0xA5);
-        other = used(all + PAGE, 0x5A);
-        if (one < other)
-            one = other;
-        printf("%s %zu %zu\n", p.name, p.size, one);
-        if (one > MOST) {
-            fprintf(stderr, "%s: over %d bytes of stack\n", p.name, MOST);
-            over = 1;
+        for (which = 0; which < CALLS; which++) {
+            /* a byte that is written may be as the pattern was, but not as both */
+            const size_t one = used(all + PAGE, 0xA5), other = used(all + PAGE, 0x5A), most = one < other ? other : one;
+            printf("%s %s %zu %zu\n", calls[which].name, p.name, p.size, most);
+            if (most > MOST) {
+                fprintf(stderr, "%s %s: over %d bytes of stack\n", calls[which].name, p.name, MOST);
+                over = 1;
+            }
         }
     }
     return over;

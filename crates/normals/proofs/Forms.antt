@@ -19,8 +19,9 @@ use Rattle.walks.specs.declared.Walked.{Walked}
 use Rattle.walks.specs.declared.Walked.the-variants.{Good, Bad}
 use Rattle.walks.specs.Meet.{total, any, weightOfVal, weightOfItem, weightOfEntry, walkedOf, levelWalk}
 use Rattle.walks.specs.Runs.{levelRun, madeOf}
-use Rattle.walks.proofs.Totals.{body-normal, total-map}
-use Rattle.normals.specs.Meet.{itemNormal, entryNormal, packNormal, seriesHead, packHead, InnerIs, InnerRun}
+use Rattle.walks.proofs.Maps.{total-map}
+use Rattle.walks.proofs.Totals.{body-normal}
+use Rattle.normals.specs.Meet.{itemNormal, entryNormal, packNormal, seriesFront, packFront, InnerIs, InnerRun}
 
 -- ---- an entry
 
@@ -29,14 +30,14 @@ unfolding flatAll
 packs-normal [] = refl
 packs-normal (p ∷ ps) = ap (λ x. packNormal p ++ x) (packs-normal ps)
 
-series-normal : (w : ℕ) (ps : List Pack) (n : ℕ) → n ≡ length (flatAll packNormal ps) → flatEntry (entryOf (partOf (series w ps))) ≡ seriesHead n ++ flatAll packNormal ps
-unfolding flatEntry entryOf partOf seriesWith seriesHead
+series-normal : (w : ℕ) (ps : List Pack) (n : ℕ) → n ≡ length (flatAll packNormal ps) → flatEntry (entryOf (partOf (series w ps))) ≡ seriesFront n ++ flatAll packNormal ps
+unfolding flatEntry entryOf partOf seriesWith seriesFront
 series-normal w ps n e = rw (packs-normal ps, ← e) (sym (append-assoc (oidBytes 101) (lenBytes (lenWidth n) n) (flatAll packNormal ps)))
 
 -- where the packs of a series take n bytes
 abbrev pub entryBytes : ℕ → Level → Entry → List ℕ
 entryBytes n l (plain i) = itemNormal l (i .tag) (i .value)
-entryBytes n l (series w ps) = seriesHead n ++ flatAll packNormal ps
+entryBytes n l (series w ps) = seriesFront n ++ flatAll packNormal ps
 
 entry-bytes : (n : ℕ) (l : Level) (e : Entry) → InnerIs n e → entryNormal l e ≡ entryBytes n l e
 entry-bytes n l (plain i) h = refl
@@ -60,8 +61,8 @@ same-normal [] = refl
 same-normal (i ∷ is) = ap (λ x. entryNormal pack (plain i) ++ x) (same-normal is)
 
 pub pack-normal : (w id : ℕ) (is : List Item) (n : ℕ) → n ≡ length (oidBytes id) + total (weightOfItem pack) is .normal
-    → packNormal (record { width = w; id = id; items = is }) ≡ packHead n id ++ flatAll (entryNormal pack) (map plain is)
-unfolding flatPack packOf packWith packBody targetOf packHead
+    → packNormal (record { width = w; id = id; items = is }) ≡ packFront n id ++ flatAll (entryNormal pack) (map plain is)
+unfolding flatPack packOf packWith packBody targetOf packFront
 pack-normal w id is n e =
     let l : length (oidBytes id ++ flatAll flatItem (map itemOf (map (valOf pack) is))) ≡ n
     = body-normal (record { id = id; vals = map (valOf pack) is }) 0

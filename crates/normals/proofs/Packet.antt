@@ -23,7 +23,8 @@ use Rattle.format.proofs.words.Keys.{has-none}
 use Rattle.format.proofs.reading.Packets.{set-says, set-once}
 use Rattle.walks.specs.Meet.{total, itemSizes, weightOfItem, weightOfPack, weightOfEntry, weightOfTarget, stepAt, deepenAt}
 use Rattle.walks.specs.Runs.{levelRun}
-use Rattle.walks.proofs.Totals.{total-map, pack-says, targets-normal, seal-last}
+use Rattle.walks.proofs.Maps.{total-map}
+use Rattle.walks.proofs.Totals.{pack-says, targets-normal, seal-last}
 use Rattle.walks.proofs.Parsed.{Sealing, Parsed}
 use Rattle.stores.proofs.Unsealed.{unsealed-same}
 use Rattle.normals.specs.Meet.{itemNormal, entryNormal, packNormal, levelNormal, InnerIs, InnerRun}

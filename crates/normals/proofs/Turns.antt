@@ -22,7 +22,7 @@ use Rattle.stores.proofs.Puts.{Puts, Parted, head-room, head-behind, rest-room,
 use Rattle.stores.proofs.Writing.{each}
 use Rattle.stores.proofs.Entries.{LevelWriting, EntryAt, level-start, level-done, entry-tag, entry-room, valueAt, value-long, stored, entry-fits, entry-more, one-is, packs-run, packs-asked}
 use Rattle.stores.proofs.Packs.{SeriesWriting, PackAt, pack-stands, pack-id, pack-room, itemsAt, items-long, items-run, items-asked, packed, pack-fits, pack-more}
-use Rattle.normals.specs.Meet.{itemNormal, entryNormal, packNormal, levelNormal, seriesNormal, seriesHead, packHead, InnerRun}
+use Rattle.normals.specs.Meet.{itemNormal, entryNormal, packNormal, levelNormal, seriesNormal, seriesFront, packFront, InnerRun}
 use Rattle.normals.proofs.Forms.{entryBytes, run-bytes, pack-normal, no-inner, walk-sizes, walk-fault}
 
 -- ---- the items of a level
@@ -66,16 +66,16 @@ module _ {inner : ℕ} {b : Bool} {f : Form} {s out₀ out : List ℕ} {p k key 
     one-more e = entry-more (i .is) (rw one-normal e) refl
 
   module _ (tx : x ≡ true) where
-    series-normal : Parted out k (stored (i .is)) (seriesHead inner) (seriesNormal f value)
+    series-normal : Parted out k (stored (i .is)) (seriesFront inner) (seriesNormal f value)
     series-normal =
         let (ps, e, r) = packs-run (i .is) ex tx in
-        record { is = ap (entryBytes inner (levelOf b)) e ∙ ap (λ x. seriesHead inner ++ madeOf (flatAll packNormal) x) (sym r); fits = entry-fits (i .is) }
+        record { is = ap (entryBytes inner (levelOf b)) e ∙ ap (λ x. seriesFront inner ++ madeOf (flatAll packNormal) x) (sym r); fits = entry-fits (i .is) }
 
-    pub head-asked : (inner ≤ 65536) × (k + length (seriesHead inner) ≤ length out)
+    pub head-asked : (inner ≤ 65536) × (k + length (seriesFront inner) ≤ length out)
     head-asked = (i .few, head-room series-normal)
 
     -- its head is stored, and the tail behind it lent
-    module _ {m : ℕ} {out₁ : List ℕ} (em : Puts out k (seriesHead inner) m out₁) where
+    module _ {m : ℕ} {out₁ : List ℕ} (em : Puts out k (seriesFront inner) m out₁) where
       pub series-behind : m ≤ length out₁
       series-behind = head-behind series-normal em
 
@@ -104,23 +104,23 @@ module _ {f : Form} {s out₀ out : List ℕ} {p k key used width size : ℕ} (i
     pub body-few : used + z .normal ≤ 65536
     body-few = let l : z .normal ≤ 3 * length (itemsAt i) = within-of (length (itemsAt i)) (sym ty) (ey .1) .normal in omega (arith, l, items-long i, pack-room i)
 
-    pack-parts : Parted out k (packed i) (packHead (used + z .normal) key) (levelNormal pack f (itemsAt i))
+    pack-parts : Parted out k (packed i) (packFront (used + z .normal) key) (levelNormal pack f (itemsAt i))
     pack-parts =
         let w = pack-stands i in
         let n : used + z .normal ≡ length (oidBytes key) + total (weightOfItem pack) (w .items) .normal
         = omega (arith, w .oid, ap (λ a. a .normal) (walk-sizes f (itemsAt i) (w .items) (items-run i) (w .entries-are) (ey .0) ty)) in
         record {
           is = ap packNormal (w .it-is) ∙ pack-normal width key (w .items) (used + z .normal) n
-              ∙ ap (λ x. packHead (used + z .normal) key ++ flatAll (entryNormal pack) x) (sym (w .entries-are))
-              ∙ ap (λ x. packHead (used + z .normal) key ++ madeOf (flatAll (entryNormal pack)) x) (sym (items-run i));
+              ∙ ap (λ x. packFront (used + z .normal) key ++ flatAll (entryNormal pack) x) (sym (w .entries-are))
+              ∙ ap (λ x. packFront (used + z .normal) key ++ madeOf (flatAll (entryNormal pack)) x) (sym (items-run i));
           fits = pack-fits i;
         }
 
-    pub pack-asked : (used + z .normal ≤ 65536) × (key < 2 ^ 63) × (k + length (packHead (used + z .normal) key) ≤ length out)
+    pub pack-asked : (used + z .normal ≤ 65536) × (key < 2 ^ 63) × (k + length (packFront (used + z .normal) key) ≤ length out)
     pack-asked = (body-few, pack-id i, head-room pack-parts)
 
     -- its head is stored, and the tail behind it lent
-    module _ {m : ℕ} {out₁ : List ℕ} (em : Puts out k (packHead (used + z .normal) key) m out₁) where
+    module _ {m : ℕ} {out₁ : List ℕ} (em : Puts out k (packFront (used + z .normal) key) m out₁) where
       pub items-behind : m ≤ length out₁
       items-behind = head-behind pack-parts em
 

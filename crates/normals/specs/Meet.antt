@@ -33,11 +33,11 @@ abbrev pub seriesNormal : Form → List ℕ → List ℕ
 seriesNormal f s = madeOf (flatAll packNormal) (seriesRun f s)
 
 -- what stands in front of a series' packs, n bytes in normal form, and of a pack's items, whose id and items are n bytes
-unfoldable pub seriesHead : ℕ → List ℕ
-seriesHead n = oidBytes 101 ++ lenBytes (lenWidth n) n
+unfoldable pub seriesFront : ℕ → List ℕ
+seriesFront n = oidBytes 101 ++ lenBytes (lenWidth n) n
 
-unfoldable pub packHead : ℕ → ℕ → List ℕ
-packHead n id = lenBytes (lenWidth n) n ++ oidBytes id
+unfoldable pub packFront : ℕ → ℕ → List ℕ
+packFront n id = lenBytes (lenWidth n) n ++ oidBytes id
 
 -- n is how many bytes the packs of a series take in normal form: of each series among entries
 abbrev pub InnerIs : ℕ → Entry → Type 0

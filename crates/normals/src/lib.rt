@@ -4,7 +4,7 @@ ghost use Prim.Native.Nat.{_+_, _^_, _≤_, _<_};
 ghost use lib.ListN.{length};
 ghost use lib.Seq.{sets};
 ghost use Rattle.items.specs.Meet.{formOf, levelOf, itemTable};
-ghost use Rattle.normals.specs.Meet.{itemNormal, seriesHead, packHead, InnerRun, levelNormal, seriesNormal};
+ghost use Rattle.normals.specs.Meet.{itemNormal, seriesFront, packFront, InnerRun, levelNormal, seriesNormal};
 ghost use Rattle.walks.specs.Runs.{Ran, levelRun, seriesRun};
 use heads::Head;
 use walks::Walked;
@@ -28,8 +28,8 @@ fn put_normal(table: &[u64], out: &mut [u8], at: usize, set: bool, tag: u64, v: 
 
 // What stands in front of a series' packs, n bytes; where it ends.
 pub fn put_series(out: &mut [u8], at: usize, n: usize) -> usize
-    requires { ⌜ (n ≤ 65536) × (at + length (seriesHead n) ≤ length (now out)) ⌝ }
-    ensures { λ r. ⌜ (r ≡ at + length (seriesHead n)) × (now (out .exit) ≡ sets (now (out .entry)) at (seriesHead n)) ⌝ }
+    requires { ⌜ (n ≤ 65536) × (at + length (seriesFront n) ≤ length (now out)) ⌝ }
+    ensures { λ r. ⌜ (r ≡ at + length (seriesFront n)) × (now (out .exit) ≡ sets (now (out .entry)) at (seriesFront n)) ⌝ }
 {
     let a = stores::put_number(out, at, 101, 1);
     stores::coded::put_len(out, a, n)
@@ -37,8 +37,8 @@ pub fn put_series(out: &mut [u8], at: usize, n: usize) -> usize
 
 // What stands in front of a pack's items, where its id and its items are n bytes; where it ends.
 pub fn put_pack(out: &mut [u8], at: usize, n: usize, id: u64) -> usize
-    requires { ⌜ (n ≤ 65536) × (id < 2 ^ 63) × (at + length (packHead n id) ≤ length (now out)) ⌝ }
-    ensures { λ r. ⌜ (r ≡ at + length (packHead n id)) × (now (out .exit) ≡ sets (now (out .entry)) at (packHead n id)) ⌝ }
+    requires { ⌜ (n ≤ 65536) × (id < 2 ^ 63) × (at + length (packFront n id) ≤ length (now out)) ⌝ }
+    ensures { λ r. ⌜ (r ≡ at + length (packFront n id)) × (now (out .exit) ≡ sets (now (out .entry)) at (packFront n id)) ⌝ }
 {
     let a = stores::coded::put_len(out, at, n);
     stores::coded::put_oid(out, a, id)

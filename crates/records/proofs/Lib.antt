@@ -5,3 +5,4 @@ pub mod Runs
 pub mod PartTurns
 pub mod TargetTurns
 pub mod Sheeting
+pub mod Sizings

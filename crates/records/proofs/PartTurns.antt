@@ -34,7 +34,8 @@ use Rattle.walks.proofs.ItemTurns.{level-is}
 use Rattle.walks.proofs.Turns.{Reads, within-of, turn-bad, turn-more}
 use Rattle.records.specs.Meet.{partPiece, moreAt, partStep, weightAt, recordsWalk, targetsWalk}
 use Rattle.records.proofs.Parts.{part-fault, ValueStood, value-stood, SeriesStood, series-stood}
-use Rattle.records.proofs.Runs.{walked-good, walked-bad, targets-used, slim-targets, slim-series}
+use Rattle.walks.proofs.Maps.{walked-good, walked-bad}
+use Rattle.records.proofs.Runs.{targets-used, slim-targets, slim-series}
 
 abbrev pub RecordsGoing : Bool → Form → List ℕ → ℕ → Sizes → Bool → ℕ → ℕ → Type 0
 RecordsGoing b f s p a m top low =

@@ -142,7 +142,7 @@ pub record ValueStood (b : Bool) (f : Form) (seen u : List ℕ) (tag size : ℕ)
   pub room : 6 + size ≤ length u
   pub peeks : peek true false b u ≡ got tag (6 + size)
 
-named-both : (b : Bool) (tag : ℕ) → nameable (levelOf b) tag ≡ true → (b && eqb tag 1 ≡ false) × (b && eqb tag 101 ≡ false)
+pub named-both : (b : Bool) (tag : ℕ) → nameable (levelOf b) tag ≡ true → (b && eqb tag 1 ≡ false) × (b && eqb tag 101 ≡ false)
 named-both false tag h = (refl, refl)
 named-both true tag h = nameable-set tag h
 

@@ -34,7 +34,7 @@ use Rattle.walks.proofs.Series.{after-not}
 use Rattle.records.specs.declared.Sheeted.{Sheeted}
 use Rattle.records.specs.declared.Sheeted.the-variants.{Fine, Wrong}
 use Rattle.records.specs.Meet.{partStep, weightAt, recordsWalk, sheetedOf, partsFault}
-use Rattle.records.proofs.Runs.{Walk, walked-good, walked-bad}
+use Rattle.walks.proofs.Maps.{Walk, walked-good, walked-bad}
 
 -- ---- the form
 
@@ -73,7 +73,7 @@ no-rows [] = refl
 no-rows (p ∷ ps) = sym (ne-eqb (weightOfPart p .rows + total weightOfPart ps .rows) 0 (λ e. omega (arith, e, part-row p)))
 
 -- no sheet has a checksum
-no-seal : (f : Form) (ps : List Part) → All (PartValid f) ps → NoSeal ps
+pub no-seal : (f : Form) (ps : List Part) → All (PartValid f) ps → NoSeal ps
 no-seal f [] h = tt
 no-seal f (one v ∷ ps) h = (nameable-set (v .tag) (h .0 .meets .named) .0, no-seal f ps (h .1))
 no-seal f (targets ts ∷ ps) h = (refl, no-seal f ps (h .1))

@@ -7,7 +7,7 @@ ghost use lib.ListN.{length, drop};
 ghost use Rattle.format.specs.Sheet.{valueAt};
 ghost use Rattle.items.specs.Meet.{formOf, levelOf, itemTable};
 ghost use Rattle.heads.specs.Meet.{peek, Past};
-ghost use Rattle.walks.specs.Meet.{laterBy, seriesFrom, Within};
+ghost use Rattle.walks.specs.Meet.{Within};
 ghost use Rattle.records.specs.Meet.{pieceBy, valueWhole, seriesWhole, targetWhole, seriesOpens, targetOpens, partPiece, moreAt, recordsWalk, targetsWalk};
 use heads::records::Field;
 use walks::Piece;
@@ -123,39 +123,8 @@ fn target_at(s: &[u8], p: usize, top: u64, low: u64) -> Piece
 
 // ---- walks
 
-// A refusal k bytes further on.
-fn later(w: Walked, k: usize) -> Walked
-    requires { ⌜ Within w 65536 × (k ≤ 65536) ⌝ }
-    ensures { λ r. ⌜ r ≡ laterBy k w ⌝ }
-{
-    match w {
-        Walked::Good { sizes, mark } => Walked::Good { sizes, mark },
-        Walked::Bad { number, place } => Walked::Bad {
-            number,
-            place: k + place,
-        },
-    }
-}
-
-// The series, given its targets.
-fn series_of(w: Walked) -> Walked
-    requires { ⌜ Within w 65536 ⌝ }
-    ensures { λ r. ⌜ r ≡ seriesFrom 2 w ⌝ }
-{
-    match w {
-        Walked::Good { sizes, mark: _ } => Walked::Good {
-            sizes: walks::series_sizes(sizes),
-            mark: false,
-        },
-        Walked::Bad { number, place } => Walked::Bad {
-            number,
-            place: 2 + place,
-        },
-    }
-}
-
 // Whether a level goes on at p: the set to its end, a target while `TI`s stand there.
-fn goes_on(s: &[u8], p: usize, set: bool) -> bool
+pub fn goes_on(s: &[u8], p: usize, set: bool) -> bool
     ensures { λ r. ⌜ r ≡ moreAt (levelOf set) (drop p (now (s .entry))) ⌝ }
 {
     if set {
@@ -194,12 +163,12 @@ pub fn item_records(table: &[u64], s: &[u8], set: bool, alone: bool) -> Walked
             return walks::stop(a, p);
         };
         let w = if walks::is_series(set, tag) {
-            series_of(target_records(table, &s[p + 2..], alone))
+            walks::series_of(target_records(table, &s[p + 2..], alone), 2)
         } else {
             walks::one_item(set, tag, size)
         };
         let Walked::Good { sizes, mark: m } = w else {
-            return later(w, p);
+            return walks::later(w, p);
         };
         sum = walks::plus(sum, sizes);
         mark = walks::either(mark, m);
@@ -244,7 +213,7 @@ pub fn target_records(table: &[u64], s: &[u8], alone: bool) -> Walked
         let from = p + 10;
         let w = item_records(table, &s[from..], false, alone);
         let Walked::Good { sizes, mark } = w else {
-            return later(w, from);
+            return walks::later(w, from);
         };
         if walks::either(!alone, mark) {
             sum = walks::plus(sum, walks::pack_sizes(coding::widths::oid_width(id), sizes));

@@ -95,7 +95,7 @@ module _ {X S : Type 0} {emit : S → X → List ℕ} {next : S → X → S} {em
       split : emits σ (g .things .val) ≡ emit σ (n .it .val) ++ emits (next σ (n .it .val)) (n .after-it .val)
       split = ap (emits σ) (n .first) ∙ law .more σ (n .it .val) (n .after-it .val)
 
-      long : length (emits σ (g .things .val)) ≡ length (emit σ (n .it .val)) + length (emits (next σ (n .it .val)) (n .after-it .val))
+      pub long : length (emits σ (g .things .val)) ≡ length (emit σ (n .it .val)) + length (emits (next σ (n .it .val)) (n .after-it .val))
       long = ap length split ∙ length-append (emit σ (n .it .val)) (emits (next σ (n .it .val)) (n .after-it .val))
 
       pub next-room : length whole ≤ length out₀ → k + length (emit σ (n .it .val)) ≤ length out

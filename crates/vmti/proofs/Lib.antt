@@ -3,6 +3,7 @@ pub mod Leaving
 pub mod Framed
 pub mod Reading
 pub mod Normalising
+pub mod Written
 pub mod Locating
 pub mod Bounds
 pub mod Promised

@@ -11,6 +11,8 @@ use Rattle.format.specs.Room.{Left}
 use Rattle.items.specs.Meet.{formOf}
 use Rattle.walks.specs.declared.Checked.{Checked}
 use Rattle.walks.specs.declared.Checked.the-variants.{Fine, Wrong}
+use Rattle.records.specs.declared.Sheeted.{Sheeted}
+use Rattle.records.specs.declared.Sheeted.the-variants as sheeted
 use Rattle.rows.specs.Meet.{numbers}
 use Rattle.vmti.specs.declared.Answer.{Answer}
 
@@ -24,6 +26,10 @@ answerOf n p = record { number = n; place = p }
 abbrev pub refusalOf : Checked → Answer
 refusalOf (Fine a) = answerOf 0 0
 refusalOf (Wrong n p) = answerOf n p
+
+abbrev pub sheetRefusal : Sheeted → Answer
+sheetRefusal (sheeted.Fine a n i) = answerOf 0 0
+sheetRefusal (sheeted.Wrong n p) = answerOf n p
 
 -- rows lie in a lent slice of numbers, four to a row; their count is a count of rows
 unfoldable pub leavesRows : List ℕ → Ans (List Row) → Left ℕ

@@ -7,7 +7,8 @@ ghost use Rattle.format.specs.Calls as Calls;
 ghost use Rattle.format.specs.Rows as Rows;
 ghost use Rattle.format.specs.Room.{leaves, oneNumber};
 ghost use Rattle.items.specs.Meet.{formOf};
-ghost use Rattle.vmti.specs.Meet.{leftOf, answerOf, refusalOf, leavesRows, formNamed};
+ghost use Rattle.vmti.specs.Meet.{leftOf, answerOf, refusalOf, sheetRefusal, leavesRows, formNamed};
+use records::Sheeted;
 use walks::Checked;
 
 // A refusal's number and place; or 0, and how many bytes or rows were written.
@@ -57,6 +58,47 @@ pub fn read(packet: &[u8], alone: bool, sheet: &mut [u8]) -> Answer
     answer_of(0, sizes.sheet)
 }
 
+// A refusal of a sheet passed up.
+fn sheet_refusal(c: Sheeted) -> Answer
+    ensures { λ r. ⌜ r ≡ sheetRefusal c ⌝ }
+{
+    match c {
+        Sheeted::Fine {
+            alone: _,
+            normal: _,
+            inner: _,
+        } => answer_of(0, 0),
+        Sheeted::Wrong { number, place } => answer_of(number, place),
+    }
+}
+
+// A sheet to its packet.
+pub fn write(sheet: &[u8], packet: &mut [u8]) -> Answer
+    ensures { λ r. ⌜ leftOf r (now (packet .exit)) ≡ leaves (now (packet .entry)) (Calls.write (now (sheet .entry))) ⌝ }
+{
+    let c = records::whole::check(sheet);
+    let Sheeted::Fine {
+        alone,
+        normal,
+        inner,
+    } = c
+    else {
+        return sheet_refusal(c);
+    };
+    let size = frames::frame_size(alone, normal);
+    if 8192 < size {
+        return answer_of(1, 0);
+    }
+    if packet.len() < size {
+        return answer_of(16, size);
+    }
+    let table = items::table();
+    let a = frames::open(packet, alone, normal);
+    let n = packets::item_packet(&table, &sheet[3..], true, alone, inner, &mut packet[a..]);
+    frames::close(packet, alone, a + n);
+    answer_of(0, size)
+}
+
 // A packet to its normal form: what `write` makes of its sheet, with no sheet between.
 pub fn normalise(packet: &[u8], alone: bool, out: &mut [u8]) -> Answer
     ensures { λ r. ⌜ leftOf r (now (out .exit)) ≡ leaves (now (out .entry)) (Calls.normalise (formOf alone) (now (packet .entry))) ⌝ }
@@ -102,14 +144,29 @@ pub fn locate(packet: &[u8], alone: bool, rows: &mut [u64]) -> Answer
 
 // ---- as C calls them
 
-// One number: 256 times the place or count, plus the refusal's number. Form 0 is embedded, any other standalone.
+// 256 times the place or count, plus the refusal's number.
+fn one_number(a: Answer) -> u64
+    requires { ⌜ (a .number ≤ 19) × (a .place ≤ 65536) ⌝ }
+    ensures { λ r. ⌜ r ≡ 256 * a .place + a .number ⌝ }
+{
+    256 * (a.place as u64) + a.number
+}
+
+// Form 0 is embedded, any other number standalone.
 #[no_mangle]
 pub extern "C" fn vmti_read(form: u64, packet: &[u8], sheet: &mut [u8]) -> u64
     ensures { λ r. ⌜ (r ≡ oneNumber (leaves (now (sheet .entry)) (Calls.read (formNamed form) (now (packet .entry)))))
         × (now (sheet .exit) ≡ leaves (now (sheet .entry)) (Calls.read (formNamed form) (now (packet .entry))) .lent) ⌝ }
 {
-    let a = read(packet, form != 0, sheet);
-    256 * (a.place as u64) + a.number
+    one_number(read(packet, form != 0, sheet))
+}
+
+#[no_mangle]
+pub extern "C" fn vmti_write(sheet: &[u8], packet: &mut [u8]) -> u64
+    ensures { λ r. ⌜ (r ≡ oneNumber (leaves (now (packet .entry)) (Calls.write (now (sheet .entry)))))
+        × (now (packet .exit) ≡ leaves (now (packet .entry)) (Calls.write (now (sheet .entry))) .lent) ⌝ }
+{
+    one_number(write(sheet, packet))
 }
 
 #[no_mangle]
@@ -117,6 +174,5 @@ pub extern "C" fn vmti_normalise(form: u64, packet: &[u8], out: &mut [u8]) -> u6
     ensures { λ r. ⌜ (r ≡ oneNumber (leaves (now (out .entry)) (Calls.normalise (formNamed form) (now (packet .entry)))))
         × (now (out .exit) ≡ leaves (now (out .entry)) (Calls.normalise (formNamed form) (now (packet .entry))) .lent) ⌝ }
 {
-    let a = normalise(packet, form != 0, out);
-    256 * (a.place as u64) + a.number
+    one_number(normalise(packet, form != 0, out))
 }

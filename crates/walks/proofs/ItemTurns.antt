@@ -155,8 +155,8 @@ module _ {b : Bool} {f : Form} {s : List ℕ} {p : ℕ} {sum : Sizes} {mark : Bo
   pub value-long : length (take (p + from + size - (p + from)) (drop (p + from) s)) ≡ size
   value-long = length-take-le (p + from + size - (p + from)) (drop (p + from) s) (rw length-drop (omega (arith, piece-room))) ∙ omega arith
 
-  pub series-within : (y : Walked) → Within y (length (take (p + from + size - (p + from)) (drop (p + from) s))) → Within y 8192 × (from ≤ 8192)
-  series-within y h = (within-more y _ 8192 (omega (arith, value-long, piece-room, i .most)) h, omega (arith, piece-room, i .most))
+  pub series-within : (y : Walked) → Within y (length (take (p + from + size - (p + from)) (drop (p + from) s))) → Within y 65536 × (from ≤ 65536)
+  series-within y h = (within-more y _ 65536 (omega (arith, value-long, piece-room, i .most)) h, omega (arith, piece-room, i .most))
 
   pub series-told : {x : Bool} → x ≡ (b && eqb tag 101) → x ≡ true → {y : Walked}
       → (y ≡ seriesWalk f (take (p + from + size - (p + from)) (drop (p + from) s))) × Within y (length (take (p + from + size - (p + from)) (drop (p + from) s)))
@@ -172,8 +172,8 @@ module _ {b : Bool} {f : Form} {s : List ℕ} {p : ℕ} {sum : Sizes} {mark : Bo
         let (j, l) = k .bad n q t in
         turn-bad (i .going) (i .here) refl n q (e ∙ ap (laterBy p) t) j (omega (arith, l, piece-room))
 
-    pub bad-within : {n q : ℕ} → w ≡ Bad n q → Within w 8192 × (p ≤ 8192)
-    bad-within {n = n} {q = q} t = (within-of 8192 t (omega (arith, k .bad n q t .1, piece-room, i .most)), omega (arith, i .here, i .most))
+    pub bad-within : {n q : ℕ} → w ≡ Bad n q → Within w 65536 × (p ≤ 65536)
+    bad-within {n = n} {q = q} t = (within-of 65536 t (omega (arith, k .bad n q t .1, piece-room, i .most)), omega (arith, i .here, i .most))
 
     pub good-small : {z : Sizes} {m : Bool} → w ≡ Good z m → Small sum × Small z
     good-small {z = z} {m = m} t =

@@ -94,8 +94,8 @@ module _ {f : Form} {s : List ℕ} {p : ℕ} {sum : Sizes} {top low k u w n : �
       lent-long = length-take-le (p + w + n - (p + w + u)) (drop (p + w + u) s) (rw length-drop (omega (arith, head-room))) ∙ omega (arith, head-stood .body)
 
       module _ {y : Walked} (ey : (y ≡ levelWalk pack f lent) × Within y (length lent)) where
-        pub items-within : Within y 8192 × (p + w + u ≤ 8192)
-        items-within = (within-more y _ 8192 (omega (arith, lent-long, head-room, i .most)) (ey .1), omega (arith, head-room, head-stood .body, i .most))
+        pub items-within : Within y 65536 × (p + w + u ≤ 65536)
+        items-within = (within-more y _ 65536 (omega (arith, lent-long, head-room, i .most)) (ey .1), omega (arith, head-room, head-stood .body, i .most))
 
         pub items-fault : {m q : ℕ} {r : Walked} → y ≡ Bad m q → r ≡ laterBy (p + w + u) y → (r ≡ seriesWalk f s) × Within r (length s)
         items-fault {m = m} {q = q} t e =

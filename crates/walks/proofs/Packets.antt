@@ -7,7 +7,7 @@ use mathlib.Core.List.{List}
 use lib.ListN.{length, take, drop, length-drop}
 use lib.Dec.{eqb}
 use borrow.Author.Tests.{lt-leb, le-leb}
-use Rattle.format.specs.Answer.{Ans, ok, refused, Got, _>>=_, after}
+use Rattle.format.specs.Answer.{Ans, ok, Got, _>>=_, after}
 use Rattle.format.specs.Coding.{Bytes}
 use Rattle.format.specs.Packet.{Entry, Packet, tagOfEntry}
 use Rattle.format.specs.Run.{run, always}
@@ -25,8 +25,9 @@ use Rattle.walks.specs.declared.Walked.{Walked}
 use Rattle.walks.specs.declared.Walked.the-variants.{Good, Bad}
 use Rattle.walks.specs.declared.Checked.{Checked}
 use Rattle.walks.specs.declared.Checked.the-variants.{Wrong}
-use Rattle.walks.specs.Meet.{total, any, weightOfEntry, deepenAt, stepAt, walkedOf, levelWalk, Within, checkedOf}
+use Rattle.walks.specs.Meet.{total, weightOfEntry, deepenAt, stepAt, walkedOf, levelWalk, Within, checkedOf}
 use Rattle.walks.specs.Whole.{widthOf, numFault, walkFault, closingBy}
+use Rattle.walks.proofs.Maps.{walked-good, walked-bad}
 use Rattle.walks.proofs.Turns.{within-more}
 use Rattle.walks.proofs.Openings.{opening-room}
 use Rattle.walks.proofs.Closings.{packetOf, close-set}
@@ -42,21 +43,6 @@ setWalked x = walkedOf (weightOfEntry set) (λ e. eqb (tagOfEntry e) 1) x
 walk-run : (f : Form) (s : List ℕ) → levelWalk set f s ≡ setWalked (setRun f s)
 unfolding levelWalk stepAt deepenAt entry
 walk-run f s = refl
-
-walked-bad : (x : Ans (Got (List Entry))) (n p : ℕ) → Bad n p ≡ setWalked x → x ≡ refused n p
-walked-bad (ok es) n p e = absurd (let z : _≡_ {A = ℕ} 0 1 = cc in omega arith)
-walked-bad (refused m q) n p e = let a : m ≡ n = cc in let b : q ≡ p = cc in rw (a, b)
-
--- the entries, with their sizes and their mark
-record Walk (x : Ans (Got (List Entry))) (a : Sizes) (m : Bool) : Type 0 where
-  pub es : Got (List Entry)
-  pub ran : x ≡ ok es
-  pub sizes-are : total (weightOfEntry set) (es .val) ≡ a
-  pub mark-is : any (λ e. eqb (tagOfEntry e) 1) (es .val) ≡ m
-
-walked-good : (x : Ans (Got (List Entry))) (a : Sizes) (m : Bool) → Good a m ≡ setWalked x → Walk x a m
-walked-good (ok es) a m e = record { es = es; ran = refl; sizes-are = cc; mark-is = cc }
-walked-good (refused n p) a m e = absurd (let z : _≡_ {A = ℕ} 0 1 = cc in omega arith)
 
 -- ---- how large the answer on a set can be
 
@@ -114,16 +100,16 @@ module _ (f : Form) (s : List ℕ) where
         pub check-bad : {n p : ℕ} {r : Checked} → x ≡ Bad n p → r ≡ walkFault k x → r ≡ checkedOf (parse f s)
         unfolding _>>=_ after
         check-bad {n} {p} z e =
-            let q = walked-bad (setRun f (drop (start f w) s)) n p (sym z ∙ walk-is) in
+            let q = walked-bad (weightOfEntry set) (λ e. eqb (tagOfEntry e) 1) (setRun f (drop (start f w) s)) n p (sym z ∙ walk-is) in
             e ∙ ap (walkFault k) z ∙ rw (parse-is, q, ek)
 
         pub check-good : {b : Sizes} {m : Bool} {r : Checked} → Bytes s → x ≡ Good b m → r ≡ closingBy f s m b → r ≡ checkedOf (parse f s)
         check-good {b} {m} h z e =
             let d : List ℕ = drop (start f w) s in
-            let g = walked-good (setRun f d) b m (sym z ∙ walk-is) in
-            let read = set-says f d (g .es) (bytes-drop (start f w) s h) (g .ran) .1 in
+            let g = walked-good (weightOfEntry set) (λ e. eqb (tagOfEntry e) 1) (setRun f d) b m (sym z ∙ walk-is) in
+            let read = set-says f d (g .rs) (bytes-drop (start f w) s h) (g .ran) .1 in
             e
-            ∙ ap (closingBy f s m) (sym (g .sizes-are))
-            ∙ ap (λ y. closingBy f s y (total (weightOfEntry set) (g .es .val))) (sym (g .mark-is))
-            ∙ close-set f s w (g .es .val) read
-            ∙ ap checkedOf (sym (parse-is ∙ bind-so _ (closes w) (g .es) (after-ok (start f w) (setRun f d) (g .es) (g .ran))))
+            ∙ ap (closingBy f s m) (sym (g .weighs))
+            ∙ ap (λ y. closingBy f s y (total (weightOfEntry set) (g .rs .val))) (sym (g .marks))
+            ∙ close-set f s w (g .rs .val) read
+            ∙ ap checkedOf (sym (parse-is ∙ bind-so _ (closes w) (g .rs) (after-ok (start f w) (setRun f d) (g .rs) (g .ran))))

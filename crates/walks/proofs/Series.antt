@@ -1,6 +1,6 @@
 -- The pack walk, step by step: what the code's answers say of a series' step.
 use mathlib.Core.Path.{_≡_, refl, sym, ap, _∙_}
-use Prim.Native.Nat.{ℕ, zero, suc, _+_, _-_, _≤_, _<_}
+use Prim.Native.Nat.{ℕ, _+_, _-_, _≤_, _<_}
 use native.Mathlib.Omega.{arith}
 use mathlib.Core.Bool.{Bool, true, false, not, _||_}
 use mathlib.Core.List.{List, [], _∷_, map}
@@ -10,8 +10,8 @@ use Rattle.format.specs.Answer.{Ans, ok, refused, Got, got, _>>=_, after}
 use Rattle.format.specs.Coding.{Bytes, oidBytes}
 use Rattle.format.specs.Lists.{has}
 use Rattle.format.specs.Table.{Form, pack, isAlone, ended}
-use Rattle.format.specs.Packet.{Item, Pack, Entry, plain, tagOfItem, tagOfEntry}
-use Rattle.format.specs.Run.{skip, run, always}
+use Rattle.format.specs.Packet.{Item, Pack, plain, tagOfItem, tagOfEntry}
+use Rattle.format.specs.Run.{run, always}
 use Rattle.format.specs.Read.{item, packHead, onePack}
 use Rattle.format.proofs.words.Answers.{after-ok}
 use Rattle.format.proofs.words.Bytes.{took-length}
@@ -21,46 +21,16 @@ use Rattle.coding.proofs.Counts.{oid-most}
 use Rattle.items.proofs.Tests.{bind-so, bind-not, need-so, need-not}
 use Rattle.heads.specs.declared.Head.the-variants as heads
 use Rattle.heads.specs.Meet.{packHeadOf}
+use Rattle.walks.proofs.Maps.{mapped, run-map, total-map, mapped-good, mapped-bad, walked-good, walked-bad}
 use Rattle.walks.specs.declared.Sizes.{Sizes}
 use Rattle.walks.specs.declared.Walked.the-variants.{Good, Bad}
-use Rattle.walks.specs.Meet.{plusSizes, total, any, weightOfItem, weightOfEntry, deepenAt, stepAt, walkedOf, levelWalk}
+use Rattle.walks.specs.Meet.{total, any, weightOfItem, weightOfEntry, deepenAt, stepAt, levelWalk}
 
 -- ---- a pack's items, read as entries
 
--- the same run, each thing mapped
-plain-step : (f : Form) (seen s : List ℕ) → stepAt pack f seen s ≡ (item pack f seen s >>= λ i. ok (got (plain (i .val)) (i .used)))
+pub run-plain : (f : Form) (s : List ℕ) → run always tagOfEntry (stepAt pack f) s ≡ mapped plain (run always tagOfItem (item pack f) s)
 unfolding stepAt deepenAt
-plain-step f seen s = refl
-
-abbrev pub asEntries : Ans (Got (List Item)) → Ans (Got (List Entry))
-asEntries (ok rs) = ok (got (map plain (rs .val)) (rs .used))
-asEntries (refused n p) = refused n p
-
-skip-plain : (f : Form) (seen : List ℕ) (k : ℕ) (s : List ℕ) → skip always tagOfEntry (stepAt pack f) seen k s ≡ asEntries (skip always tagOfItem (item pack f) seen k s)
-unfolding skip
-skip-plain f seen k [] = refl
-skip-plain f seen (suc k) (b ∷ s) = skip-plain f seen k s
-skip-plain f seen zero (b ∷ s) = go (λ i. skip-plain f (i .val .tag ∷ seen) (i .used - 1) s) (item pack f seen (b ∷ s)) refl
-  where
-    inner : (u : ℕ) (x : Item) (a : Ans (Got (List Item)))
-        → (after u (asEntries a) >>= λ rs. ok (got (plain x ∷ rs .val) (u + rs .used))) ≡ asEntries (after u a >>= λ rs. ok (got (x ∷ rs .val) (u + rs .used)))
-    inner u x (ok rs) = unfold _>>=_ after in refl
-    inner u x (refused n p) = unfold _>>=_ after in refl
-
-    go : ((i : Got Item) → skip always tagOfEntry (stepAt pack f) (i .val .tag ∷ seen) (i .used - 1) s ≡ asEntries (skip always tagOfItem (item pack f) (i .val .tag ∷ seen) (i .used - 1) s))
-        → (a : Ans (Got Item)) → item pack f seen (b ∷ s) ≡ a
-        → skip always tagOfEntry (stepAt pack f) seen 0 (b ∷ s) ≡ asEntries (skip always tagOfItem (item pack f) seen 0 (b ∷ s))
-    go ih (ok i) e = unfold _>>=_ in (rw (plain-step f seen (b ∷ s), e, ih i) (inner (i .used) (i .val) _))
-    go ih (refused n p) e = unfold _>>=_ in (rw (plain-step f seen (b ∷ s), e))
-
-pub run-plain : (f : Form) (s : List ℕ) → run always tagOfEntry (stepAt pack f) s ≡ asEntries (run always tagOfItem (item pack f) s)
-unfolding run
-run-plain f s = skip-plain f [] 0 s
-
-total-plain : (is : List Item) → total (weightOfEntry pack) (map plain is) ≡ total (weightOfItem pack) is
-unfolding total
-total-plain [] = refl
-total-plain (i ∷ is) = ap (plusSizes (weightOfItem pack i)) (total-plain is)
+run-plain f s = run-map plain always tagOfItem tagOfEntry (item pack f) (stepAt pack f) (λ i. refl) (λ seen t. refl) s
 
 any-plain : (is : List Item) → any (λ e. eqb (tagOfEntry e) 17) (map plain is) ≡ has 17 (map tagOfItem is)
 unfolding any has
@@ -71,22 +41,16 @@ any-plain (i ∷ is) = ap (λ b. eqb (i .tag) 17 || b) (any-plain is)
 pub items-good : {X : Type 0} (f : Form) (s : List ℕ) (a : Sizes) (m : Bool) → Good a m ≡ levelWalk pack f s
     → ((is : Got (List Item)) → run always tagOfItem (item pack f) s ≡ ok is → total (weightOfItem pack) (is .val) ≡ a → has 17 (map tagOfItem (is .val)) ≡ m → X) → X
 unfolding levelWalk
-items-good {X = X} f s a m e k = go (run always tagOfItem (item pack f) s) refl (rw run-plain at e)
-  where
-    go : (x : Ans (Got (List Item))) → run always tagOfItem (item pack f) s ≡ x → Good a m ≡ walkedOf (weightOfEntry pack) (λ e. eqb (tagOfEntry e) 17) (asEntries (run always tagOfItem (item pack f) s)) → X
-    go (ok is) r e =
-        let e′ : Good a m ≡ Good (total (weightOfEntry pack) (map plain (is .val))) (any (λ e. eqb (tagOfEntry e) 17) (map plain (is .val))) = rw r at e in
-        k is r (sym (total-plain (is .val)) ∙ cc) (sym (any-plain (is .val)) ∙ cc)
-    go (refused n p) r e = absurd (let e′ : Good a m ≡ Bad n p = rw r at e in let z : _≡_ {A = ℕ} 0 1 = cc in omega arith)
+items-good f s a m e k =
+    let w = walked-good (weightOfEntry pack) (λ e. eqb (tagOfEntry e) 17) (run always tagOfEntry (stepAt pack f) s) a m e in
+    let (is, r, q) = mapped-good plain (run always tagOfItem (item pack f) s) (w .rs) (sym (run-plain f s) ∙ w .ran) in
+    k is r
+    (total-map plain (weightOfItem pack) (weightOfEntry pack) (λ i. refl) (is .val) ∙ ap (total (weightOfEntry pack)) q ∙ w .weighs)
+    (sym (any-plain (is .val)) ∙ ap (any (λ e. eqb (tagOfEntry e) 17)) q ∙ w .marks)
 
 pub items-bad : (f : Form) (s : List ℕ) (n q : ℕ) → Bad n q ≡ levelWalk pack f s → run always tagOfItem (item pack f) s ≡ refused n q
 unfolding levelWalk
-items-bad f s n q e = go (run always tagOfItem (item pack f) s) refl (rw run-plain at e)
-  where
-    go : (x : Ans (Got (List Item))) → run always tagOfItem (item pack f) s ≡ x → Bad n q ≡ walkedOf (weightOfEntry pack) (λ e. eqb (tagOfEntry e) 17) (asEntries (run always tagOfItem (item pack f) s))
-        → run always tagOfItem (item pack f) s ≡ refused n q
-    go (ok is) r e = absurd (let e′ : Bad n q ≡ Good (total (weightOfEntry pack) (map plain (is .val))) (any (λ e. eqb (tagOfEntry e) 17) (map plain (is .val))) = rw r at e in let z : _≡_ {A = ℕ} 0 1 = cc in omega arith)
-    go (refused m p) r e = r ∙ (let e′ : Bad n q ≡ Bad m p = rw r at e in let a : m ≡ n = cc in let b : p ≡ q = cc in ap (λ k. refused k p) a ∙ ap (refused n) b)
+items-bad f s n q e = mapped-bad plain _ n q (sym (run-plain f s) ∙ walked-bad (weightOfEntry pack) (λ e. eqb (tagOfEntry e) 17) (run always tagOfEntry (stepAt pack f) s) n q e)
 
 -- ---- a pack
 

@@ -26,7 +26,8 @@ use Rattle.heads.specs.Meet.{itemHeadOf, packHeadOf}
 use Rattle.walks.specs.Meet.{deepenAt, stepAt}
 use Rattle.walks.specs.Runs.{levelRun, seriesRun}
 use Rattle.walks.proofs.Levels.{deepen-plain, deepen-series}
-use Rattle.walks.proofs.Series.{run-plain, asEntries}
+use Rattle.walks.proofs.Maps.{mapped}
+use Rattle.walks.proofs.Series.{run-plain}
 
 -- ---- an entry
 
@@ -169,7 +170,7 @@ module _ (f : Form) (seen u : List ℕ) where
         it-is = ap (λ x. x .val) q;
         entries = got (map plain (is .val)) (is .used);
         entries-are = refl;
-        runs = run-plain f _ ∙ ap asEntries ei;
+        runs = run-plain f _ ∙ ap (mapped plain) ei;
       }
 
   pub pack-here : Bytes u → (r : Got Pack) → onePack f seen u ≡ ok r → (h : Head) → packHeadOf h ≡ packHead u

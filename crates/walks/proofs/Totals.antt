@@ -20,7 +20,7 @@ use Rattle.format.proofs.sheets.Values.{length-val}
 use Rattle.format.proofs.sheets.Targets.{length-target}
 use Rattle.format.proofs.sheets.Normal.{length-series}
 use Rattle.walks.specs.Meet.{sizes, plusSizes, itemSizes, packSizes, seriesSizes, total, weightOfVal, weightOfTarget, weightOfPart, weightOfItem, weightOfPack, weightOfEntry}
-use Rattle.walks.specs.declared.Sizes.{Sizes}
+use Rattle.walks.proofs.Maps.{total-map}
 use Rattle.walks.proofs.Walks.{plus-assoc}
 
 -- ---- of what a sheet says: its bytes, and those of its packet
@@ -33,7 +33,7 @@ val-normal : (l : Level) (v : Val) → isSet l && eqb (v .tag) 1 ≡ false → l
 unfolding itemSizes itemOf
 val-normal l v z = rw (length-item, z, itemSizes) (omega arith)
 
-val-inner : (l : Level) (v : Val) → weightOfVal l v .inner ≡ 0
+pub val-inner : (l : Level) (v : Val) → weightOfVal l v .inner ≡ 0
 unfolding itemSizes
 val-inner l v = go (isSet l && eqb (v .tag) 1) refl
   where
@@ -109,11 +109,6 @@ parts-inner (one v ∷ ps) = omega (arith, parts-inner ps, val-inner set v)
 parts-inner (targets ts ∷ ps) = omega (arith, parts-inner ps)
 
 -- ---- of what a packet holds: what it says weighs the same
-
-pub total-map : {X Y : Type 0} (f : X → Y) (a : X → Sizes) (b : Y → Sizes) → ((x : X) → a x ≡ b (f x)) → (xs : List X) → total a xs ≡ total b (map f xs)
-unfolding total
-total-map f a b e [] = refl
-total-map f a b e (x ∷ xs) = rw (e x, total-map f a b e xs)
 
 pub pack-says : (p : Pack) → weightOfPack p ≡ weightOfTarget (targetOf p)
 unfolding targetOf

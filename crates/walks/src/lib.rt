@@ -186,7 +186,7 @@ pub fn stop(a: Piece, p: usize) -> Walked
 }
 
 pub fn later(w: Walked, k: usize) -> Walked
-    requires { ⌜ Within w 8192 × (k ≤ 8192) ⌝ }
+    requires { ⌜ Within w 65536 × (k ≤ 65536) ⌝ }
     ensures { λ r. ⌜ r ≡ laterBy k w ⌝ }
 {
     match w {
@@ -241,7 +241,7 @@ pub fn one_item(set: bool, tag: u64, n: usize) -> Walked
 
 // A series, given its packs, whose bytes begin at k.
 pub fn series_of(w: Walked, k: usize) -> Walked
-    requires { ⌜ Within w 8192 × (k ≤ 8192) ⌝ }
+    requires { ⌜ Within w 65536 × (k ≤ 65536) ⌝ }
     ensures { λ r. ⌜ r ≡ seriesFrom k w ⌝ }
 {
     match w {

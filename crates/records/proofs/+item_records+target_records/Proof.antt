@@ -27,9 +27,9 @@ use Rattle.records.proofs.+item_records+target_records.Lts-target_recor
 use Rattle.coding.proofs.widths.oid_width.Reads as oid-width-reads
 use Rattle.heads.proofs.records.is_mark.Reads as is-mark-reads
 use Rattle.records.proofs.goes_on.Reads as goes-on-reads
-use Rattle.records.proofs.later.Reads as later-reads
+use Rattle.walks.proofs.later.Reads as later-reads
 use Rattle.records.proofs.part_at.Reads as part-at-reads
-use Rattle.records.proofs.series_of.Reads as series-of-reads
+use Rattle.walks.proofs.series_of.Reads as series-of-reads
 use Rattle.records.proofs.target_at.Reads as target-at-reads
 use Rattle.walks.proofs.either.Reads as either-reads
 use Rattle.walks.proofs.is_series.Reads as is-series-reads
@@ -170,7 +170,7 @@ item-records-target-records-requires t c κs =
 item-records-series-of-requires : (t : ℕ) → item-records-lts.Need-series-of-requires (item-claims t) (item-records-at t) item-records.Post item-records-Inv-loop item-records-μ-loop
 item-records-series-of-requires t c κs =
     let a = c .before .before .before .before .before in
-    within-more (c .target-records .result) _ 65536 (lent-small (part-here t a) (c .before .before .before .is-series .ensures) (c .before .before .if2 .taken)) (c .target-records .ensures .1)
+    (within-more (c .target-records .result) _ 65536 (lent-small (part-here t a) (c .before .before .before .is-series .ensures) (c .before .before .if2 .taken)) (c .target-records .ensures .1), omega arith)
 
 item-records-one-item-requires : (t : ℕ) → item-records-lts.Need-one-item-requires (item-claims t) (item-records-at t) item-records.Post item-records-Inv-loop item-records-μ-loop
 item-records-one-item-requires t c κs =

@@ -1,5 +1,4 @@
 -- `vmti::vmti_read` meets its contract: the answer of `read`, as one number.
-use native.Mathlib.Omega.{arith}
 use borrow.Author.Needs.{needs}
 use Rattle.vmti.proofs.Bounds.{read-small, one-number}
 use Rattle.vmti.proofs.vmti_read.Statement.{statement}
@@ -8,28 +7,16 @@ use Rattle.vmti.proofs.vmti_read.Tie as tie
 read-requires : tie.Need-read-requires
 read-requires c κs = search needs
 
-mul-result : tie.Need-mul-result
-mul-result c =
+one-number-requires : tie.Need-one-number-requires
+one-number-requires c κs =
     let a = c .before .before in
-    omega (arith, read-small _ _ _ _ _ (λ i. a .before .before .before .shared-slice-known .given i .fits) (a .read .ensures))
-
-add-result : tie.Need-add-result
-add-result c =
-    let a = c .before .before .before in
-    omega (arith, read-small _ _ _ _ _ (λ i. a .before .before .before .shared-slice-known .given i .fits) (a .read .ensures))
+    read-small _ _ _ _ _ (λ i. a .before .before .before .shared-slice-known .given i .fits) (a .read .ensures)
 
 same-length : tie.Need-same-length
 same-length c = search needs
 
 returns : tie.Need-returns
-returns c = one-number _ _ _ (c .before .before .before .read .ensures)
+returns c = one-number _ _ _ (c .before .before .before .read .ensures) (c .one-number .ensures)
 
 pub vmti-read-spec : {M : Type 1} → statement M
-vmti-read-spec =
-    tie.close
-    (tie.spec
-    read-requires
-    mul-result
-    add-result
-    same-length
-    returns)
+vmti-read-spec = tie.close (tie.spec read-requires one-number-requires same-length returns)

@@ -15,7 +15,7 @@ enum-known-w-2 c = search needs
 add-t8 : tie.Need-add-t8
 add-t8 c =
     let a = c .before .before .before in
-    omega (arith, a .pre .1, subst (λ w. Within w 8192) (c .before .w2 .given .1) (a .pre .0))
+    omega (arith, a .pre .1, subst (λ w. Within w 65536) (c .before .w2 .given .1) (a .pre .0))
 
 returns : tie.Need-returns
 returns c = sym (ap (laterBy (c .before .before .before .args .k)) (c .before .w .given .1))

@@ -4,7 +4,6 @@ use native.Mathlib.Omega.{arith}
 use mathlib.Core.Bool.{false}
 use Rattle.walks.specs.declared.Walked.the-variants.{Good}
 use Rattle.walks.specs.Meet.{seriesFrom, Within}
-use Rattle.walks.proofs.Walks.{few-more}
 use borrow.Author.Needs.{needs}
 use Rattle.walks.proofs.series_of.Statement.{statement}
 use Rattle.walks.proofs.series_of.Tie as tie
@@ -13,7 +12,7 @@ enum-known-w : tie.Need-enum-known-w
 enum-known-w c = search needs
 
 series-sizes-requires : tie.Need-series-sizes-requires
-series-sizes-requires c κs = few-more _ 8192 65536 (omega arith) (subst (λ w. Within w 8192) (c .before .w .given .1) (c .before .before .before .pre .0))
+series-sizes-requires c κs = subst (λ w. Within w 65536) (c .before .w .given .1) (c .before .before .before .pre .0)
 
 enum-known-w-2 : tie.Need-enum-known-w-2
 enum-known-w-2 c = search needs
@@ -21,7 +20,7 @@ enum-known-w-2 c = search needs
 add-t8 : tie.Need-add-t8
 add-t8 c =
     let a = c .before .before .before in
-    omega (arith, a .pre .1, subst (λ w. Within w 8192) (c .before .w2 .given .1) (a .pre .0))
+    omega (arith, a .pre .1, subst (λ w. Within w 65536) (c .before .w2 .given .1) (a .pre .0))
 
 returns : tie.Need-returns
 returns c = ap (λ a. Good a false) (c .series-sizes .ensures) ∙ sym (ap (seriesFrom (c .before .before .before .before .args .k)) (c .before .before .w .given .1))

@@ -1,12 +1,13 @@
 //! Writes the packets to be timed and times the second reader on them:
-//! `bench FOLDER`, files `NAME.packet`. Prints for each its name, its bytes
-//! and the nanoseconds of one read, packet to sheet.
+//! `bench FOLDER`, files `NAME.packet`. Prints for each call and packet their
+//! names, the packet's bytes and the nanoseconds of one call: read, packet to
+//! sheet; write, that sheet to a packet; normalise.
 
 use second::generate::limits::{falling, most_packs};
 use second::generate::random::Random;
 use second::generate::tree::{Node, Tree};
 use second::table::set_rule;
-use second::{read, Form, PACKET_LIMIT, PACKET_SHEET_LIMIT};
+use second::{normalise, read, write, Form, PACKET_LIMIT, PACKET_SHEET_LIMIT};
 use std::hint::black_box;
 use std::time::{Duration, Instant};
 
@@ -18,14 +19,18 @@ fn main() {
     let folder = std::env::args().nth(1).expect("a folder");
     let packets: Vec<_> =
         trees().into_iter().map(|(name, tree)| (name, tree.form, tree.bytes())).collect();
-    let mut sheet = vec![0; PACKET_SHEET_LIMIT];
+    let mut out = vec![0; PACKET_SHEET_LIMIT];
     for (name, form, packet) in &packets {
-        assert!(read(*form, packet, &mut sheet).is_ok(), "{name} is refused");
+        assert!(read(*form, packet, &mut out).is_ok(), "{name} is refused");
         std::fs::write(format!("{folder}/{name}.packet"), packet).expect("a file");
     }
     for (name, form, packet) in &packets {
-        let best = time(|| _ = black_box(read(*form, black_box(packet), black_box(&mut sheet))));
-        println!("{name} {} {best:.1}", packet.len());
+        let count = read(*form, packet, &mut out).expect("accepted above");
+        let sheet = out[..count].to_vec();
+        let print = |call: &str, best: f64| println!("{call} {name} {} {best:.1}", packet.len());
+        print("read", time(|| _ = black_box(read(*form, black_box(packet), black_box(&mut out)))));
+        print("write", time(|| _ = black_box(write(black_box(&sheet), black_box(&mut out)))));
+        print("normalise", time(|| _ = black_box(normalise(*form, black_box(packet), black_box(&mut out)))));
     }
 }
 

@@ -1,46 +1,97 @@
 //! Writes a stream of cases for `tests/boundary/boundary.c`, with the second
 //! reader's answers: `boundary SEED COUNT`, COUNT seeded packets after
-//! document 01's examples and the named ones, each with two rooms.
+//! document 01's examples and the named ones, each read and, every other one,
+//! normalised, and half as many seeded sheets, each written; with two rooms
+//! each.
 //!
-//! The stream, numbers low byte first: count of packets (8); for each its form
-//! (8), length (4) and bytes, then for each room its size (4), the one number
-//! (8), the count of bytes written (4) and those bytes.
+//! The stream, numbers low byte first: count of inputs (8); for each its call
+//! (8), form (8), length (4) and bytes, then for each room its size (4), the
+//! one number (8), the count of bytes written (4) and those bytes.
 
-use second::generate::{named, packet, PacketCase};
-use second::{read_number, Form, PACKET_SHEET_LIMIT, SHEET_LIMIT};
+use second::generate::{named, packet, sheet, PacketCase};
+use second::{normalise_number, read_number, write_number, Form, PACKET_LIMIT, PACKET_SHEET_LIMIT, SHEET_LIMIT};
 use std::io::{self, BufWriter, Write};
 
 /// Any number but 0 is standalone, whichever of its bytes is not 0.
 const STANDALONE: [u64; 6] = [1, 2, 256, 1 << 32, 1 << 63, u64::MAX];
+
+/// As the calls are numbered in `boundary.c`.
+#[derive(Clone, Copy)]
+enum Call {
+    Read,
+    Write,
+    Normalise,
+}
+
+/// A call and what it is made on.
+struct Question {
+    call: Call,
+    form: u64,
+    input: Vec<u8>,
+}
+
+impl Question {
+    fn answer(&self, room: &mut [u8]) -> u64 {
+        match self.call {
+            Call::Read => read_number(self.form, &self.input, room),
+            Call::Write => write_number(&self.input, room),
+            Call::Normalise => normalise_number(self.form, &self.input, room),
+        }
+    }
+
+    /// The sizes that always suffice.
+    fn most(&self) -> [usize; 2] {
+        match self.call {
+            Call::Read => [PACKET_SHEET_LIMIT, SHEET_LIMIT],
+            Call::Write | Call::Normalise => [PACKET_LIMIT, PACKET_LIMIT + 1],
+        }
+    }
+}
 
 fn main() -> io::Result<()> {
     let mut numbers = std::env::args().skip(1).map(|word| word.parse().expect("a number"));
     let (seed, count) = (numbers.next().unwrap_or(1), numbers.next().unwrap_or(1_000));
     let mut first: Vec<PacketCase> = compare::examples();
     first.extend(named().into_iter().map(|named| PacketCase { form: named.form, bytes: named.packet }));
+    let named = first.len() as u64;
     let out = &mut BufWriter::new(io::stdout().lock());
-    out.write_all(&(first.len() as u64 + count).to_le_bytes())?;
-    let cases = first.into_iter().chain((0..count).map(|index| packet(seed, index)));
-    for (index, case) in cases.enumerate() {
-        write_case(out, index, &case)?;
+    out.write_all(&(2 * named + count + count.div_ceil(2) + count / 2).to_le_bytes())?;
+    for (index, case) in first.iter().enumerate() {
+        write_case(out, index, &of_packet(Call::Read, index, case))?;
+        write_case(out, index, &of_packet(Call::Normalise, index, case))?;
+    }
+    for index in 0..count {
+        let (case, place) = (packet(seed, index), (named + index) as usize);
+        write_case(out, place, &of_packet(Call::Read, place, &case))?;
+        if index % 2 == 0 {
+            write_case(out, place / 2, &of_packet(Call::Normalise, place, &case))?;
+        } else {
+            let input = sheet(seed, index / 2).bytes;
+            write_case(out, place / 2, &Question { call: Call::Write, form: 0, input })?;
+        }
     }
     out.flush()
 }
 
-fn write_case(out: &mut impl Write, index: usize, case: &PacketCase) -> io::Result<()> {
+fn of_packet(call: Call, index: usize, case: &PacketCase) -> Question {
     let form = match case.form {
         Form::Embedded => 0,
         Form::Standalone => STANDALONE[index % STANDALONE.len()],
     };
-    out.write_all(&form.to_le_bytes())?;
-    write_bytes(out, &case.bytes)?;
-    let mut sheet = vec![0; SHEET_LIMIT];
-    for room in rooms(index, form, &case.bytes) {
-        let answer = read_number(form, &case.bytes, &mut sheet[..room]);
+    Question { call, form, input: case.bytes.clone() }
+}
+
+fn write_case(out: &mut impl Write, index: usize, question: &Question) -> io::Result<()> {
+    out.write_all(&(question.call as u64).to_le_bytes())?;
+    out.write_all(&question.form.to_le_bytes())?;
+    write_bytes(out, &question.input)?;
+    let mut room = vec![0; SHEET_LIMIT];
+    for size in rooms(index, question) {
+        let answer = question.answer(&mut room[..size]);
         let written = if answer % 256 == 0 { answer / 256 } else { 0 };
-        out.write_all(&(room as u32).to_le_bytes())?;
+        out.write_all(&(size as u32).to_le_bytes())?;
         out.write_all(&answer.to_le_bytes())?;
-        write_bytes(out, &sheet[..written as usize])?;
+        write_bytes(out, &room[..written as usize])?;
     }
     Ok(())
 }
@@ -50,15 +101,15 @@ fn write_bytes(out: &mut impl Write, bytes: &[u8]) -> io::Result<()> {
     out.write_all(bytes)
 }
 
-/// Exact, and by turns one too few, none, or to spare. A refused packet has no
+/// Exact, and by turns one too few, none, or to spare. A refused input has no
 /// exact room: some bytes are lent all the same, for it to leave alone.
-fn rooms(index: usize, form: u64, packet: &[u8]) -> [usize; 2] {
-    let answer = read_number(form, packet, &mut [0; SHEET_LIMIT]);
-    let exact = if answer % 256 == 0 { answer as usize / 256 } else { 3 + packet.len() % 500 };
+fn rooms(index: usize, question: &Question) -> [usize; 2] {
+    let answer = question.answer(&mut [0; SHEET_LIMIT]);
+    let exact = if answer % 256 == 0 { answer as usize / 256 } else { 3 + question.input.len() % 500 };
     let spare = match index % 64 {
-        12 => PACKET_SHEET_LIMIT,
-        28 => SHEET_LIMIT,
+        12 => question.most()[0],
+        28 => question.most()[1],
         _ => exact + 1 + index * 7_919 % 40,
     };
-    [exact, [exact - 1, 0, spare][index % 3]]
+    [exact, [exact.saturating_sub(1), 0, spare][index % 3]]
 }

@@ -1,0 +1,70 @@
+-- What a part and a target write: a head, and what they hold; with the size that stands in the head.
+use mathlib.Core.Path.{_≡_, refl, sym, ap, _∙_}
+use Prim.Native.Nat.{ℕ, _+_, _≤_}
+use native.Mathlib.Omega.{arith}
+use mathlib.Core.List.{List, [], _∷_, _++_, append-assoc, map}
+use lib.ListN.{length, length-append}
+use Rattle.format.specs.Answer.{Ans, ok, refused, Got}
+use Rattle.format.specs.Coding.{lenWidth, lenBytes, oidBytes}
+use Rattle.format.specs.Lists.{flatAll}
+use Rattle.format.specs.Table.{pack}
+use Rattle.format.specs.Packet.{flatItem, packBody, flatPack, flatEntry}
+use Rattle.format.specs.Sheet.{Val, Target, Part, one, targets}
+use Rattle.format.specs.Calls.{itemOf, packWith, packOf, seriesWith, entryOf}
+use Rattle.format.specs.Valid.{All}
+use Rattle.walks.specs.Meet.{total, weightOfVal}
+use Rattle.walks.specs.Runs.{madeOf}
+use Rattle.walks.proofs.Totals.{body-normal}
+use Rattle.normals.specs.Meet.{seriesFront, packFront}
+use Rattle.packets.specs.Meet.{partNormal, targetNormal, InnerPart, InnerParts}
+
+pub flat-map : {X Y : Type 0} (g : X → Y) (flat : Y → List ℕ) (xs : List X) → flatAll flat (map g xs) ≡ flatAll (λ x. flat (g x)) xs
+unfolding flatAll
+flat-map g flat [] = refl
+flat-map g flat (x ∷ xs) = ap (λ y. flat (g x) ++ y) (flat-map g flat xs)
+
+-- ---- a part
+
+-- where the packs of a series take n bytes
+abbrev pub partBytes : ℕ → Part → List ℕ
+partBytes n (one v) = flatItem (itemOf v)
+partBytes n (targets ts) = seriesFront n ++ flatAll targetNormal ts
+
+part-bytes : (n : ℕ) (p : Part) → InnerPart n p → partNormal p ≡ partBytes n p
+unfolding flatEntry entryOf seriesWith seriesFront
+part-bytes n (one v) h = refl
+part-bytes n (targets ts) h = rw (flat-map packOf flatPack ts, ← h) (sym (append-assoc (oidBytes 101) (lenBytes (lenWidth n) n) (flatAll targetNormal ts)))
+
+parts-bytes : (n : ℕ) (ps : List Part) → All (InnerPart n) ps → flatAll partNormal ps ≡ flatAll (partBytes n) ps
+unfolding flatAll
+parts-bytes n [] h = refl
+parts-bytes n (p ∷ ps) h = rw (part-bytes n p (h .0), parts-bytes n ps (h .1))
+
+pub run-bytes : (n : ℕ) (x : Ans (Got (List Part))) → InnerParts n x → madeOf (flatAll partNormal) x ≡ madeOf (flatAll (partBytes n)) x
+run-bytes n (ok rs) h = parts-bytes n (rs .val) h
+run-bytes n (refused k p) h = refl
+
+-- ---- a target
+
+-- its items, as those of its pack and as parts
+same-normal : (vs : List Val) → flatAll flatItem (map itemOf vs) ≡ flatAll partNormal (map one vs)
+unfolding flatEntry entryOf
+same-normal vs = flat-map itemOf flatItem vs ∙ sym (flat-map one partNormal vs)
+
+pub target-normal : (id : ℕ) (vs : List Val) (n : ℕ) → n ≡ length (oidBytes id) + total (weightOfVal pack) vs .normal
+    → targetNormal (record { id = id; vals = vs }) ≡ packFront n id ++ flatAll partNormal (map one vs)
+unfolding flatPack packOf packWith packBody packFront
+target-normal id vs n e =
+    let l : length (oidBytes id ++ flatAll flatItem (map itemOf vs)) ≡ n = body-normal (record { id = id; vals = vs }) 0 ∙ sym e in
+    rw (l, same-normal vs) (sym (append-assoc (lenBytes (lenWidth n) n) (oidBytes id) (flatAll partNormal (map one vs))))
+
+pub target-long : (id : ℕ) (vs : List Val) → length (oidBytes id) + total (weightOfVal pack) vs .normal ≤ length (targetNormal (record { id = id; vals = vs }))
+unfolding flatPack packOf packWith
+target-long id vs =
+    let t : Target = record { id = id; vals = vs } in
+    rw length-append (omega (arith, body-normal t (lenWidth (length (packBody (record { width = 0; id = id; items = map itemOf vs }))))))
+
+-- no series stands in it
+pub no-inner : (n : ℕ) (vs : List Val) → All (InnerPart n) (map one vs)
+no-inner n [] = tt
+no-inner n (v ∷ vs) = (tt, no-inner n vs)

@@ -1,0 +1,4 @@
+pub mod Splices
+pub mod Seeks
+pub mod Entries
+pub mod Packs

@@ -1,0 +1,127 @@
+-- What stands at a place of bytes that a run read to their end; and a loop over it that looks for the first hit.
+use mathlib.Core.Path.{_≡_, refl, sym, ap, _∙_}
+use Prim.Native.Nat.{ℕ, _+_, _≤_, _<_}
+use native.Mathlib.Omega.{arith}
+use mathlib.Core.Bool.{Bool, true, false}
+use mathlib.Core.List.{List, [], _∷_, _++_, append-assoc, append-nil}
+use lib.ListN.{length, drop, length-append}
+use lib.Seq.{drop-append-seam}
+use Rattle.format.specs.Answer.{Ans, ok, refused, Got, got}
+use Rattle.format.specs.Coding.{Bytes}
+use Rattle.format.specs.Lists.{flatAll}
+use Rattle.format.specs.Run.{Step, always, run}
+use Rattle.format.proofs.words.Flats.{flat-append, flat-snoc}
+use Rattle.format.proofs.reading.Runs.{Along, Faithful, ReadsAt, RanAll, all-says}
+use Rattle.walks.specs.Runs.{Ran}
+use Rattle.spots.specs.Meet.{spot, spotIn, thingsOf}
+use Rattle.spots.proofs.Splices.{all-snoc, Missed, Hit, spot-past, spot-hit}
+
+-- a run that came to its end
+pub ran-ok : {X : Type 0} (m : Ans (Got (List X))) {rs : Got (List X)} → m ≡ ok rs → Ran m
+ran-ok m e = rw e tt
+
+module _ {X : Type 0} (key : X → ℕ) (step : Step X) (flat : X → List ℕ) where
+  -- ---- what stands at a place
+
+  -- x was read at a
+  pub record Stands (s : List ℕ) (a : ℕ) (x : X) : Type 0 where
+    pub seen : List ℕ
+    pub read : step seen (drop a s) ≡ ok (got x (length (flat x)))
+    pub some : 0 < length (flat x)
+    pub room : a + length (flat x) ≤ length s
+
+  -- what a run to the end read
+  abbrev pub ReadAll : List ℕ → List X → Type 0
+  ReadAll s xs = RanAll key step flat s (got xs 0)
+
+  pub read-all : Faithful always key step flat → (s : List ℕ) → Bytes s → (m : Ans (Got (List X))) → m ≡ run always key step s → Ran m → ReadAll s (thingsOf m)
+  read-all F s b (ok rs) e h = let k = all-says key step flat F s rs b (sym e) in record { bytes = k .bytes; along = k .along }
+  read-all F s b (refused n p) e h = absurd h
+
+  along-at : (P : List ℕ → X → List ℕ → Type 0) (seen : List ℕ) (before : List X) (x : X) (later : List X) (t : List ℕ)
+      → Along key flat P seen (before ++ x ∷ later) t → (z : List ℕ) × P z x (flatAll flat later ++ t)
+  along-at P seen [] x later t h = (seen, h .0)
+  along-at P seen (y ∷ ys) x later t h = along-at P (key y ∷ seen) ys x later t (h .1)
+
+  pub stands : {s : List ℕ} {xs : List X} → ReadAll s xs → (before : List X) (x : X) (later : List X) → xs ≡ before ++ x ∷ later → Stands s (length (flatAll flat before)) x
+  unfolding flatAll
+  stands {s = s} {xs = xs} k before x later e =
+      let b : s ≡ flatAll flat before ++ (flat x ++ flatAll flat later) = k .bytes ∙ ap (flatAll flat) e ∙ flat-append flat before (x ∷ later) in
+      let (seen, r) = along-at (ReadsAt always key step flat) [] before x later [] (rw e at (k .along)) in
+      let d : drop (length (flatAll flat before)) s ≡ flat x ++ (flatAll flat later ++ [])
+      = ap (drop (length (flatAll flat before))) b ∙ drop-append-seam (flatAll flat before) (flat x ++ flatAll flat later) ∙ ap (λ z. flat x ++ z) (sym (append-nil (flatAll flat later))) in
+      record {
+        seen = seen;
+        read = ap (step seen) d ∙ r .reads;
+        some = r .some;
+        room = omega (arith, simp length-append at (ap length b));
+      }
+
+  -- ---- a loop that looks for the first hit
+
+  module _ (hit : X → Bool) where
+    -- it came to p, and none before hits
+    pub record Seeking (xs : List X) (p : ℕ) : Type 0 where
+      pub before : List X
+      pub rest : List X
+      pub list-is : xs ≡ before ++ rest
+      pub missed : Missed hit flat before
+      pub p-is : p ≡ length (flatAll flat before)
+
+    pub seek-start : (xs : List X) → Seeking xs 0
+    unfolding flatAll
+    seek-start xs = record { before = []; rest = xs; list-is = refl; missed = tt; p-is = refl }
+
+    module _ {s : List ℕ} {xs : List X} (k : ReadAll s xs) {p : ℕ} (g : Seeking xs p) where
+      long : length s ≡ p + length (flatAll flat (g .rest))
+      long = ap length (k .bytes ∙ ap (flatAll flat) (g .list-is) ∙ flat-append flat (g .before) (g .rest)) ∙ length-append (flatAll flat (g .before)) (flatAll flat (g .rest)) ∙ omega (arith, g .p-is)
+
+      spot-is : spotIn hit flat 0 xs ≡ spotIn hit flat p (g .rest)
+      spot-is = ap (spotIn hit flat 0) (g .list-is) ∙ spot-past hit flat 0 (g .before) (g .rest) (g .missed) ∙ ap (λ n. spotIn hit flat n (g .rest)) (omega (arith, g .p-is))
+
+      -- what stands at p
+      pub record Next : Type 0 where
+        pub it : X
+        pub later : List X
+        pub rest-is : g .rest ≡ it ∷ later
+        pub here : Stands s p it
+
+      pub next-here : p < length s → Next
+      unfolding flatAll
+      next-here h = go (g .rest) refl
+        where
+          go : (ys : List X) → g .rest ≡ ys → Next
+          go [] e = absurd (omega (arith, h, long, ap (λ z. length (flatAll flat z)) e))
+          go (y ∷ ys) e = record {
+            it = y;
+            later = ys;
+            rest-is = e;
+            here = rw (g .p-is) (stands k (g .before) y ys (g .list-is ∙ ap (λ z. g .before ++ z) e));
+          }
+
+      pub seek-done : length s ≤ p → spot p 0 ≡ spotIn hit flat 0 xs
+      unfolding spotIn flatAll
+      seek-done h = go (g .rest) refl
+        where
+          go : (ys : List X) → g .rest ≡ ys → spot p 0 ≡ spotIn hit flat 0 xs
+          go [] e = sym (spot-is ∙ ap (spotIn hit flat p) e)
+          go (y ∷ ys) e =
+              let z = stands k (g .before) y ys (g .list-is ∙ ap (λ z. g .before ++ z) e) in
+              absurd (omega (arith, h, z .some, z .room, g .p-is))
+
+      module _ (n : Next) where
+        pub seek-found : hit (n .it) ≡ true → {m : ℕ} → m ≡ length (flat (n .it)) → spot p m ≡ spotIn hit flat 0 xs
+        seek-found z e = ap (spot p) e ∙ sym (spot-is ∙ ap (spotIn hit flat p) (n .rest-is) ∙ spot-hit hit flat p (n .it) (n .later) z)
+
+        pub seek-more : hit (n .it) ≡ false → {m : ℕ} → m ≡ length (flat (n .it)) → Seeking xs (p + m)
+        seek-more z {m = m} e = record {
+          before = g .before ++ (n .it ∷ []);
+          rest = n .later;
+          list-is = g .list-is ∙ ap (λ r. g .before ++ r) (n .rest-is) ∙ sym (append-assoc (g .before) (n .it ∷ []) (n .later));
+          missed = all-snoc (λ x. hit x ≡ false) (g .before) (n .it) (g .missed) z;
+          p-is = omega (arith, e, g .p-is, ap length (flat-snoc flat (g .before) (n .it)), length-append (flatAll flat (g .before)) (flat (n .it)));
+        }
+
+    -- what stands at a spot
+    pub stands-hit : {s : List ℕ} {xs : List X} → ReadAll s xs → (a : Hit hit flat xs) → Stands s (spotIn hit flat 0 xs .at) (a .it)
+    stands-hit k a = rw (a .at-is) (stands k (a .before) (a .it) (a .later) (a .list-is))

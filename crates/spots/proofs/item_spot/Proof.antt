@@ -1,0 +1,90 @@
+-- `spots::item_spot` meets its contract: each turn passes one entry that is not the one sought.
+use Prim.Native.Nat.{_-_}
+use native.Mathlib.Omega.{arith}
+use lib.ListN.{length}
+use borrow.Author.Needs.{needs}
+use Rattle.items.specs.Meet.{formOf, levelOf}
+use Rattle.heads.proofs.item_head.Reads as item-head-reads
+use Rattle.spots.proofs.Entries.{EntryTurn, entry-start, EntryAt, entry-done, entry-fault, entry-room, entry-found, entry-more}
+use Rattle.spots.proofs.item_spot.Statement.{statement}
+use Rattle.spots.proofs.item_spot.Reads as reads
+use Rattle.spots.proofs.item_spot.Lts as lts
+use Rattle.spots.proofs.item_spot.Tie as tie
+
+abbrev Inv-loop : tie.InvT-loop
+Inv-loop s set alone tag p₀ p = EntryTurn (levelOf set) (formOf alone) tag s p
+
+abbrev μ-loop : tie.MeasureT-loop
+μ-loop s set alone tag p₀ p = length s - p
+
+-- the loop at the head that was read
+here : (a : lts.After-item-head (item-head-reads.Asked, item-head-reads.Learnt) reads.Pre reads.Post Inv-loop μ-loop)
+    → EntryAt (levelOf (a .before .before .before .before .before .args .set)) (formOf (a .before .before .before .before .before .args .alone)) (a .before .before .before .before .before .args .tag) (a .before .before .before .before .before .args .s .now) (a .before .before .before .loop .p) (a .item-head .result)
+here a = record { turn = a .before .before .before .loop .inv; here = a .before .before .loop-test .taken; reads = a .item-head .ensures }
+
+loop-holds : tie.Need-loop-holds Inv-loop μ-loop
+loop-holds c = entry-start (levelOf (c .before .args .set)) (formOf (c .before .args .alone)) _ _ (λ i. c .shared-slice-known .given i .fits) (c .before .pre)
+
+sub-item-head : tie.Need-sub-item-head Inv-loop μ-loop
+sub-item-head c = search needs
+
+part-item-head-start : tie.Need-part-item-head-start Inv-loop μ-loop
+part-item-head-start c = search needs
+
+part-item-head-end : tie.Need-part-item-head-end Inv-loop μ-loop
+part-item-head-end c = search needs
+
+item-head-requires : tie.Need-item-head-requires Inv-loop μ-loop
+item-head-requires c κs = search needs
+
+enum-known-h : tie.Need-enum-known-h Inv-loop μ-loop
+enum-known-h c = search needs
+
+enum-told : tie.Need-enum-told Inv-loop μ-loop
+enum-told c = search needs
+
+returns : tie.Need-returns Inv-loop μ-loop
+returns c = entry-fault (here (c .before .before)) (c .enum-told .given .1)
+
+add-whole : tie.Need-add-whole Inv-loop μ-loop
+add-whole c = omega (arith, entry-room (here (c .before .before .before)) (c .before .h .given .1))
+
+add-whole-2 : tie.Need-add-whole-2 Inv-loop μ-loop
+add-whole-2 c = omega (arith, entry-room (here (c .before .before .before)) (c .before .h .given .1))
+
+add-next : tie.Need-add-next Inv-loop μ-loop
+add-next c = omega (arith, entry-room (here (c .before .before .before)) (c .before .h .given .1))
+
+returns-2 : tie.Need-returns-2 Inv-loop μ-loop
+returns-2 c = entry-found (here (c .before .before .before .before)) (c .before .before .h .given .1) (c .if1 .taken)
+
+loop-less : tie.Need-loop-less Inv-loop μ-loop
+loop-less c = omega (arith, entry-room (here (c .before .before .before .before)) (c .before .before .h .given .1))
+
+loop-again : tie.Need-loop-again Inv-loop μ-loop
+loop-again c = entry-more (here (c .before .before .before .before)) (c .before .before .h .given .1) (c .if1 .left)
+
+returns-3 : tie.Need-returns-3 Inv-loop μ-loop
+returns-3 c = entry-done (c .before .loop .inv) (c .loop-test .left)
+
+pub item-spot-spec : {M : Type 1} → statement M
+item-spot-spec =
+    tie.close
+    (tie.spec
+    Inv-loop
+    μ-loop
+    loop-holds
+    sub-item-head
+    part-item-head-start
+    part-item-head-end
+    item-head-requires
+    enum-known-h
+    enum-told
+    returns
+    add-whole
+    add-whole-2
+    add-next
+    returns-2
+    loop-less
+    loop-again
+    returns-3)

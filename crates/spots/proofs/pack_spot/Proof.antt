@@ -1,0 +1,86 @@
+-- `spots::pack_spot` meets its contract: each turn passes one pack that is not the one sought.
+use Prim.Native.Nat.{_-_}
+use native.Mathlib.Omega.{arith}
+use lib.ListN.{length}
+use borrow.Author.Needs.{needs}
+use Rattle.items.specs.Meet.{formOf}
+use Rattle.heads.proofs.pack_head.Reads as pack-head-reads
+use Rattle.spots.proofs.Packs.{PackTurn, pack-start, PackAt, pack-done, pack-fault, pack-room, pack-found, pack-more}
+use Rattle.spots.proofs.pack_spot.Statement.{statement}
+use Rattle.spots.proofs.pack_spot.Reads as reads
+use Rattle.spots.proofs.pack_spot.Lts as lts
+use Rattle.spots.proofs.pack_spot.Tie as tie
+
+abbrev Inv-loop : tie.InvT-loop
+Inv-loop s alone id p₀ p = PackTurn (formOf alone) id s p
+
+abbrev μ-loop : tie.MeasureT-loop
+μ-loop s alone id p₀ p = length s - p
+
+-- the loop at the head that was read
+here : (a : lts.After-pack-head (pack-head-reads.Asked, pack-head-reads.Learnt) reads.Pre reads.Post Inv-loop μ-loop)
+    → PackAt (formOf (a .before .before .before .before .before .args .alone)) (a .before .before .before .before .before .args .id) (a .before .before .before .before .before .args .s .now) (a .before .before .before .loop .p) (a .pack-head .result)
+here a = record { turn = a .before .before .before .loop .inv; here = a .before .before .loop-test .taken; reads = a .pack-head .ensures }
+
+loop-holds : tie.Need-loop-holds Inv-loop μ-loop
+loop-holds c = pack-start (formOf (c .before .args .alone)) _ _ (λ i. c .shared-slice-known .given i .fits) (c .before .pre)
+
+sub-pack-head : tie.Need-sub-pack-head Inv-loop μ-loop
+sub-pack-head c = search needs
+
+part-pack-head-start : tie.Need-part-pack-head-start Inv-loop μ-loop
+part-pack-head-start c = search needs
+
+part-pack-head-end : tie.Need-part-pack-head-end Inv-loop μ-loop
+part-pack-head-end c = search needs
+
+pack-head-requires : tie.Need-pack-head-requires Inv-loop μ-loop
+pack-head-requires c κs = search needs
+
+enum-known-h : tie.Need-enum-known-h Inv-loop μ-loop
+enum-known-h c = search needs
+
+enum-told : tie.Need-enum-told Inv-loop μ-loop
+enum-told c = search needs
+
+returns : tie.Need-returns Inv-loop μ-loop
+returns c = pack-fault (here (c .before .before)) (c .enum-told .given .1)
+
+add-size : tie.Need-add-size Inv-loop μ-loop
+add-size c = omega (arith, pack-room (here (c .before .before .before)) (c .before .h .given .1))
+
+add-next : tie.Need-add-next Inv-loop μ-loop
+add-next c = omega (arith, pack-room (here (c .before .before .before)) (c .before .h .given .1))
+
+returns-2 : tie.Need-returns-2 Inv-loop μ-loop
+returns-2 c = pack-found (here (c .before .before .before .before)) (c .before .before .h .given .1) (c .if1 .taken)
+
+loop-less : tie.Need-loop-less Inv-loop μ-loop
+loop-less c = omega (arith, pack-room (here (c .before .before .before .before)) (c .before .before .h .given .1))
+
+loop-again : tie.Need-loop-again Inv-loop μ-loop
+loop-again c = pack-more (here (c .before .before .before .before)) (c .before .before .h .given .1) (c .if1 .left)
+
+returns-3 : tie.Need-returns-3 Inv-loop μ-loop
+returns-3 c = pack-done (c .before .loop .inv) (c .loop-test .left)
+
+pub pack-spot-spec : {M : Type 1} → statement M
+pack-spot-spec =
+    tie.close
+    (tie.spec
+    Inv-loop
+    μ-loop
+    loop-holds
+    sub-pack-head
+    part-pack-head-start
+    part-pack-head-end
+    pack-head-requires
+    enum-known-h
+    enum-told
+    returns
+    add-size
+    add-next
+    returns-2
+    loop-less
+    loop-again
+    returns-3)

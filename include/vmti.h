@@ -1,7 +1,7 @@
 /* vmti.h -- VMTI packets (MISB ST 0903.6) for C
  *
- * The library reads and writes the packets that aerial detectors send: lists
- * of targets, in one of two forms.
+ * The library reads, writes and edits the packets that aerial detectors send:
+ * lists of targets, in one of two forms.
  *
  *   embedded     only the value, as ST 0601 carries it in Item 74
  *   standalone   the 16-byte key, a BER length, and exactly that many bytes
@@ -30,8 +30,8 @@
  * Its place is counted from the input's first byte, and is where the item's
  * tag, the pack's length or the sheet's record begins, never the faulty byte
  * within. For a 14 that is found only at the end it is the input's length; for
- * 1, 2 and a fault of the outer length it is 0; for 16 it is no place but the
- * size needed.
+ * 1, 2, a fault of the outer length and an edit's own refusals it is 0; for 16
+ * it is no place but the size needed.
  *
  *
  * What is lent
@@ -39,8 +39,8 @@
  *
  * A buffer is a pointer and a length in bytes. Any alignment will do. Where
  * the length is 0 the pointer is not used and may be NULL. The input is never
- * changed, and nothing outside the lengths given is read or written. The two
- * buffers may not overlap. What stood in the output before does not matter.
+ * changed, and nothing outside the lengths given is read or written. The
+ * output may not overlap an input. What stood in the output before does not matter.
  *
  *   on success    the first VMTI_PLACE(answer) bytes of the output are written
  *                 and those after them are as they were
@@ -96,6 +96,8 @@ extern "C" {
 #define VMTI_BAD_RECORD 17          /* sheet: cut or unknown record, bad form byte, record where it may not stand, TS
                                      * without TG, tag 0 or above 16,383, IT with 1 or 101, id of 2^63 or more, or a
                                      * number that is not shortest */
+#define VMTI_ABSENT 18              /* edit: no such target, or removal of an absent item */
+#define VMTI_NOT_EDITABLE 19        /* edit: tag 0 or above 16,383, or the set's 1 or 101 */
 
 /* Reads a packet to its sheet.
  *
@@ -174,6 +176,35 @@ uint64_t vmti_write(const uint8_t *sheet, size_t sheet_len, uint8_t *packet, siz
  * document 01 lists lose leading zero bytes, and lengths become shortest.
  */
 uint64_t vmti_normalise(uint64_t form, const uint8_t *packet, size_t packet_len, uint8_t *out, size_t out_room);
+
+/* What an edit names: the set or a target, and what it does. Any number but 0 is the other. */
+#define VMTI_SET 0
+#define VMTI_TARGET 1
+#define VMTI_PUT 0
+#define VMTI_REMOVE 1
+
+/* Puts or removes one item of a packet, and keeps every other byte.
+ *
+ *   form         VMTI_EMBEDDED or VMTI_STANDALONE
+ *   packet       packet_len bytes
+ *   level        VMTI_SET, or VMTI_TARGET for the target with the id `target`
+ *   target       a target's id; not looked at for the set
+ *   tag          the item's tag
+ *   removal      VMTI_PUT or VMTI_REMOVE
+ *   value        value_len bytes to put; not looked at for a removal
+ *   out          room for out_room bytes; VMTI_PACKET_MOST always suffices
+ *
+ * Putting over an item replaces it in its place; a new one is added at the end
+ * of its level, before the checksum. A number is first shortened. The lengths
+ * of the item, of its pack, of the series and of the packet are written
+ * shortest, and the checksum is fresh; all other bytes are kept, in order.
+ *
+ * Answers with the one number: success with the count of bytes of the edited
+ * packet, or a refusal: the packet's own, 1 to 15, then 19, 18, for a put 7, 13,
+ * 11, 12, for a removal 14, then 1 or 16.
+ */
+uint64_t vmti_edit(uint64_t form, const uint8_t *packet, size_t packet_len, uint64_t level, uint64_t target, uint64_t tag,
+                   uint64_t removal, const uint8_t *value, size_t value_len, uint8_t *out, size_t out_room);
 
 #ifdef __cplusplus
 }

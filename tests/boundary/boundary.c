@@ -17,7 +17,7 @@
 enum { PAGE = 4096, SPAN = 32 * PAGE, AROUND = 64, ROOMS = 2, SHOWN = 5 };
 
 /* The calls, and the numbers that each can answer, in the order of document 01's table. */
-enum { READ, WRITE, NORMALISE, CALLS };
+enum { READ, WRITE, NORMALISE, EDIT, CALLS };
 
 static const struct {
     const char *name;
@@ -26,6 +26,12 @@ static const struct {
     {"vmti_read", "+++++++++++++++++"},
     {"vmti_write", "++.....+.++++++.++"},
     {"vmti_normalise", "+++++++++++++++++"},
+    {"vmti_edit", "+++++++++++++++++.++"},
+};
+
+/* What a call is made on, but for the buffers lent; an edit alone looks at level and those after it. */
+struct question {
+    uint64_t which, form, level, target, tag, removal;
 };
 
 /* What the output is filled with, and what stands around both: no two bytes near each other are alike. */
@@ -97,16 +103,19 @@ static void take_back(struct lent *l)
 }
 
 /* 0 if the call touched a page that it may not. */
-static int call(uint64_t which, uint64_t form, const struct lent *in, const struct lent *out, uint64_t *answer)
+static int call(const struct question *q, const struct lent *in, const struct lent *value, const struct lent *out, uint64_t *answer)
 {
     if (sigsetjmp(touched, 0) != 0)
         return 0;
-    if (which == READ)
-        *answer = vmti_read(form, in->at, in->size, out->at, out->size);
-    else if (which == WRITE)
+    if (q->which == READ)
+        *answer = vmti_read(q->form, in->at, in->size, out->at, out->size);
+    else if (q->which == WRITE)
         *answer = vmti_write(in->at, in->size, out->at, out->size);
+    else if (q->which == NORMALISE)
+        *answer = vmti_normalise(q->form, in->at, in->size, out->at, out->size);
     else
-        *answer = vmti_normalise(form, in->at, in->size, out->at, out->size);
+        *answer = vmti_edit(q->form, in->at, in->size, q->level, q->target, q->tag, q->removal, value->at, value->size,
+                            out->at, out->size);
     return 1;
 }
 
@@ -126,6 +135,20 @@ static uint64_t get_number(size_t width)
     return n;
 }
 
+static struct question get_question(void)
+{
+    struct question q;
+    q.which = get_number(8);
+    q.form = get_number(8);
+    q.level = get_number(8);
+    q.target = get_number(8);
+    q.tag = get_number(8);
+    q.removal = get_number(8);
+    if (q.which >= CALLS)
+        die("no such call");
+    return q;
+}
+
 static size_t get_bytes(uint8_t *to)
 {
     size_t count = get_number(4);
@@ -135,11 +158,13 @@ static size_t get_bytes(uint8_t *to)
     return count;
 }
 
-static void show(const char *why, uint64_t which, uint64_t form, const uint8_t *input, size_t input_len, size_t room,
+static void show(const char *why, const struct question *q, const uint8_t *input, size_t input_len, size_t room,
                  uint64_t wanted, uint64_t got)
 {
     size_t i;
-    printf("%s, %s: form %llu, room %zu, input of %zu:", calls[which].name, why, (unsigned long long)form, room, input_len);
+    printf("%s, %s: form %llu, level %llu, target %llu, tag %llu, removal %llu, room %zu, input of %zu:", calls[q->which].name,
+           why, (unsigned long long)q->form, (unsigned long long)q->level, (unsigned long long)q->target,
+           (unsigned long long)q->tag, (unsigned long long)q->removal, room, input_len);
     for (i = 0; i < input_len && i < 200; i++)
         printf(" %02X", input[i]);
     printf("%s\n  expected %u at %llu, got %u at %llu\n", i < input_len ? " .." : "", VMTI_NUMBER(wanted),
@@ -166,9 +191,9 @@ static int report(uint64_t which, const uint64_t *seen)
 
 int main(int argc, char **argv)
 {
-    static uint8_t input[SPAN], after[SPAN];
+    static uint8_t input[SPAN], given[SPAN], after[SPAN];
     static uint64_t seen[CALLS][256];
-    struct lent in, out;
+    struct lent in, value, out;
     struct sigaction action;
     uint64_t inputs, index;
     unsigned long cases = 0, failed = 0;
@@ -178,6 +203,7 @@ int main(int argc, char **argv)
     for (index = 0; index < sizeof pattern; index++)
         pattern[index] = (uint8_t)(0xA5 + 29 * index + index / 256);
     map(&in);
+    map(&value);
     map(&out);
     memset(&action, 0, sizeof action);
     action.sa_handler = on_touch;
@@ -187,12 +213,10 @@ int main(int argc, char **argv)
 
     inputs = get_number(8);
     for (index = 0; index < inputs; index++) {
-        const uint64_t which = get_number(8);
-        const uint64_t form = get_number(8);
+        const struct question q = get_question();
+        const size_t value_len = get_bytes(given);
         const size_t input_len = get_bytes(input);
         unsigned r;
-        if (which >= CALLS)
-            die("no such call");
         for (r = 0; r < ROOMS; r++) {
             const size_t room = get_number(4);
             const uint64_t wanted = get_number(8);
@@ -207,22 +231,24 @@ int main(int argc, char **argv)
                 die("a case is too long");
             memcpy(after + written, filled + written, room - written);
             lend(&in, input_len, turn & 1, input);
+            lend(&value, value_len, turn >> 2 & 1, given);
             lend(&out, room, turn >> 1 & 1, filled);
-            if (!call(which, form, &in, &out, &got))
+            if (!call(&q, &in, &value, &out, &got))
                 why = "a byte beyond what was lent was touched";
             else if (got != wanted)
                 why = "another number";
             else if (!is_as_lent(&out, after))
                 why = "another output, or a byte around it changed";
-            else if (!is_as_lent(&in, input))
+            else if (!is_as_lent(&in, input) || !is_as_lent(&value, given))
                 why = "the input, or a byte around it, changed";
             take_back(&in);
+            take_back(&value);
             take_back(&out);
             cases++;
             if (why == NULL)
-                seen[which][VMTI_NUMBER(got)]++;
+                seen[q.which][VMTI_NUMBER(got)]++;
             else if (failed++ < SHOWN)
-                show(why, which, form, input, input_len, room, wanted, got);
+                show(why, &q, input, input_len, room, wanted, got);
         }
     }
     if (getchar() != EOF)

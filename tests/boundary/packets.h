@@ -50,7 +50,7 @@ static void get_packet(struct packet *p, const char *path)
     p->sheet_size = (size_t)VMTI_PLACE(answer);
 }
 
-/* The calls, each made on the packet or on its sheet; all are accepted, and given room. */
+/* The calls, each made on the packet or on its sheet, and given room. The edit puts set tag 9. */
 static uint64_t call_read(const struct packet *p)
 {
     return vmti_read(p->form, p->bytes, p->size, out, sizeof out);
@@ -66,10 +66,16 @@ static uint64_t call_normalise(const struct packet *p)
     return vmti_normalise(p->form, p->bytes, p->size, out, sizeof out);
 }
 
+static uint64_t call_edit(const struct packet *p)
+{
+    static const uint8_t value[] = {1, 0};
+    return vmti_edit(p->form, p->bytes, p->size, VMTI_SET, 0, 9, VMTI_PUT, value, sizeof value, out, sizeof out);
+}
+
 static const struct {
     const char *name;
     uint64_t (*make)(const struct packet *p);
-} calls[] = {{"read", call_read}, {"write", call_write}, {"normalise", call_normalise}};
+} calls[] = {{"read", call_read}, {"write", call_write}, {"normalise", call_normalise}, {"edit", call_edit}};
 
 enum { CALLS = sizeof calls / sizeof calls[0] };
 

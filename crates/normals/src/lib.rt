@@ -12,7 +12,7 @@ use walks::Walked;
 // ---- items and heads
 
 // An item in normal form, from its value as it stands in the packet; where it ends. The set's checksum has no place.
-fn put_normal(table: &[u64], out: &mut [u8], at: usize, set: bool, tag: u64, v: &[u8]) -> usize
+pub fn put_normal(table: &[u64], out: &mut [u8], at: usize, set: bool, tag: u64, v: &[u8]) -> usize
     requires { ⌜ (now table ≡ itemTable) × ((tag ≤ 16383) × (0 < length (now v)) × (length (now v) ≤ 8192) × (at + length (itemNormal (levelOf set) tag (now v)) ≤ length (now out))) ⌝ }
     ensures { λ r. ⌜ (r ≡ at + length (itemNormal (levelOf set) tag (now (v .entry)))) × (now (out .exit) ≡ sets (now (out .entry)) at (itemNormal (levelOf set) tag (now (v .entry)))) ⌝ }
 {

@@ -14,7 +14,7 @@ use Rattle.format.specs.Table.{Form, embedded}
 use Rattle.format.specs.Read.{parse, limit}
 use Rattle.format.specs.Sheet.{content, sheetBytes, sheetLimit, unsheet}
 use Rattle.format.specs.Calls.{packetOf, packed, read, write, normalise}
-use Rattle.format.specs.Edit.{theSet, remove}
+use Rattle.format.specs.Edit.{Holder, theSet, Change, remove, editPacket, edit}
 use Rattle.format.specs.Rows.{Row, rowsOf, locate}
 use Rattle.format.specs.Room.{Left, leaves, oneNumber}
 use Rattle.format.proofs.bounds.Packets.{parse-answers}
@@ -109,6 +109,24 @@ call-small lent out a (ok y) r o e =
     let k = left-small lent y in
     small-of a out (leaves lent (ok y)) e (k .0) (omega (arith, k .1, o y refl))
 
+edit-long : (f : Form) (h : Holder) (tag : ℕ) (c : Change) (s y : List ℕ) → edit f h tag c s ≡ ok y → length y ≤ 8192
+unfolding edit
+edit-long f h tag c s y e = bind-then _ _ _ e λ p _ e₁. bind-then _ _ _ e₁ λ _ _ e₂. packed-long (editPacket h tag c p) y e₂
+
+edit-answer : (f : Form) (h : Holder) (tag : ℕ) (c : Change) (s : List ℕ) (n p : ℕ) → edit f h tag c s ≡ refused n p → (n ≤ 19) × (p ≤ 65536)
+edit-answer f h tag c s n p e = go (leb (length s) 8192) refl
+  where
+    long : leb (length s) 8192 ≡ false → edit f h tag c s ≡ refused 1 0
+    long z = unfold edit parse limit need _>>=_ in (rw z)
+
+    go : (b : Bool) → leb (length s) 8192 ≡ b → (n ≤ 19) × (p ≤ 65536)
+    go true z = let k = numbered f s h tag c .edit-answers .by n p e in (k .1, omega (arith, k .2, leb-true (length s) 8192 z))
+    go false z =
+        let q : _≡_ {A = Ans (List ℕ)} (refused 1 0) (refused n p) = sym (long z) ∙ e in
+        let a : 1 ≡ n = cc in
+        let b : 0 ≡ p = cc in
+        (omega arith, omega arith)
+
 module _ (lent out : List ℕ) (a : Answer) where
   pub read-small : (f : Form) (s : List ℕ) → Bytes s → leftOf a out ≡ leaves lent (read f s) → Small a
   read-small f s b e =
@@ -126,6 +144,9 @@ module _ (lent out : List ℕ) (a : Answer) where
 
   pub write-small : (s : List ℕ) → leftOf a out ≡ leaves lent (write s) → Small a
   write-small s e = call-small lent out a (write s) (λ n p q. written-refused s n p q) (λ y q. write-then s y q λ t _ l z. omega (arith, l, ap length z)) e
+
+  pub edit-small : (f : Form) (h : Holder) (tag : ℕ) (c : Change) (s : List ℕ) → leftOf a out ≡ leaves lent (edit f h tag c s) → Small a
+  edit-small f h tag c s e = call-small lent out a (edit f h tag c s) (λ n p q. edit-answer f h tag c s n p q) (λ y q. omega (arith, edit-long f h tag c s y q)) e
 
 -- r is the one number
 pub one-number : (a : Answer) (out : List ℕ) (l : Left ℕ) → leftOf a out ≡ l → {r : ℕ} → r ≡ 256 * a .place + a .number → (r ≡ oneNumber l) × (out ≡ l .lent)

@@ -1,9 +1,11 @@
 pub mod Opened
 pub mod Leaving
 pub mod Framed
+pub mod Packing
 pub mod Reading
 pub mod Normalising
 pub mod Written
+pub mod Editing
 pub mod Locating
 pub mod Bounds
 pub mod Promised

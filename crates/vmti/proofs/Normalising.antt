@@ -1,12 +1,11 @@
 -- The call `normalise`, case by case: a refusal, too little room, and the normal form written.
 use mathlib.Core.Path.{_≡_, sym, ap, _∙_, subst}
-use Prim.Native.Nat.{ℕ, _≤_, _<_}
+use Prim.Native.Nat.{ℕ, _≤_}
 use native.Mathlib.Omega.{arith}
 use mathlib.Core.Bool.{false}
 use mathlib.Core.List.{List, map}
 use lib.Dec.{eqb}
 use lib.ListN.{length}
-use lib.Seq.{sets}
 use Rattle.format.specs.Answer.{ok}
 use Rattle.format.specs.Coding.{Bytes}
 use Rattle.format.specs.Lists.{flatAll}
@@ -14,13 +13,12 @@ use Rattle.format.specs.Table.{Form, set}
 use Rattle.format.specs.Packet.{Entry, Packet, tagOfEntry, flatEntry, flat, closed}
 use Rattle.format.specs.Read.{opening, start, parse}
 use Rattle.format.specs.Sheet.{content}
-use Rattle.format.specs.Calls.{entryOf, packetOf, normalise}
+use Rattle.format.specs.Calls.{entryOf, packetOf, packed, normalise}
 use Rattle.format.specs.Room.{leaves}
 use Rattle.format.proofs.reading.Packets.{parse-says}
 use Rattle.format.proofs.sheets.Normal.{entries-less, normal-less}
-use Rattle.format.proofs.demands.Demand2.{normal-is}
 use Rattle.format.specs.Valid.{All}
-use Rattle.items.proofs.Tests.{bind-not}
+use Rattle.items.proofs.Tests.{bind-so, bind-not}
 use Rattle.walks.specs.declared.Sizes.{Sizes}
 use Rattle.walks.specs.declared.Checked.{Checked}
 use Rattle.walks.specs.declared.Checked.the-variants.{Fine, Wrong}
@@ -29,19 +27,18 @@ use Rattle.walks.specs.Runs.{levelRun}
 use Rattle.walks.proofs.Closings.{inner-less}
 use Rattle.walks.proofs.Parsed.{wrong-parsed}
 use Rattle.frames.specs.Meet.{frameSize}
-use Rattle.frames.proofs.Framing.{frame-long}
 use Rattle.normals.specs.Meet.{levelNormal, InnerRun}
 use Rattle.normals.proofs.Packet.{normal-whole, inner-run}
-use Rattle.vmti.proofs.Leaving.{left-refused, left-short, left-whole}
+use Rattle.vmti.proofs.Leaving.{left-refused}
 use Rattle.vmti.proofs.Opened.{fine, opened, lentSet, lent-is}
-use Rattle.vmti.proofs.Framed.{Fits}
+use Rattle.vmti.proofs.Packing.{Packs, size-is}
 use Rattle.vmti.specs.declared.Answer.{Answer}
-use Rattle.vmti.specs.Meet.{leftOf, answerOf, refusalOf}
+use Rattle.vmti.specs.Meet.{leftOf, refusalOf}
 
-module _ (f : Form) (s lent : List ℕ) {c : Checked} (ec : c ≡ checkedOf (parse f s)) where
-  pub normal-refused : {n k : ℕ} {r : Answer} → c ≡ Wrong n k → r ≡ refusalOf c → leftOf r lent ≡ leaves lent (normalise f s)
+module _ (f : Form) (s : List ℕ) {c : Checked} (ec : c ≡ checkedOf (parse f s)) where
+  pub normal-refused : (lent : List ℕ) {n k : ℕ} {r : Answer} → c ≡ Wrong n k → r ≡ refusalOf c → leftOf r lent ≡ leaves lent (normalise f s)
   unfolding normalise
-  normal-refused {n = n} {k = k} t e = left-refused lent (bind-not (parse f s) _ n k (wrong-parsed f s n k (sym t ∙ ec))) (e ∙ ap refusalOf t)
+  normal-refused lent {n = n} {k = k} t e = left-refused lent (bind-not (parse f s) _ n k (wrong-parsed f s n k (sym t ∙ ec))) (e ∙ ap refusalOf t)
 
   module _ (b : Bytes s) {a : Sizes} (t : c ≡ Fine a) where
     abbrev packet : Packet
@@ -54,8 +51,9 @@ module _ (f : Form) (s lent : List ℕ) {c : Checked} (ec : c ≡ checkedOf (par
     unfolding packetOf content
     normal-form = ap (λ g. flat (closed g es)) (parse-says f s packet b (fine f s ec b t .1) .form-is)
 
-    normalised : normalise f s ≡ ok (flat (closed f es))
-    normalised = normal-is f s b packet (fine f s ec b t .1) ∙ ap ok normal-form
+    packed-of : normalise f s ≡ packed (packetOf (content packet))
+    unfolding normalise
+    packed-of = bind-so (parse f s) _ packet (fine f s ec b t .1)
 
     entries : length (flatAll flatEntry es) ≡ a .normal
     entries = let e = fine f s ec b t .2 in cc
@@ -75,17 +73,12 @@ module _ (f : Form) (s lent : List ℕ) {c : Checked} (ec : c ≡ checkedOf (par
     normal-small = omega (arith, entries, entries-less f es, small)
 
     module _ {size : ℕ} (ez : size ≡ frameSize f (a .normal)) where
-      size-is : length (flat (closed f es)) ≡ size
-      size-is = frame-long f es ∙ ap (frameSize f) entries ∙ sym ez
+      pub normal-packs : Packs (normalise f s) f es (a .normal) size
+      normal-packs = record { packet = packetOf (content packet); answers = packed-of; closes = normal-form; entries = entries; frame = ez }
 
-      pub normal-short : length lent < size → {r : Answer} → r ≡ answerOf 16 size → leftOf r lent ≡ leaves lent (normalise f s)
-      normal-short h er = left-short lent normalised size-is h er
-
-      pub normal-fits : size ≤ length lent → Fits f es lent (a .normal) size
-      normal-fits h = record { entries = entries; frame = ez; room = h; small = omega (arith, size-is, small) }
-
-      pub normal-done : size ≤ length lent → {out : List ℕ} → out ≡ sets lent 0 (flat (closed f es)) → {r : Answer} → r ≡ answerOf 0 size → leftOf r out ≡ leaves lent (normalise f s)
-      normal-done h eo er = left-whole lent normalised size-is h eo er
+      -- a normal form is never over the limit
+      pub normal-within : size ≤ 8192
+      normal-within = omega (arith, size-is normal-packs, small)
 
     -- what the walk that writes is asked for
     module _ {k : ℕ} (ek : (w : ℕ) → opening f s ≡ ok w → k ≡ start f w) where

@@ -1,5 +1,6 @@
--- Demand 2 of the calls themselves: from their contracts, and demand 2 of the definitions.
-use mathlib.Core.Path.{_≡_, refl, sym, ap, _∙_}
+-- Demands 2 and 3 of the calls themselves: from their contracts, and those demands of the definitions.
+use mathlib.Core.Path.{_≡_, refl, sym, ap, _∙_, subst}
+use mathlib.Core.Logic.{_⊎_, inl, inr}
 use Prim.Native.Nat.{ℕ}
 use native.Mathlib.Omega.{arith}
 use mathlib.Core.Bool.{Bool, true, false}
@@ -8,17 +9,22 @@ use lib.ListN.{length, take, drop}
 use lib.Seq.{take-append-seam}
 use lib.Dec.{leb}
 use Rattle.format.specs.Answer.{Ans, ok, refused}
-use Rattle.format.specs.Table.{embedded}
+use Rattle.format.specs.Coding.{Bytes}
+use Rattle.format.specs.Table.{Form, embedded}
 use Rattle.format.specs.Room.{leaves}
 use Rattle.format.specs.Calls.{read, write, normalise}
-use Rattle.format.specs.Edit.{theSet, remove}
+use Rattle.format.specs.Edit.{Holder, theSet, Change, remove, edit}
+use Rattle.format.specs.demands.Demand3 as Definitions
+use Rattle.format.specs.demands.Demand3.{Why}
+use Rattle.format.specs.demands.Kept.{Kept}
+use Rattle.format.proofs.demands.Demand3.{demand-3}
 use Rattle.format.specs.demands.Demand1.{Answers}
 use Rattle.format.proofs.words.Answers.{ok-inj}
 use Rattle.format.proofs.demands.Demand1.{numbered}
 use Rattle.format.proofs.demands.Demand2.{normal, sheet-again}
 use Rattle.vmti.specs.declared.Answer.{Answer}
-use Rattle.vmti.specs.Meet.{leftOf}
-use Rattle.vmti.specs.Promises.{written, Demand2}
+use Rattle.vmti.specs.Meet.{leftOf, answerOf}
+use Rattle.vmti.specs.Promises.{Edits, written, Demand2, Edited, Demand3}
 use Rattle.vmti.proofs.Bounds.{one-result}
 
 -- a call that answered 0 wrote what it should
@@ -64,3 +70,51 @@ demand-2 = record {
             eb ∙ ap (λ x. leaves out (read g x)) (w .stands) ∙ ap (λ y. leaves out (read y (w .bytes))) same ∙ ap (leaves out) er;
       };
 }
+
+-- ---- demand 3
+
+module _ (f : Form) (h : Holder) (tag : ℕ) (c : Change) (packet lent : List ℕ) (a : Answer) (left : List ℕ) (bytes : Bytes packet) (e : Edits f h tag c packet lent a left) where
+  given : Definitions.Demand3 f h tag c packet
+  given = demand-3 f h tag c packet bytes
+
+  edited : a .number ≡ 0 → Edited f h tag c packet a left
+  edited z =
+      let w = wrote (length packet) lent (edit f h tag c packet) a left (numbered f packet h tag c .edit-answers) e z in
+      let k = given .changed (w .bytes) (w .is-ok) in
+      record {
+        changed = record {
+          sheet = k .sheet;
+          old = k .old;
+          old-back = k .old-back;
+          new = ap (read f) (w .stands) ∙ k .new;
+          afresh = λ n. k .afresh n ∙ ap ok (sym (w .stands));
+        };
+        kept = subst (Kept f h tag c packet) (sym (w .stands)) (given .kept (w .bytes) (w .is-ok));
+        afresh = λ other b after eb zb sb out d then ed.
+            let v = wrote (length packet) other (normalise f packet) b after (numbered f packet h tag c .normalise-answers) eb zb in
+            ed ∙ ap (leaves out) (k .afresh (v .is-ok ∙ ap ok (sym (v .stands) ∙ sb)) ∙ ap ok (sym (w .stands)));
+      }
+
+  refused-when : (n p : ℕ) → Why f h tag c packet n p → (a ≡ answerOf n p) × (left ≡ lent)
+  unfolding leaves
+  refused-when n p y =
+      let q : leftOf a left ≡ leftOf (answerOf n p) lent = e ∙ ap (leaves lent) (given .refusal n p .1 y) in
+      one-result a (answerOf n p) left lent (leftOf (answerOf n p) lent) q refl
+
+  else-not : ((n p : ℕ) → Why f h tag c packet n p → ⊥) → (a .number ≡ 0) ⊎ (a .number ≡ 16)
+  else-not never-why = go (edit f h tag c packet) refl
+    where
+      go : (x : Ans (List ℕ)) → edit f h tag c packet ≡ x → (a .number ≡ 0) ⊎ (a .number ≡ 16)
+      go (refused n p) q = absurd (never-why n p (given .refusal n p .0 q))
+      go (ok y) q = by (leb (length y) (length lent)) refl
+        where
+          by : (r : Bool) → leb (length y) (length lent) ≡ r → (a .number ≡ 0) ⊎ (a .number ≡ 16)
+          by true r =
+              let w : leftOf a left ≡ record { number = 0; place = length y; lent = y ++ drop (length y) lent } = e ∙ unfold leaves in (rw (q, r, leaves)) in
+              inl (ap (λ l. l .number) w)
+          by false r =
+              let w : leftOf a left ≡ record { number = 16; place = length y; lent = lent } = e ∙ unfold leaves in (rw (q, r, leaves)) in
+              inr (ap (λ l. l .number) w)
+
+pub demand-3-calls : Demand3
+demand-3-calls = record { edited = edited; refused-when = refused-when; else-not = else-not }

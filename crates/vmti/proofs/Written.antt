@@ -1,13 +1,11 @@
 -- The call `write`, case by case: a refusal, a packet over its limit, too little room, and the packet written.
-use mathlib.Core.Path.{_≡_, refl, sym, ap, _∙_, subst}
-use Prim.Native.Nat.{ℕ, _+_, _-_, _≤_, _<_}
+use mathlib.Core.Path.{_≡_, refl, sym, ap, _∙_}
+use Prim.Native.Nat.{ℕ, _-_, _≤_}
 use native.Mathlib.Omega.{arith}
-use mathlib.Core.Bool.{Bool, true, false}
+use mathlib.Core.Bool.{Bool}
 use mathlib.Core.List.{List, map}
 use lib.ListN.{length, take, drop, length-drop}
-use lib.Seq.{sets}
-use borrow.Author.Tests.{le-leb, lt-leb}
-use Rattle.format.specs.Answer.{Ans, ok, refused, _>>=_}
+use Rattle.format.specs.Answer.{Ans, ok, refused}
 use Rattle.format.specs.Coding.{Bytes}
 use Rattle.format.specs.Lists.{flatAll}
 use Rattle.format.specs.Table.{Form, embedded, standalone, set, isAlone}
@@ -16,9 +14,8 @@ use Rattle.format.specs.Read.{limit}
 use Rattle.format.specs.Sheet.{Sheet, unsheet}
 use Rattle.format.specs.Calls.{entryOf, packetOf, packed, write}
 use Rattle.format.specs.Room.{leaves}
-use Rattle.format.proofs.sheets.Normal.{entries-less}
 use Rattle.items.specs.Meet.{formOf}
-use Rattle.items.proofs.Tests.{bind-so, bind-not, need-so, need-not}
+use Rattle.items.proofs.Tests.{bind-so, bind-not}
 use Rattle.coding.proofs.Rooms.{tail-part}
 use Rattle.walks.specs.Meet.{total, weightOfPart}
 use Rattle.walks.specs.Runs.{Ran}
@@ -27,26 +24,25 @@ use Rattle.records.specs.declared.Sheeted.the-variants.{Fine, Wrong}
 use Rattle.records.specs.Meet.{sheetedOf}
 use Rattle.records.proofs.Sizings.{packet-large, inner-less}
 use Rattle.frames.specs.Meet.{frameSize}
-use Rattle.frames.proofs.Framing.{frame-long}
 use Rattle.packets.specs.Meet.{recordsRun, recordsNormal, InnerParts}
 use Rattle.packets.proofs.Sheet.{SheetRead, sheet-read, packet-whole, parts-ran, inner-parts}
-use Rattle.vmti.proofs.Leaving.{left-refused, left-short, left-whole}
-use Rattle.vmti.proofs.Framed.{Fits}
+use Rattle.vmti.proofs.Leaving.{left-refused}
+use Rattle.vmti.proofs.Packing.{Packs}
 use Rattle.vmti.specs.declared.Answer.{Answer}
-use Rattle.vmti.specs.Meet.{leftOf, answerOf, sheetRefusal}
+use Rattle.vmti.specs.Meet.{leftOf, sheetRefusal}
 
 same-form : (f : Form) → formOf (isAlone f) ≡ f
 same-form embedded = refl
 same-form standalone = refl
 
-module _ (s lent : List ℕ) {c : Sheeted} (ec : c ≡ sheetedOf (unsheet s)) where
+module _ (s : List ℕ) {c : Sheeted} (ec : c ≡ sheetedOf (unsheet s)) where
   wrong-read : (x : Ans Sheet) (n k : ℕ) → Wrong n k ≡ sheetedOf x → x ≡ refused n k
   wrong-read (ok t) n k e = absurd (let z : _≡_ {A = ℕ} 0 1 = cc in omega arith)
   wrong-read (refused m j) n k e = let a : m ≡ n = cc in let b : j ≡ k = cc in ap (λ x. refused x j) a ∙ ap (refused n) b
 
-  pub write-refused : {n k : ℕ} {r : Answer} → c ≡ Wrong n k → r ≡ sheetRefusal c → leftOf r lent ≡ leaves lent (write s)
+  pub write-refused : (lent : List ℕ) {n k : ℕ} {r : Answer} → c ≡ Wrong n k → r ≡ sheetRefusal c → leftOf r lent ≡ leaves lent (write s)
   unfolding write
-  write-refused {n = n} {k = k} t e = left-refused lent (bind-not (unsheet s) _ n k (wrong-read (unsheet s) n k (sym t ∙ ec))) (e ∙ ap sheetRefusal t)
+  write-refused lent {n = n} {k = k} t e = left-refused lent (bind-not (unsheet s) _ n k (wrong-read (unsheet s) n k (sym t ∙ ec))) (e ∙ ap sheetRefusal t)
 
   fine-read : (x : Ans Sheet) (a : Bool) (n i : ℕ) → Fine a n i ≡ sheetedOf x → (t : Sheet) × (x ≡ ok t) × (sheetedOf (ok t) ≡ Fine a n i)
   fine-read (ok t) a n i e = (t, refl, sym e)
@@ -88,51 +84,30 @@ module _ (s lent : List ℕ) {c : Sheeted} (ec : c ≡ sheetedOf (unsheet s)) wh
     unfolding packetOf
     packet-is = ap (λ f. flat (closed f es)) (sym form-is)
 
-    module _ {size : ℕ} (ez : size ≡ frameSize (formOf alone) n) where
-      size-is : length (flat (closed (formOf alone) es)) ≡ size
-      size-is = frame-long (formOf alone) es ∙ ap (frameSize (formOf alone)) entries ∙ sym ez
+    pub write-packs : {size : ℕ} → size ≡ frameSize (formOf alone) n → Packs (write s) (formOf alone) es n size
+    write-packs ez = record { packet = packetOf sheet; answers = packed-of; closes = packet-is; entries = entries; frame = ez }
 
-      long : length (flat (packetOf sheet)) ≡ size
-      long = ap length packet-is ∙ size-is
+    -- what the walk that writes is asked for: the parts begin at 3
+    abbrev lentParts : List ℕ
+    lentParts = take (length s - 3) (drop 3 s)
 
-      pub write-long : 8192 < size → {r : Answer} → r ≡ answerOf 1 0 → leftOf r lent ≡ leaves lent (write s)
-      unfolding packed limit
-      write-long h er = left-refused lent (packed-of ∙ need-not _ _ _ (lt-leb (length (flat (packetOf sheet))) 8192 (omega (arith, long)))) er
+    parts-read : SheetRead s sheet
+    parts-read = sheet-read s sheet b read
 
-      module _ (small : size ≤ 8192) where
-        written : write s ≡ ok (flat (closed (formOf alone) es))
-        unfolding packed limit
-        written = packed-of ∙ need-so _ _ _ (le-leb (length (flat (packetOf sheet))) 8192 (omega (arith, long))) ∙ ap ok packet-is
+    pub parts-from : 3 ≤ length s
+    parts-from = parts-read .three
 
-        pub write-short : length lent < size → {r : Answer} → r ≡ answerOf 16 size → leftOf r lent ≡ leaves lent (write s)
-        write-short h er = left-short lent written size-is h er
+    pub written-is : recordsNormal set (formOf alone) lentParts ≡ flatAll flatEntry es
+    written-is = rw (tail-part 3 s, form-is) (sym (packet-whole parts-read))
 
-        pub write-fits : size ≤ length lent → Fits (formOf alone) es lent n size
-        write-fits h = record { entries = entries; frame = ez; room = h; small = small }
+    module _ (small : n ≤ 8192) where
+      pub written-small : length (recordsNormal set (formOf alone) lentParts) ≤ 8192
+      written-small = omega (arith, ap length written-is, entries)
 
-        pub write-done : size ≤ length lent → {out : List ℕ} → out ≡ sets lent 0 (flat (closed (formOf alone) es)) → {r : Answer} → r ≡ answerOf 0 size → leftOf r out ≡ leaves lent (write s)
-        write-done h eo er = left-whole lent written size-is h eo er
-
-        -- what the walk that writes is asked for: the parts begin at 3
-        abbrev lentParts : List ℕ
-        lentParts = take (length s - 3) (drop 3 s)
-
-        parts-read : SheetRead s sheet
-        parts-read = sheet-read s sheet b read
-
-        pub parts-from : 3 ≤ length s
-        parts-from = parts-read .three
-
-        pub written-is : recordsNormal set (formOf alone) lentParts ≡ flatAll flatEntry es
-        written-is = rw (tail-part 3 s, form-is) (sym (packet-whole parts-read))
-
-        pub written-small : length (recordsNormal set (formOf alone) lentParts) ≤ 8192
-        written-small = omega (arith, ap length written-is, entries-less (formOf alone) es, size-is, small)
-
-        pub parts-asked : (length lentParts ≤ 65536) × Ran (recordsRun set (formOf alone) lentParts) × (i ≤ 65536) × InnerParts i (recordsRun set (formOf alone) lentParts)
-        parts-asked = (
-          rw (tail-part 3 s, length-drop) (omega (arith, parts-read .most)),
-          rw (tail-part 3 s, form-is) (parts-ran parts-read),
-          omega (arith, inner, inner-less s sheet b read, entries-less (formOf alone) es, size-is, small),
-          rw (tail-part 3 s, form-is) (inner-parts parts-read inner),
-        )
+      pub parts-asked : (length lentParts ≤ 65536) × Ran (recordsRun set (formOf alone) lentParts) × (i ≤ 65536) × InnerParts i (recordsRun set (formOf alone) lentParts)
+      parts-asked = (
+        rw (tail-part 3 s, length-drop) (omega (arith, parts-read .most)),
+        rw (tail-part 3 s, form-is) (parts-ran parts-read),
+        omega (arith, inner, inner-less s sheet b read, entries),
+        rw (tail-part 3 s, form-is) (inner-parts parts-read inner),
+      )

@@ -13,6 +13,10 @@ use Rattle.walks.specs.declared.Checked.{Checked}
 use Rattle.walks.specs.declared.Checked.the-variants.{Fine, Wrong}
 use Rattle.records.specs.declared.Sheeted.{Sheeted}
 use Rattle.records.specs.declared.Sheeted.the-variants as sheeted
+use Rattle.format.specs.Edit.{Holder, Change}
+use Rattle.edits.specs.Meet.{holderOf, changeOf}
+use Rattle.edits.specs.declared.Found.{Found}
+use Rattle.edits.specs.declared.Found.the-variants as found
 use Rattle.rows.specs.Meet.{numbers}
 use Rattle.vmti.specs.declared.Answer.{Answer}
 
@@ -31,6 +35,10 @@ abbrev pub sheetRefusal : Sheeted → Answer
 sheetRefusal (sheeted.Fine a n i) = answerOf 0 0
 sheetRefusal (sheeted.Wrong n p) = answerOf n p
 
+abbrev pub foundRefusal : Found → Answer
+foundRefusal (found.There p) = answerOf 0 0
+foundRefusal (found.Not n) = answerOf n 0
+
 -- rows lie in a lent slice of numbers, four to a row; their count is a count of rows
 unfoldable pub leavesRows : List ℕ → Ans (List Row) → Left ℕ
 leavesRows lent (refused n p) = record { number = n; place = p; lent = lent }
@@ -43,3 +51,10 @@ leavesRows lent (ok rs) =
 -- the form that a number names
 abbrev pub formNamed : ℕ → Form
 formNamed n = formOf (not (eqb n 0))
+
+-- what an edit names, by numbers: level 0 is the set, any other the target; removal 0 is a put, any other a removal
+abbrev pub holderNamed : ℕ → ℕ → Holder
+holderNamed level id = holderOf (eqb level 0) id
+
+abbrev pub changeNamed : ℕ → List ℕ → Change
+changeNamed removal v = changeOf (not (eqb removal 0)) v

@@ -1,13 +1,18 @@
 // The calls. Each ends with an answer for every input and every room lent, and a refusal changes nothing that was lent.
 ghost use mathlib.Core.Path.{_≡_};
 ghost use Prim.Native.Nat.{_+_, _*_, _≤_};
+ghost use mathlib.Core.Bool.{not, _&&_};
+ghost use lib.Dec.{ltb};
 ghost use lib.ListN.{length};
 ghost use Rattle.format.specs.Sheet.{formByte};
 ghost use Rattle.format.specs.Calls as Calls;
+ghost use Rattle.format.specs.Edit as Edit;
 ghost use Rattle.format.specs.Rows as Rows;
 ghost use Rattle.format.specs.Room.{leaves, oneNumber};
 ghost use Rattle.items.specs.Meet.{formOf};
-ghost use Rattle.vmti.specs.Meet.{leftOf, answerOf, refusalOf, sheetRefusal, leavesRows, formNamed};
+ghost use Rattle.edits.specs.Meet.{holderOf, changeOf};
+ghost use Rattle.vmti.specs.Meet.{leftOf, answerOf, refusalOf, sheetRefusal, foundRefusal, leavesRows, formNamed, holderNamed, changeNamed};
+use edits::Found;
 use records::Sheeted;
 use walks::Checked;
 
@@ -126,6 +131,75 @@ pub fn normalise(packet: &[u8], alone: bool, out: &mut [u8]) -> Answer
     answer_of(0, size)
 }
 
+// A refusal of an edit passed up.
+fn edit_refusal(f: Found) -> Answer
+    ensures { λ r. ⌜ r ≡ foundRefusal f ⌝ }
+{
+    match f {
+        Found::There(_) => answer_of(0, 0),
+        Found::Not(n) => answer_of(n, 0),
+    }
+}
+
+// Whether a value to put has more bytes than a packet may have: then its packet has, too.
+fn over_long(removal: bool, value: &[u8]) -> bool
+    ensures { λ r. ⌜ r ≡ (not removal && ltb 8192 (length (now (value .entry)))) ⌝ }
+{
+    if removal { false } else { 8192 < value.len() }
+}
+
+// A packet with one item put or removed, of the set or of the target with an id.
+pub fn edit(
+    packet: &[u8],
+    alone: bool,
+    set: bool,
+    id: u64,
+    tag: u64,
+    removal: bool,
+    value: &[u8],
+    out: &mut [u8],
+) -> Answer
+    ensures { λ r. ⌜ leftOf r (now (out .exit)) ≡ leaves (now (out .entry)) (Edit.edit (formOf alone) (holderOf set id) tag (changeOf removal (now (value .entry))) (now (packet .entry))) ⌝ }
+{
+    let c = walks::whole::check(packet, alone);
+    let Checked::Fine(_) = c else {
+        return refusal(c);
+    };
+    let from = walks::whole::set_start(packet, alone);
+    let table = items::table();
+    let s = &packet[from..];
+    let f = edits::judge(&table, s, alone, set, id, tag, removal, value);
+    let Found::There(p) = f else {
+        return edit_refusal(f);
+    };
+    if over_long(removal, value) {
+        return answer_of(1, 0);
+    }
+    let n = edits::puts::edited_size(&table, s, alone, set, id, tag, removal, value, p);
+    let total = frames::frame_size(alone, n);
+    if 8192 < total {
+        return answer_of(1, 0);
+    }
+    if out.len() < total {
+        return answer_of(16, total);
+    }
+    let a = frames::open(out, alone, n);
+    let k = edits::puts::put_edited(
+        &table,
+        s,
+        alone,
+        set,
+        id,
+        tag,
+        removal,
+        value,
+        p,
+        &mut out[a..],
+    );
+    frames::close(out, alone, a + k);
+    answer_of(0, total)
+}
+
 // A packet's rows, as numbers, four to a row.
 pub fn locate(packet: &[u8], alone: bool, rows: &mut [u64]) -> Answer
     ensures { λ r. ⌜ leftOf r (now (rows .exit)) ≡ leavesRows (now (rows .entry)) (Rows.locate (formOf alone) (now (packet .entry))) ⌝ }
@@ -175,4 +249,31 @@ pub extern "C" fn vmti_normalise(form: u64, packet: &[u8], out: &mut [u8]) -> u6
         × (now (out .exit) ≡ leaves (now (out .entry)) (Calls.normalise (formNamed form) (now (packet .entry))) .lent) ⌝ }
 {
     one_number(normalise(packet, form != 0, out))
+}
+
+// Level 0 is the set, any other number the target named; removal 0 is a put.
+#[no_mangle]
+pub extern "C" fn vmti_edit(
+    form: u64,
+    packet: &[u8],
+    level: u64,
+    target: u64,
+    tag: u64,
+    removal: u64,
+    value: &[u8],
+    out: &mut [u8],
+) -> u64
+    ensures { λ r. ⌜ (r ≡ oneNumber (leaves (now (out .entry)) (Edit.edit (formNamed form) (holderNamed level target) tag (changeNamed removal (now (value .entry))) (now (packet .entry)))))
+        × (now (out .exit) ≡ leaves (now (out .entry)) (Edit.edit (formNamed form) (holderNamed level target) tag (changeNamed removal (now (value .entry))) (now (packet .entry))) .lent) ⌝ }
+{
+    one_number(edit(
+        packet,
+        form != 0,
+        level == 0,
+        target,
+        tag,
+        removal != 0,
+        value,
+        out,
+    ))
 }

@@ -1,13 +1,26 @@
-//! What the programs here have in common: document 01's examples, as packets.
+//! What the programs here have in common: document 01's examples, as packets
+//! and edits.
 
-use second::generate::PacketCase;
-use second::Form;
+use second::generate::{EditCase, PacketCase};
+use second::{Form, Level};
 
 /// The packets of examples A to K, results of edits too.
 pub fn examples() -> Vec<PacketCase> {
     let mut list: Vec<PacketCase> = EMBEDDED.iter().map(|text| case(Form::Embedded, bytes(text))).collect();
     list.push(case(Form::Standalone, example_h()));
     list
+}
+
+/// The edits of examples I and J.
+pub fn edits() -> Vec<EditCase> {
+    let edit = |packet: &str, level, tag, value: &[u8]| EditCase {
+        form: Form::Embedded,
+        packet: bytes(packet),
+        level,
+        tag,
+        value: Some(value.to_vec()),
+    };
+    vec![edit(EMBEDDED[0], Level::Target(1), 19, &[0, 5]), edit(EMBEDDED[1], Level::Set, 6, &[3])]
 }
 
 /// Example H: standalone with time 0 and nothing else.

@@ -5,7 +5,8 @@ use native.Mathlib.Omega.{arith}
 use borrow.Author.Needs.{needs}
 use Rattle.vmti.proofs.Opened.{opened, set-room, set-ran, set-long}
 use Rattle.vmti.proofs.Framed.{open-asked, rest-from, rest-room, entries-end, close-asked, all-written}
-use Rattle.vmti.proofs.Normalising.{normal-refused, normal-small, normal-short, normal-fits, normal-done, written-is, inner-asked}
+use Rattle.vmti.proofs.Packing.{packs-short, packs-fit, packs-done}
+use Rattle.vmti.proofs.Normalising.{normal-refused, normal-small, normal-packs, normal-within, written-is, inner-asked}
 use Rattle.vmti.proofs.normalise.Statement.{statement}
 use Rattle.vmti.proofs.normalise.Tie as tie
 
@@ -22,12 +23,12 @@ refusal-requires : tie.Need-refusal-requires
 refusal-requires c κs = search needs
 
 returns : tie.Need-returns
-returns c = normal-refused _ _ _ (c .before .before .before .check .ensures) (c .before .enum-told .given .1) (c .refusal .ensures)
+returns c = normal-refused _ _ (c .before .before .before .check .ensures) _ (c .before .enum-told .given .1) (c .refusal .ensures)
 
 frame-size-requires : tie.Need-frame-size-requires
 frame-size-requires c κs =
     let a = c .before in
-    omega (arith, normal-small _ _ (a .before .before .before .before .before .args .out .now) (a .before .before .check .ensures) (λ i. a .before .before .before .before .shared-slice-known .given i .fits) (a .c .given .1))
+    omega (arith, normal-small _ _ (a .before .before .check .ensures) (λ i. a .before .before .before .before .shared-slice-known .given i .fits) (a .c .given .1))
 
 answer-of-requires : tie.Need-answer-of-requires
 answer-of-requires c κs = search needs
@@ -36,7 +37,7 @@ returns-2 : tie.Need-returns-2
 returns-2 c =
     let z = c .before .before in
     let a = z .before .before in
-    normal-short _ _ _ (a .before .before .check .ensures) (λ i. a .before .before .before .before .shared-slice-known .given i .fits) (a .c .given .1) (z .frame-size .ensures) (c .before .if1 .taken) (c .answer-of .ensures)
+    packs-short (normal-packs _ _ (a .before .before .check .ensures) (λ i. a .before .before .before .before .shared-slice-known .given i .fits) (a .c .given .1) (z .frame-size .ensures)) _ (normal-within _ _ (a .before .before .check .ensures) (λ i. a .before .before .before .before .shared-slice-known .given i .fits) (a .c .given .1) (z .frame-size .ensures)) (c .before .if1 .taken) (c .answer-of .ensures)
 
 set-start-requires : tie.Need-set-start-requires
 set-start-requires c κs =
@@ -51,7 +52,7 @@ open-requires c κs =
     let k = c .before .before in
     let z = k .before .before in
     let a = z .before .before in
-    open-asked (normal-fits _ _ (a .before .before .before .before .before .args .out .now) (a .before .before .check .ensures) (λ i. a .before .before .before .before .shared-slice-known .given i .fits) (a .c .given .1) (z .frame-size .ensures) (k .before .if1 .left))
+    open-asked (packs-fit (normal-packs _ _ (a .before .before .check .ensures) (λ i. a .before .before .before .before .shared-slice-known .given i .fits) (a .c .given .1) (z .frame-size .ensures)) (a .before .before .before .before .before .args .out .now) (normal-within _ _ (a .before .before .check .ensures) (λ i. a .before .before .before .before .shared-slice-known .given i .fits) (a .c .given .1) (z .frame-size .ensures)) (k .before .if1 .left))
 
 slice-aggregate-item-normal : tie.Need-slice-aggregate-item-normal
 slice-aggregate-item-normal c = search needs
@@ -75,7 +76,7 @@ sub-item-normal-2 c =
     let k = o .before .before .before in
     let z = k .before .before in
     let a = z .before .before in
-    rest-from (normal-fits _ _ (a .before .before .before .before .before .args .out .now) (a .before .before .check .ensures) (λ i. a .before .before .before .before .shared-slice-known .given i .fits) (a .c .given .1) (z .frame-size .ensures) (k .before .if1 .left)) (o .«open» .ensures)
+    rest-from (packs-fit (normal-packs _ _ (a .before .before .check .ensures) (λ i. a .before .before .before .before .shared-slice-known .given i .fits) (a .c .given .1) (z .frame-size .ensures)) (a .before .before .before .before .before .args .out .now) (normal-within _ _ (a .before .before .check .ensures) (λ i. a .before .before .before .before .shared-slice-known .given i .fits) (a .c .given .1) (z .frame-size .ensures)) (k .before .if1 .left)) (o .«open» .ensures)
 
 part-item-normal-start-2 : tie.Need-part-item-normal-start-2
 part-item-normal-start-2 c = sub-item-normal-2 c
@@ -89,14 +90,14 @@ item-normal-requires c κs =
     let k = o .before .before .before in
     let z = k .before .before in
     let a = z .before .before in
-    let inner = inner-asked _ _ (a .before .before .before .before .before .args .out .now) (a .before .before .check .ensures) (λ i. a .before .before .before .before .shared-slice-known .given i .fits) (a .c .given .1) (k .set-start .ensures) in (
+    let inner = inner-asked _ _ (a .before .before .check .ensures) (λ i. a .before .before .before .before .shared-slice-known .given i .fits) (a .c .given .1) (k .set-start .ensures) in (
       o .before .before .table .ensures,
       (
         omega (arith, set-long _ _ (a .before .before .check .ensures) (λ i. a .before .before .before .before .shared-slice-known .given i .fits) (a .c .given .1) (k .set-start .ensures)),
         set-ran _ _ (a .before .before .check .ensures) (λ i. a .before .before .before .before .shared-slice-known .given i .fits) (a .c .given .1) (k .set-start .ensures),
         inner .0,
         inner .1,
-        rest-room (normal-fits _ _ (a .before .before .before .before .before .args .out .now) (a .before .before .check .ensures) (λ i. a .before .before .before .before .shared-slice-known .given i .fits) (a .c .given .1) (z .frame-size .ensures) (k .before .if1 .left)) (o .«open» .ensures) (written-is _ _ (a .before .before .before .before .before .args .out .now) (a .before .before .check .ensures) (λ i. a .before .before .before .before .shared-slice-known .given i .fits) (a .c .given .1) (k .set-start .ensures)),
+        rest-room (packs-fit (normal-packs _ _ (a .before .before .check .ensures) (λ i. a .before .before .before .before .shared-slice-known .given i .fits) (a .c .given .1) (z .frame-size .ensures)) (a .before .before .before .before .before .args .out .now) (normal-within _ _ (a .before .before .check .ensures) (λ i. a .before .before .before .before .shared-slice-known .given i .fits) (a .c .given .1) (z .frame-size .ensures)) (k .before .if1 .left)) (o .«open» .ensures) (written-is _ _ (a .before .before .check .ensures) (λ i. a .before .before .before .before .shared-slice-known .given i .fits) (a .c .given .1) (k .set-start .ensures)),
       ),
     )
 
@@ -107,7 +108,7 @@ add-close c =
     let k = o .before .before .before in
     let z = k .before .before in
     let a = z .before .before in
-    omega (arith, entries-end (normal-fits _ _ (a .before .before .before .before .before .args .out .now) (a .before .before .check .ensures) (λ i. a .before .before .before .before .shared-slice-known .given i .fits) (a .c .given .1) (z .frame-size .ensures) (k .before .if1 .left)) (o .«open» .ensures) (written-is _ _ (a .before .before .before .before .before .args .out .now) (a .before .before .check .ensures) (λ i. a .before .before .before .before .shared-slice-known .given i .fits) (a .c .given .1) (k .set-start .ensures)) (n .item-normal .ensures))
+    omega (arith, entries-end (packs-fit (normal-packs _ _ (a .before .before .check .ensures) (λ i. a .before .before .before .before .shared-slice-known .given i .fits) (a .c .given .1) (z .frame-size .ensures)) (a .before .before .before .before .before .args .out .now) (normal-within _ _ (a .before .before .check .ensures) (λ i. a .before .before .before .before .shared-slice-known .given i .fits) (a .c .given .1) (z .frame-size .ensures)) (k .before .if1 .left)) (o .«open» .ensures) (written-is _ _ (a .before .before .check .ensures) (λ i. a .before .before .before .before .shared-slice-known .given i .fits) (a .c .given .1) (k .set-start .ensures)) (n .item-normal .ensures))
 
 close-requires : tie.Need-close-requires
 close-requires c κs =
@@ -116,7 +117,7 @@ close-requires c κs =
     let k = o .before .before .before in
     let z = k .before .before in
     let a = z .before .before in
-    close-asked (normal-fits _ _ (a .before .before .before .before .before .args .out .now) (a .before .before .check .ensures) (λ i. a .before .before .before .before .shared-slice-known .given i .fits) (a .c .given .1) (z .frame-size .ensures) (k .before .if1 .left)) (o .«open» .ensures) (written-is _ _ (a .before .before .before .before .before .args .out .now) (a .before .before .check .ensures) (λ i. a .before .before .before .before .shared-slice-known .given i .fits) (a .c .given .1) (k .set-start .ensures)) (n .item-normal .ensures)
+    close-asked (packs-fit (normal-packs _ _ (a .before .before .check .ensures) (λ i. a .before .before .before .before .shared-slice-known .given i .fits) (a .c .given .1) (z .frame-size .ensures)) (a .before .before .before .before .before .args .out .now) (normal-within _ _ (a .before .before .check .ensures) (λ i. a .before .before .before .before .shared-slice-known .given i .fits) (a .c .given .1) (z .frame-size .ensures)) (k .before .if1 .left)) (o .«open» .ensures) (written-is _ _ (a .before .before .check .ensures) (λ i. a .before .before .before .before .shared-slice-known .given i .fits) (a .c .given .1) (k .set-start .ensures)) (n .item-normal .ensures)
 
 answer-of-requires-2 : tie.Need-answer-of-requires-2
 answer-of-requires-2 c κs = search needs
@@ -131,9 +132,9 @@ returns-3 c =
     let k = o .before .before .before in
     let z = k .before .before in
     let a = z .before .before in
-    let w = (normal-fits _ _ (a .before .before .before .before .before .args .out .now) (a .before .before .check .ensures) (λ i. a .before .before .before .before .shared-slice-known .given i .fits) (a .c .given .1) (z .frame-size .ensures) (k .before .if1 .left)) in
-    normal-done _ _ _ (a .before .before .check .ensures) (λ i. a .before .before .before .before .shared-slice-known .given i .fits) (a .c .given .1) (z .frame-size .ensures) (k .before .if1 .left)
-    (all-written w (o .«open» .ensures) (written-is _ _ (a .before .before .before .before .before .args .out .now) (a .before .before .check .ensures) (λ i. a .before .before .before .before .shared-slice-known .given i .fits) (a .c .given .1) (k .set-start .ensures)) (n .item-normal .ensures) (c .before .before .before .close .ensures)) (c .answer-of2 .ensures)
+    let w = (packs-fit (normal-packs _ _ (a .before .before .check .ensures) (λ i. a .before .before .before .before .shared-slice-known .given i .fits) (a .c .given .1) (z .frame-size .ensures)) (a .before .before .before .before .before .args .out .now) (normal-within _ _ (a .before .before .check .ensures) (λ i. a .before .before .before .before .shared-slice-known .given i .fits) (a .c .given .1) (z .frame-size .ensures)) (k .before .if1 .left)) in
+    packs-done (normal-packs _ _ (a .before .before .check .ensures) (λ i. a .before .before .before .before .shared-slice-known .given i .fits) (a .c .given .1) (z .frame-size .ensures)) _ (normal-within _ _ (a .before .before .check .ensures) (λ i. a .before .before .before .before .shared-slice-known .given i .fits) (a .c .given .1) (z .frame-size .ensures)) (k .before .if1 .left)
+    (all-written w (o .«open» .ensures) (written-is _ _ (a .before .before .check .ensures) (λ i. a .before .before .before .before .shared-slice-known .given i .fits) (a .c .given .1) (k .set-start .ensures)) (n .item-normal .ensures) (c .before .before .before .close .ensures)) (c .answer-of2 .ensures)
 
 pub normalise-spec : {M : Type 1} → statement M
 normalise-spec =

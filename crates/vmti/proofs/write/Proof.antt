@@ -4,7 +4,8 @@
 use native.Mathlib.Omega.{arith}
 use borrow.Author.Needs.{needs}
 use Rattle.vmti.proofs.Framed.{open-asked, rest-from, rest-room, entries-end, close-asked, all-written}
-use Rattle.vmti.proofs.Written.{write-refused, write-large, write-long, write-short, write-fits, write-done, parts-from, written-is, written-small, parts-asked}
+use Rattle.vmti.proofs.Packing.{packs-long, packs-short, packs-fit, packs-done, entries-small}
+use Rattle.vmti.proofs.Written.{write-refused, write-large, write-packs, parts-from, written-is, written-small, parts-asked}
 use Rattle.vmti.proofs.write.Statement.{statement}
 use Rattle.vmti.proofs.write.Tie as tie
 
@@ -21,12 +22,12 @@ sheet-refusal-requires : tie.Need-sheet-refusal-requires
 sheet-refusal-requires c κs = search needs
 
 returns : tie.Need-returns
-returns c = write-refused _ _ (c .before .before .before .check .ensures) (c .before .enum-told .given .1) (c .sheet-refusal .ensures)
+returns c = write-refused _ (c .before .before .before .check .ensures) _ (c .before .enum-told .given .1) (c .sheet-refusal .ensures)
 
 frame-size-requires : tie.Need-frame-size-requires
 frame-size-requires c κs =
     let a = c .before in
-    write-large _ (a .before .before .before .before .before .args .packet .now) (a .before .before .check .ensures) (λ i. a .before .before .before .before .shared-slice-known .given i .fits) (a .c .given .1)
+    write-large _ (a .before .before .check .ensures) (λ i. a .before .before .before .before .shared-slice-known .given i .fits) (a .c .given .1)
 
 answer-of-requires : tie.Need-answer-of-requires
 answer-of-requires c κs = search needs
@@ -35,7 +36,7 @@ returns-2 : tie.Need-returns-2
 returns-2 c =
     let z = c .before .before in
     let a = z .before .before in
-    write-long _ _ (a .before .before .check .ensures) (λ i. a .before .before .before .before .shared-slice-known .given i .fits) (a .c .given .1) (z .frame-size .ensures) (c .before .if1 .taken) (c .answer-of .ensures)
+    packs-long (write-packs _ (a .before .before .check .ensures) (λ i. a .before .before .before .before .shared-slice-known .given i .fits) (a .c .given .1) (z .frame-size .ensures)) _ (c .before .if1 .taken) (c .answer-of .ensures)
 
 answer-of-requires-2 : tie.Need-answer-of-requires-2
 answer-of-requires-2 c κs = search needs
@@ -45,7 +46,7 @@ returns-3 c =
     let g = c .before in
     let z = g .before .before in
     let a = z .before .before in
-    write-short _ _ (a .before .before .check .ensures) (λ i. a .before .before .before .before .shared-slice-known .given i .fits) (a .c .given .1) (z .frame-size .ensures) (g .before .if1 .left) (g .if2 .taken) (c .answer-of2 .ensures)
+    packs-short (write-packs _ (a .before .before .check .ensures) (λ i. a .before .before .before .before .shared-slice-known .given i .fits) (a .c .given .1) (z .frame-size .ensures)) _ (g .before .if1 .left) (g .if2 .taken) (c .answer-of2 .ensures)
 
 table-requires : tie.Need-table-requires
 table-requires c κs = search needs
@@ -55,7 +56,7 @@ open-requires c κs =
     let g = c .before .before in
     let z = g .before .before in
     let a = z .before .before in
-    open-asked (write-fits _ (a .before .before .before .before .before .args .packet .now) (a .before .before .check .ensures) (λ i. a .before .before .before .before .shared-slice-known .given i .fits) (a .c .given .1) (z .frame-size .ensures) (g .before .if1 .left) (g .if2 .left))
+    open-asked (packs-fit (write-packs _ (a .before .before .check .ensures) (λ i. a .before .before .before .before .shared-slice-known .given i .fits) (a .c .given .1) (z .frame-size .ensures)) (a .before .before .before .before .before .args .packet .now) (g .before .if1 .left) (g .if2 .left))
 
 slice-aggregate-item-packet : tie.Need-slice-aggregate-item-packet
 slice-aggregate-item-packet c = search needs
@@ -65,7 +66,7 @@ sub-item-packet c =
     let g = c .before .before .before .before .before .before in
     let z = g .before .before in
     let a = z .before .before in
-    parts-from _ (a .before .before .before .before .before .args .packet .now) (a .before .before .check .ensures) (λ i. a .before .before .before .before .shared-slice-known .given i .fits) (a .c .given .1) (z .frame-size .ensures) (g .before .if1 .left)
+    parts-from _ (a .before .before .check .ensures) (λ i. a .before .before .before .before .shared-slice-known .given i .fits) (a .c .given .1)
 
 part-item-packet-start : tie.Need-part-item-packet-start
 part-item-packet-start c = sub-item-packet c
@@ -79,7 +80,7 @@ sub-item-packet-2 c =
     let g = o .before .before .before in
     let z = g .before .before in
     let a = z .before .before in
-    rest-from (write-fits _ (a .before .before .before .before .before .args .packet .now) (a .before .before .check .ensures) (λ i. a .before .before .before .before .shared-slice-known .given i .fits) (a .c .given .1) (z .frame-size .ensures) (g .before .if1 .left) (g .if2 .left)) (o .«open» .ensures)
+    rest-from (packs-fit (write-packs _ (a .before .before .check .ensures) (λ i. a .before .before .before .before .shared-slice-known .given i .fits) (a .c .given .1) (z .frame-size .ensures)) (a .before .before .before .before .before .args .packet .now) (g .before .if1 .left) (g .if2 .left)) (o .«open» .ensures)
 
 part-item-packet-start-2 : tie.Need-part-item-packet-start-2
 part-item-packet-start-2 c = sub-item-packet-2 c
@@ -93,9 +94,9 @@ item-packet-requires c κs =
     let g = o .before .before .before in
     let z = g .before .before in
     let a = z .before .before in
-    let asked = parts-asked _ (a .before .before .before .before .before .args .packet .now) (a .before .before .check .ensures) (λ i. a .before .before .before .before .shared-slice-known .given i .fits) (a .c .given .1) (z .frame-size .ensures) (g .before .if1 .left) in (
+    let asked = parts-asked _ (a .before .before .check .ensures) (λ i. a .before .before .before .before .shared-slice-known .given i .fits) (a .c .given .1) (entries-small (write-packs _ (a .before .before .check .ensures) (λ i. a .before .before .before .before .shared-slice-known .given i .fits) (a .c .given .1) (z .frame-size .ensures)) (a .before .before .before .before .before .args .packet .now) (g .before .if1 .left)) in (
       o .before .before .table .ensures,
-      (asked .0, asked .1, asked .2, asked .3, rest-room (write-fits _ (a .before .before .before .before .before .args .packet .now) (a .before .before .check .ensures) (λ i. a .before .before .before .before .shared-slice-known .given i .fits) (a .c .given .1) (z .frame-size .ensures) (g .before .if1 .left) (g .if2 .left)) (o .«open» .ensures) (written-is _ (a .before .before .before .before .before .args .packet .now) (a .before .before .check .ensures) (λ i. a .before .before .before .before .shared-slice-known .given i .fits) (a .c .given .1) (z .frame-size .ensures) (g .before .if1 .left)), written-small _ (a .before .before .before .before .before .args .packet .now) (a .before .before .check .ensures) (λ i. a .before .before .before .before .shared-slice-known .given i .fits) (a .c .given .1) (z .frame-size .ensures) (g .before .if1 .left)),
+      (asked .0, asked .1, asked .2, asked .3, rest-room (packs-fit (write-packs _ (a .before .before .check .ensures) (λ i. a .before .before .before .before .shared-slice-known .given i .fits) (a .c .given .1) (z .frame-size .ensures)) (a .before .before .before .before .before .args .packet .now) (g .before .if1 .left) (g .if2 .left)) (o .«open» .ensures) (written-is _ (a .before .before .check .ensures) (λ i. a .before .before .before .before .shared-slice-known .given i .fits) (a .c .given .1)), written-small _ (a .before .before .check .ensures) (λ i. a .before .before .before .before .shared-slice-known .given i .fits) (a .c .given .1) (entries-small (write-packs _ (a .before .before .check .ensures) (λ i. a .before .before .before .before .shared-slice-known .given i .fits) (a .c .given .1) (z .frame-size .ensures)) (a .before .before .before .before .before .args .packet .now) (g .before .if1 .left))),
     )
 
 add-close : tie.Need-add-close
@@ -105,7 +106,7 @@ add-close c =
     let g = o .before .before .before in
     let z = g .before .before in
     let a = z .before .before in
-    omega (arith, entries-end (write-fits _ (a .before .before .before .before .before .args .packet .now) (a .before .before .check .ensures) (λ i. a .before .before .before .before .shared-slice-known .given i .fits) (a .c .given .1) (z .frame-size .ensures) (g .before .if1 .left) (g .if2 .left)) (o .«open» .ensures) (written-is _ (a .before .before .before .before .before .args .packet .now) (a .before .before .check .ensures) (λ i. a .before .before .before .before .shared-slice-known .given i .fits) (a .c .given .1) (z .frame-size .ensures) (g .before .if1 .left)) (n .item-packet .ensures))
+    omega (arith, entries-end (packs-fit (write-packs _ (a .before .before .check .ensures) (λ i. a .before .before .before .before .shared-slice-known .given i .fits) (a .c .given .1) (z .frame-size .ensures)) (a .before .before .before .before .before .args .packet .now) (g .before .if1 .left) (g .if2 .left)) (o .«open» .ensures) (written-is _ (a .before .before .check .ensures) (λ i. a .before .before .before .before .shared-slice-known .given i .fits) (a .c .given .1)) (n .item-packet .ensures))
 
 close-requires : tie.Need-close-requires
 close-requires c κs =
@@ -114,7 +115,7 @@ close-requires c κs =
     let g = o .before .before .before in
     let z = g .before .before in
     let a = z .before .before in
-    close-asked (write-fits _ (a .before .before .before .before .before .args .packet .now) (a .before .before .check .ensures) (λ i. a .before .before .before .before .shared-slice-known .given i .fits) (a .c .given .1) (z .frame-size .ensures) (g .before .if1 .left) (g .if2 .left)) (o .«open» .ensures) (written-is _ (a .before .before .before .before .before .args .packet .now) (a .before .before .check .ensures) (λ i. a .before .before .before .before .shared-slice-known .given i .fits) (a .c .given .1) (z .frame-size .ensures) (g .before .if1 .left)) (n .item-packet .ensures)
+    close-asked (packs-fit (write-packs _ (a .before .before .check .ensures) (λ i. a .before .before .before .before .shared-slice-known .given i .fits) (a .c .given .1) (z .frame-size .ensures)) (a .before .before .before .before .before .args .packet .now) (g .before .if1 .left) (g .if2 .left)) (o .«open» .ensures) (written-is _ (a .before .before .check .ensures) (λ i. a .before .before .before .before .shared-slice-known .given i .fits) (a .c .given .1)) (n .item-packet .ensures)
 
 answer-of-requires-3 : tie.Need-answer-of-requires-3
 answer-of-requires-3 c κs = search needs
@@ -129,8 +130,8 @@ returns-4 c =
     let g = o .before .before .before in
     let z = g .before .before in
     let a = z .before .before in
-    write-done _ _ (a .before .before .check .ensures) (λ i. a .before .before .before .before .shared-slice-known .given i .fits) (a .c .given .1) (z .frame-size .ensures) (g .before .if1 .left) (g .if2 .left)
-    (all-written (write-fits _ (a .before .before .before .before .before .args .packet .now) (a .before .before .check .ensures) (λ i. a .before .before .before .before .shared-slice-known .given i .fits) (a .c .given .1) (z .frame-size .ensures) (g .before .if1 .left) (g .if2 .left)) (o .«open» .ensures) (written-is _ (a .before .before .before .before .before .args .packet .now) (a .before .before .check .ensures) (λ i. a .before .before .before .before .shared-slice-known .given i .fits) (a .c .given .1) (z .frame-size .ensures) (g .before .if1 .left)) (n .item-packet .ensures) (c .before .before .before .close .ensures)) (c .answer-of3 .ensures)
+    packs-done (write-packs _ (a .before .before .check .ensures) (λ i. a .before .before .before .before .shared-slice-known .given i .fits) (a .c .given .1) (z .frame-size .ensures)) _ (g .before .if1 .left) (g .if2 .left)
+    (all-written (packs-fit (write-packs _ (a .before .before .check .ensures) (λ i. a .before .before .before .before .shared-slice-known .given i .fits) (a .c .given .1) (z .frame-size .ensures)) (a .before .before .before .before .before .args .packet .now) (g .before .if1 .left) (g .if2 .left)) (o .«open» .ensures) (written-is _ (a .before .before .check .ensures) (λ i. a .before .before .before .before .shared-slice-known .given i .fits) (a .c .given .1)) (n .item-packet .ensures) (c .before .before .before .close .ensures)) (c .answer-of3 .ensures)
 
 pub write-spec : {M : Type 1} → statement M
 write-spec =

@@ -1,13 +1,13 @@
 //! Writes the packets to be timed and times the second reader on them:
 //! `bench FOLDER`, files `NAME.packet`. Prints for each call and packet their
 //! names, the packet's bytes and the nanoseconds of one call: read, packet to
-//! sheet; write, that sheet to a packet; normalise.
+//! sheet; write, that sheet to a packet; normalise; edit, a put of set tag 9.
 
 use second::generate::limits::{falling, most_packs};
 use second::generate::random::Random;
 use second::generate::tree::{Node, Tree};
 use second::table::set_rule;
-use second::{normalise, read, write, Form, PACKET_LIMIT, PACKET_SHEET_LIMIT};
+use second::{edit, normalise, read, write, Change, Form, Level, PACKET_LIMIT, PACKET_SHEET_LIMIT};
 use std::hint::black_box;
 use std::time::{Duration, Instant};
 
@@ -30,6 +30,8 @@ fn main() {
         let print = |call: &str, best: f64| println!("{call} {name} {} {best:.1}", packet.len());
         print("read", time(|| _ = black_box(read(*form, black_box(packet), black_box(&mut out)))));
         print("write", time(|| _ = black_box(write(black_box(&sheet), black_box(&mut out)))));
+        let put = Change::Put(&[1, 0]);
+        print("edit", time(|| _ = black_box(edit(*form, black_box(packet), Level::Set, 9, put, black_box(&mut out)))));
         print("normalise", time(|| _ = black_box(normalise(*form, black_box(packet), black_box(&mut out)))));
     }
 }

@@ -1,19 +1,22 @@
 //! Writes a stream of cases for `tests/boundary/boundary.c`, with the second
 //! reader's answers: `boundary SEED COUNT`, COUNT seeded packets after
 //! document 01's examples and the named ones, each read and, every other one,
-//! normalised, and half as many seeded sheets, each written; with two rooms
-//! each.
+//! normalised, half as many seeded sheets, each written, and half as many
+//! seeded edits; with two rooms each.
 //!
-//! The stream, numbers low byte first: count of inputs (8); for each its call
-//! (8), form (8), length (4) and bytes, then for each room its size (4), the
+//! The stream, numbers low byte first: count of inputs (8); for each its call,
+//! form, level, target, tag and removal (8 each), the length (4) and bytes of
+//! the value to put, those of the input, then for each room its size (4), the
 //! one number (8), the count of bytes written (4) and those bytes.
 
-use second::generate::{named, packet, sheet, PacketCase};
-use second::{normalise_number, read_number, write_number, Form, PACKET_LIMIT, PACKET_SHEET_LIMIT, SHEET_LIMIT};
+use second::generate::{edit, named, packet, sheet, EditCase, PacketCase};
+use second::{edit_number, normalise_number, read_number, write_number};
+use second::{Form, Level, PACKET_LIMIT, PACKET_SHEET_LIMIT, SHEET_LIMIT};
 use std::io::{self, BufWriter, Write};
 
-/// Any number but 0 is standalone, whichever of its bytes is not 0.
-const STANDALONE: [u64; 6] = [1, 2, 256, 1 << 32, 1 << 63, u64::MAX];
+/// Any number but 0 is standalone, a target or a removal, whichever of its
+/// bytes is not 0.
+const OTHER: [u64; 6] = [1, 2, 256, 1 << 32, 1 << 63, u64::MAX];
 
 /// As the calls are numbered in `boundary.c`.
 #[derive(Clone, Copy)]
@@ -21,12 +24,16 @@ enum Call {
     Read,
     Write,
     Normalise,
+    Edit,
 }
 
 /// A call and what it is made on.
 struct Question {
     call: Call,
     form: u64,
+    /// Level, target, tag and removal of an edit.
+    names: [u64; 4],
+    value: Vec<u8>,
     input: Vec<u8>,
 }
 
@@ -36,6 +43,10 @@ impl Question {
             Call::Read => read_number(self.form, &self.input, room),
             Call::Write => write_number(&self.input, room),
             Call::Normalise => normalise_number(self.form, &self.input, room),
+            Call::Edit => {
+                let [level, target, tag, removal] = self.names;
+                edit_number(self.form, &self.input, level, target, tag, removal, &self.value, room)
+            }
         }
     }
 
@@ -43,7 +54,7 @@ impl Question {
     fn most(&self) -> [usize; 2] {
         match self.call {
             Call::Read => [PACKET_SHEET_LIMIT, SHEET_LIMIT],
-            Call::Write | Call::Normalise => [PACKET_LIMIT, PACKET_LIMIT + 1],
+            Call::Write | Call::Normalise | Call::Edit => [PACKET_LIMIT, PACKET_LIMIT + 1],
         }
     }
 }
@@ -54,11 +65,15 @@ fn main() -> io::Result<()> {
     let mut first: Vec<PacketCase> = compare::examples();
     first.extend(named().into_iter().map(|named| PacketCase { form: named.form, bytes: named.packet }));
     let named = first.len() as u64;
+    let edits = compare::edits();
     let out = &mut BufWriter::new(io::stdout().lock());
-    out.write_all(&(2 * named + count + count.div_ceil(2) + count / 2).to_le_bytes())?;
+    out.write_all(&(2 * named + edits.len() as u64 + 2 * count + count / 2).to_le_bytes())?;
     for (index, case) in first.iter().enumerate() {
         write_case(out, index, &of_packet(Call::Read, index, case))?;
         write_case(out, index, &of_packet(Call::Normalise, index, case))?;
+    }
+    for (index, case) in edits.into_iter().enumerate() {
+        write_case(out, index, &of_edit(index, case))?;
     }
     for index in 0..count {
         let (case, place) = (packet(seed, index), (named + index) as usize);
@@ -66,24 +81,49 @@ fn main() -> io::Result<()> {
         if index % 2 == 0 {
             write_case(out, place / 2, &of_packet(Call::Normalise, place, &case))?;
         } else {
-            let input = sheet(seed, index / 2).bytes;
-            write_case(out, place / 2, &Question { call: Call::Write, form: 0, input })?;
+            write_case(out, place / 2, &of_sheet(sheet(seed, index / 2).bytes))?;
+            write_case(out, place / 2, &of_edit(place, edit(seed, index / 2)))?;
         }
     }
     out.flush()
 }
 
 fn of_packet(call: Call, index: usize, case: &PacketCase) -> Question {
-    let form = match case.form {
-        Form::Embedded => 0,
-        Form::Standalone => STANDALONE[index % STANDALONE.len()],
+    Question { call, form: form(index, case.form), names: [0; 4], value: Vec::new(), input: case.bytes.clone() }
+}
+
+fn of_sheet(input: Vec<u8>) -> Question {
+    Question { call: Call::Write, form: 0, names: [0; 4], value: Vec::new(), input }
+}
+
+/// Where the set is named the target is not looked at, nor the value where
+/// the item is removed.
+fn of_edit(index: usize, case: EditCase) -> Question {
+    let other = |turn: usize| OTHER[(index + turn) % OTHER.len()];
+    let (level, target) = match case.level {
+        Level::Set => (0, other(1)),
+        Level::Target(id) => (other(1), id),
     };
-    Question { call, form, input: case.bytes.clone() }
+    let removal = if case.value.is_some() { 0 } else { other(2) };
+    let value = case.value.unwrap_or_else(|| vec![0; index % 3]);
+    let names = [level, target, case.tag, removal];
+    Question { call: Call::Edit, form: form(index, case.form), names, value, input: case.packet }
+}
+
+fn form(index: usize, form: Form) -> u64 {
+    match form {
+        Form::Embedded => 0,
+        Form::Standalone => OTHER[index % OTHER.len()],
+    }
 }
 
 fn write_case(out: &mut impl Write, index: usize, question: &Question) -> io::Result<()> {
     out.write_all(&(question.call as u64).to_le_bytes())?;
     out.write_all(&question.form.to_le_bytes())?;
+    for number in question.names {
+        out.write_all(&number.to_le_bytes())?;
+    }
+    write_bytes(out, &question.value)?;
     write_bytes(out, &question.input)?;
     let mut room = vec![0; SHEET_LIMIT];
     for size in rooms(index, question) {

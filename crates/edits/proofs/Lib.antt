@@ -1,0 +1,7 @@
+pub mod Levels
+pub mod Sets
+pub mod Targets
+pub mod Finds
+pub mod Rules
+pub mod Storing
+pub mod Callers

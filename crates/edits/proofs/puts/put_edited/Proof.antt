@@ -1,0 +1,68 @@
+-- `edits::puts::put_edited` meets its contract.
+use borrow.Author.Needs.{needs}
+use Rattle.items.specs.Meet.{formOf}
+use Rattle.edits.specs.Meet.{changeOf}
+use Rattle.edits.proofs.Storing.{tag-high, tag-other, puttable, item-fits, front-room, item-behind, rest-behind, edited-stored}
+use Rattle.edits.proofs.puts.put_edited.Statement.{statement}
+use Rattle.edits.proofs.puts.put_edited.Tie as tie
+
+item-size-requires : tie.Need-item-size-requires
+item-size-requires c κs =
+    let i = c .before .before .before .before .args in
+    let e = c .before .before .before .before .pre .1 in
+    (c .before .before .before .before .pre .0, tag-high (formOf (i .alone)) (i .set) (i .id) (i .tag) _ (i .s .now) (i .p) e, puttable (formOf (i .alone)) (i .set) (i .id) (i .tag) _ (i .s .now) (i .p) e)
+
+put-front-requires : tie.Need-put-front-requires
+put-front-requires c κs =
+    let i = c .before .before .before .before .before .before .args in
+    let e = c .before .before .before .before .before .before .pre .1 in
+    let x = changeOf (i .removal) (i .v .now) in
+    (e .short, e .placed .ordered, item-fits (formOf (i .alone)) (i .set) (i .id) (i .tag) x (i .s .now) (i .p) e (c .before .item-size .ensures), front-room (formOf (i .alone)) (i .set) (i .id) (i .tag) x (i .s .now) (i .p) e (i .out .now) (c .before .before .before .before .before .before .pre .2) (c .before .item-size .ensures))
+
+put-item-requires : tie.Need-put-item-requires
+put-item-requires c κs =
+    let i = c .before .before .before .before .before .before .before .before .before .before .args in
+    let e = c .before .before .before .before .before .before .before .before .before .before .pre .1 in
+    let x = changeOf (i .removal) (i .v .now) in (
+      c .before .before .before .before .before .before .before .before .before .before .pre .0,
+      tag-high (formOf (i .alone)) (i .set) (i .id) (i .tag) x (i .s .now) (i .p) e,
+      tag-other (formOf (i .alone)) (i .set) (i .id) (i .tag) x (i .s .now) (i .p) e,
+      puttable (formOf (i .alone)) (i .set) (i .id) (i .tag) x (i .s .now) (i .p) e,
+      item-behind (formOf (i .alone)) (i .set) (i .id) (i .tag) x (i .s .now) (i .p) e (i .out .now) (c .before .before .before .before .before .before .before .before .before .before .pre .2) (c .before .before .before .before .before .item-size .ensures) (c .before .before .before .put-front .ensures),
+    )
+
+sub-copy : tie.Need-sub-copy
+sub-copy c = search needs
+
+part-copy-start : tie.Need-part-copy-start
+part-copy-start c = search needs
+
+part-copy-end : tie.Need-part-copy-end
+part-copy-end c = search needs
+
+copy-requires : tie.Need-copy-requires
+copy-requires c κs =
+    let i = c .before .before .before .before .before .before .before .before .before .before .before .before .before .before .before .args in
+    rest-behind (formOf (i .alone)) (i .set) (i .id) (i .tag) (changeOf (i .removal) (i .v .now)) (i .s .now) (i .p) (c .before .before .before .before .before .before .before .before .before .before .before .before .before .before .before .pre .1) (i .out .now) (c .before .before .before .before .before .before .before .before .before .before .before .before .before .before .before .pre .2) (c .before .before .before .before .before .before .before .before .before .before .item-size .ensures) (c .before .before .before .before .before .before .before .before .put-front .ensures) (c .before .before .before .before .put-item .ensures)
+
+same-length : tie.Need-same-length
+same-length c = search needs
+
+returns : tie.Need-returns
+returns c =
+    let i = c .before .before .before .before .before .before .before .before .before .before .before .before .before .before .before .before .before .before .args in
+    edited-stored (formOf (i .alone)) (i .set) (i .id) (i .tag) (changeOf (i .removal) (i .v .now)) (i .s .now) (i .p) (c .before .before .before .before .before .before .before .before .before .before .before .before .before .before .before .before .before .before .pre .1) (i .out .now) (c .before .before .before .before .before .before .before .before .before .before .before .before .before .before .before .before .before .before .pre .2) (c .before .before .before .before .before .before .before .before .before .before .before .before .before .item-size .ensures) (c .before .before .before .before .before .before .before .before .before .before .before .put-front .ensures) (c .before .before .before .before .before .before .before .put-item .ensures) (c .before .before .copy .ensures)
+
+pub put-edited-spec : {M : Type 1} → statement M
+put-edited-spec =
+    tie.close
+    (tie.spec
+    item-size-requires
+    put-front-requires
+    put-item-requires
+    sub-copy
+    part-copy-start
+    part-copy-end
+    copy-requires
+    same-length
+    returns)

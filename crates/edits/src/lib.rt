@@ -1,0 +1,246 @@
+// One item of a packet put or removed: whether it may be, where it stands, how many bytes the edited entries take, and these bytes.
+ghost use mathlib.Core.Path.{_≡_};
+ghost use mathlib.Core.Bool.{true, _&&_};
+ghost use mathlib.Core.List.{List};
+ghost use Prim.Native.Nat.{ℕ, _-_, _≤_};
+ghost use lib.ListN.{length};
+ghost use lib.Dec.{eqb};
+ghost use Rattle.format.specs.Lists.{has};
+ghost use Rattle.format.specs.Table.{set, isAlone, nameable};
+ghost use Rattle.format.specs.Edit.{theSet, target, mustStay, changeRules};
+ghost use Rattle.items.specs.Meet.{formOf, levelOf, itemTable, answerOf};
+ghost use Rattle.walks.specs.Runs.{Ran, seriesRun};
+ghost use Rattle.edits.specs.Meet.{holderOf, changeOf, sealSize, SetOf, Placed, shiftedOf, FoundInPacks, FoundIs, Judged};
+use heads::Head;
+
+// Where an item stands in the bytes of a packet's set. For a target's item: where the series begins, its packs, the pack, the pack's id,
+// the item, what follows it, where the pack ends, the series, and the entries, before the checksum. Where there is no such item, it would
+// begin and end at its level's end. For the set's item all before it are 0, and all that follow are the entries' end.
+pub struct Place {
+    pub series: usize,
+    pub packs: usize,
+    pub pack: usize,
+    pub body: usize,
+    pub at: usize,
+    pub next: usize,
+    pub last: usize,
+    pub tail: usize,
+    pub stop: usize,
+}
+
+// The place; or the number of a refusal.
+pub enum Found {
+    There(Place),
+    Not(u64),
+}
+
+// Where the entries end: before the checksum.
+fn stop_of(s: &[u8], alone: bool) -> usize
+    requires { ⌜ sealSize (formOf alone) ≤ length (now s) ⌝ }
+    ensures { λ r. ⌜ r ≡ length (now (s .entry)) - sealSize (formOf alone) ⌝ }
+{
+    if alone {
+        return s.len() - 4;
+    }
+    s.len()
+}
+
+// An item of the set.
+fn set_place(s: &[u8], alone: bool, tag: u64) -> Place
+    requires { ⌜ SetOf (formOf alone) (now s) × (nameable set tag ≡ true) ⌝ }
+    ensures { λ r. ⌜ Placed (formOf alone) theSet tag (now (s .entry)) r ⌝ }
+{
+    let stop = stop_of(s, alone);
+    let a = spots::item_spot(s, true, alone, tag);
+    let mut at = stop;
+    if 0 < a.size {
+        at = a.at;
+    }
+    Place {
+        series: 0,
+        packs: 0,
+        pack: 0,
+        body: 0,
+        at,
+        next: at + a.size,
+        last: stop,
+        tail: stop,
+        stop,
+    }
+}
+
+// An item of a target, in the packs of the series.
+fn pack_place(s: &[u8], alone: bool, id: u64, tag: u64) -> Found
+    requires { ⌜ (length (now s) ≤ 8192) × Ran (seriesRun (formOf alone) (now s)) ⌝ }
+    ensures { λ r. ⌜ FoundInPacks (formOf alone) id tag (now (s .entry)) r ⌝ }
+{
+    let a = spots::pack_spot(s, alone, id);
+    let pack = a.at;
+    if a.size == 0 {
+        return Found::Not(18);
+    }
+    let h = heads::pack_head(&s[pack..]);
+    let Head::Whole {
+        key: _,
+        used,
+        width,
+        size,
+    } = h
+    else {
+        return Found::Not(18);
+    };
+    let body = pack + width;
+    let from = body + used;
+    let last = body + size;
+    let b = spots::item_spot(&s[from..last], false, alone, tag);
+    let at = from + b.at;
+    let place = Place {
+        series: 0,
+        packs: 0,
+        pack,
+        body,
+        at,
+        next: at + b.size,
+        last,
+        tail: last,
+        stop: last,
+    };
+    Found::There(place)
+}
+
+// A place in the packs of a series, in the set.
+fn shifted(p: Place, series: usize, packs: usize, tail: usize, stop: usize) -> Place
+    requires { ⌜ (packs ≤ 8192) × (p .pack ≤ 8192) × (p .body ≤ 8192) × (p .at ≤ 8192) × (p .next ≤ 8192) × (p .last ≤ 8192) ⌝ }
+    ensures { λ r. ⌜ r ≡ shiftedOf p series packs tail stop ⌝ }
+{
+    Place {
+        series,
+        packs,
+        pack: packs + p.pack,
+        body: packs + p.body,
+        at: packs + p.at,
+        next: packs + p.next,
+        last: packs + p.last,
+        tail,
+        stop,
+    }
+}
+
+// An item of a target.
+fn target_place(s: &[u8], alone: bool, id: u64, tag: u64) -> Found
+    requires { ⌜ SetOf (formOf alone) (now s) ⌝ }
+    ensures { λ r. ⌜ FoundIs (formOf alone) (target id) tag (now (s .entry)) r ⌝ }
+{
+    let a = spots::item_spot(s, true, alone, 101);
+    let series = a.at;
+    if a.size == 0 {
+        return Found::Not(18);
+    }
+    let h = heads::item_head(&s[series..], true);
+    let Head::Whole {
+        key: _,
+        used,
+        width,
+        size,
+    } = h
+    else {
+        return Found::Not(18);
+    };
+    let packs = series + used + width;
+    let tail = packs + size;
+    let f = pack_place(&s[packs..tail], alone, id, tag);
+    let Found::There(p) = f else {
+        return f;
+    };
+    let stop = stop_of(s, alone);
+    Found::There(shifted(p, series, packs, tail, stop))
+}
+
+// The place of an item that may be named; or 18, where there is no such target.
+fn find(s: &[u8], alone: bool, set: bool, id: u64, tag: u64) -> Found
+    requires { ⌜ SetOf (formOf alone) (now s) × (nameable (levelOf set) tag ≡ true) ⌝ }
+    ensures { λ r. ⌜ FoundIs (formOf alone) (holderOf set id) tag (now (s .entry)) r ⌝ }
+{
+    if set {
+        return Found::There(set_place(s, alone, tag));
+    }
+    target_place(s, alone, id, tag)
+}
+
+// ---- the rules
+
+// Tag 2 of a standalone set, and 17 of its packs.
+fn must_stay(alone: bool, set: bool, tag: u64) -> bool
+    ensures { λ r. ⌜ r ≡ (isAlone (formOf alone) && eqb tag (mustStay (levelOf set))) ⌝ }
+{
+    if alone {
+        if set {
+            return tag == 2;
+        }
+        return tag == 17;
+    }
+    false
+}
+
+// For a put 7, 13, 11 or 12, for a removal 18 or 14; or 0.
+fn change_fault(
+    table: &[u64],
+    alone: bool,
+    set: bool,
+    tag: u64,
+    stands: bool,
+    removal: bool,
+    v: &[u8],
+) -> u64
+    requires { ⌜ now table ≡ itemTable ⌝ }
+    ensures { λ r. ⌜ ((tags : List ℕ) → has tag tags ≡ stands → answerOf r ≡ changeRules (formOf alone) (levelOf set) tag tags (changeOf removal (now (v .entry)))) ⌝ }
+{
+    if removal {
+        if stands {
+            if must_stay(alone, set, tag) {
+                return 14;
+            }
+            return 0;
+        }
+        return 18;
+    }
+    if v.len() == 0 {
+        return 7;
+    }
+    if items::stands(set, alone, tag, true) {
+        let rule = items::rule_of(table, set, tag);
+        return items::valued_of(rule, v);
+    }
+    13
+}
+
+// The place of the item to be put or removed; or 19, 18, then for a put 7, 13, 11, 12, for a removal 14.
+pub fn judge(
+    table: &[u64],
+    s: &[u8],
+    alone: bool,
+    set: bool,
+    id: u64,
+    tag: u64,
+    removal: bool,
+    v: &[u8],
+) -> Found
+    requires { ⌜ (now table ≡ itemTable) × SetOf (formOf alone) (now s) ⌝ }
+    ensures { λ r. ⌜ Judged (formOf alone) (holderOf set id) tag (changeOf removal (now (v .entry))) (now (s .entry)) r ⌝ }
+{
+    if !items::nameable_of(set, tag) {
+        return Found::Not(19);
+    }
+    let f = find(s, alone, set, id, tag);
+    let Found::There(p) = f else {
+        return f;
+    };
+    let stands = p.at < p.next;
+    let n = change_fault(table, alone, set, tag, stands, removal, v);
+    if n == 0 {
+        return f;
+    }
+    Found::Not(n)
+}
+
+pub mod puts; // puts.rt: how many bytes the edited entries take, and these bytes

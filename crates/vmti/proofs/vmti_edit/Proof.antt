@@ -1,0 +1,20 @@
+-- `vmti::vmti_edit` meets its contract: the answer of `edit`, as one number.
+use borrow.Author.Needs.{needs}
+use Rattle.vmti.proofs.Bounds.{edit-small, one-number}
+use Rattle.vmti.proofs.vmti_edit.Statement.{statement}
+use Rattle.vmti.proofs.vmti_edit.Tie as tie
+
+edit-requires : tie.Need-edit-requires
+edit-requires c κs = search needs
+
+one-number-requires : tie.Need-one-number-requires
+one-number-requires c κs = edit-small _ _ _ _ _ _ _ _ (c .before .before .edit .ensures)
+
+same-length : tie.Need-same-length
+same-length c = search needs
+
+returns : tie.Need-returns
+returns c = one-number _ _ _ (c .before .before .before .edit .ensures) (c .one-number .ensures)
+
+pub vmti-edit-spec : {M : Type 1} → statement M
+vmti-edit-spec = tie.close (tie.spec edit-requires one-number-requires same-length returns)

@@ -50,7 +50,7 @@ static void get_packet(struct packet *p, const char *path)
     p->sheet_size = (size_t)VMTI_PLACE(answer);
 }
 
-/* The calls, each made on the packet or on its sheet, and given room. The edit puts set tag 9. */
+/* The calls, each made on the packet or on its sheet, and given room. The edits put set tag 9, and tag 4 of the target 1. */
 static uint64_t call_read(const struct packet *p)
 {
     return vmti_read(p->form, p->bytes, p->size, out, sizeof out);
@@ -72,10 +72,16 @@ static uint64_t call_edit(const struct packet *p)
     return vmti_edit(p->form, p->bytes, p->size, VMTI_SET, 0, 9, VMTI_PUT, value, sizeof value, out, sizeof out);
 }
 
+static uint64_t call_edit_target(const struct packet *p)
+{
+    static const uint8_t value[] = {1};
+    return vmti_edit(p->form, p->bytes, p->size, VMTI_TARGET, 1, 4, VMTI_PUT, value, sizeof value, out, sizeof out);
+}
+
 static const struct {
     const char *name;
     uint64_t (*make)(const struct packet *p);
-} calls[] = {{"read", call_read}, {"write", call_write}, {"normalise", call_normalise}, {"edit", call_edit}};
+} calls[] = {{"read", call_read}, {"write", call_write}, {"normalise", call_normalise}, {"edit", call_edit}, {"edit-target", call_edit_target}};
 
 enum { CALLS = sizeof calls / sizeof calls[0] };
 

@@ -1,7 +1,9 @@
 //! Writes the packets to be timed and times the second reader on them:
-//! `bench FOLDER`, files `NAME.packet`. Prints for each call and packet their
+//! `bench FOLDER [packets]`, files `NAME.packet`; with a second word it does no
+//! more. Prints for each call and packet their
 //! names, the packet's bytes and the nanoseconds of one call: read, packet to
-//! sheet; write, that sheet to a packet; normalise; edit, a put of set tag 9.
+//! sheet; write, that sheet to a packet; normalise; edit, a put of
+//! set tag 9; edit-target, a put of tag 4 of the target 1.
 
 use second::generate::limits::{falling, most_packs};
 use second::generate::random::Random;
@@ -24,14 +26,22 @@ fn main() {
         assert!(read(*form, packet, &mut out).is_ok(), "{name} is refused");
         std::fs::write(format!("{folder}/{name}.packet"), packet).expect("a file");
     }
+    if std::env::args().nth(2).is_some() {
+        return;
+    }
     for (name, form, packet) in &packets {
         let count = read(*form, packet, &mut out).expect("accepted above");
         let sheet = out[..count].to_vec();
         let print = |call: &str, best: f64| println!("{call} {name} {} {best:.1}", packet.len());
         print("read", time(|| _ = black_box(read(*form, black_box(packet), black_box(&mut out)))));
         print("write", time(|| _ = black_box(write(black_box(&sheet), black_box(&mut out)))));
-        let put = Change::Put(&[1, 0]);
-        print("edit", time(|| _ = black_box(edit(*form, black_box(packet), Level::Set, 9, put, black_box(&mut out)))));
+        let edits = [
+            ("edit", Level::Set, 9, Change::Put(&[1, 0])),
+            ("edit-target", Level::Target(1), 4, Change::Put(&[1])),
+        ];
+        for (name, level, tag, put) in edits {
+            print(name, time(|| _ = black_box(edit(*form, black_box(packet), level, tag, put, black_box(&mut out)))));
+        }
         print("normalise", time(|| _ = black_box(normalise(*form, black_box(packet), black_box(&mut out)))));
     }
 }

@@ -1,5 +1,6 @@
 -- The normal form of a packet that was read: what the entries of its set write, and how many bytes the packs of its series take.
 use mathlib.Core.Path.{_≡_, refl, sym, ap, _∙_}
+use mathlib.Core.Logic.{_⊎_, inl, inr}
 use Prim.Native.Nat.{ℕ}
 use native.Mathlib.Omega.{arith}
 use mathlib.Core.Bool.{Bool, true, false, _&&_}
@@ -8,7 +9,7 @@ use lib.ListN.{length, drop}
 use lib.Dec.{eqb}
 use Rattle.format.specs.Answer.{ok}
 use Rattle.format.specs.Coding.{Bytes}
-use Rattle.format.specs.Lists.{has, flatAll}
+use Rattle.format.specs.Lists.{flatAll}
 use Rattle.format.specs.Table.{Form, embedded, standalone, set, isSet}
 use Rattle.format.specs.Packet.{Item, Pack, Entry, plain, series, Packet, tagOfEntry, flatEntry}
 use Rattle.format.specs.Read.{start, unsealed, entry}
@@ -17,13 +18,12 @@ use Rattle.format.specs.Rows.{sealItem}
 use Rattle.format.specs.Sheet.{valOf, targetOf, partOf, content}
 use Rattle.format.specs.Calls.{entryOf}
 use Rattle.format.specs.Valid.{All, Once}
-use Rattle.format.proofs.words.Answers.{no-bool}
 use Rattle.format.proofs.words.Bytes.{bytes-drop}
-use Rattle.format.proofs.words.Keys.{has-none}
 use Rattle.format.proofs.reading.Packets.{set-says, set-once}
 use Rattle.walks.specs.Meet.{total, itemSizes, weightOfItem, weightOfPack, weightOfEntry, weightOfTarget, stepAt, deepenAt}
 use Rattle.walks.specs.Runs.{levelRun}
 use Rattle.walks.proofs.Maps.{total-map}
+use Rattle.walks.proofs.Inners.{one-inside}
 use Rattle.walks.proofs.Totals.{pack-says, targets-normal, seal-last}
 use Rattle.walks.proofs.Parsed.{Sealing, Parsed}
 use Rattle.stores.proofs.Unsealed.{unsealed-same}
@@ -65,23 +65,9 @@ item-inner i = go (isSet set && eqb (i .tag) 1) refl
     go true z = rw (z, itemSizes)
     go false z = rw (z, itemSizes)
 
--- where no series stands
-no-series : (n : ℕ) (es : List Entry) → has 101 (map tagOfEntry es) ≡ false → (total (weightOfEntry set) es .inner ≡ 0) × All (InnerIs n) es
-unfolding total
-no-series n [] h = (refl, tt)
-no-series n (plain i ∷ es) h =
-    let (a, b) = no-series n es (has-none (i .tag) 101 (map tagOfEntry es) h .1) in
-    (omega (arith, item-inner i, a), (tt, b))
-no-series n (series w ps ∷ es) h = no-bool (sym (has-none 101 101 (map tagOfEntry es) h .0))
-
--- there is one at most
-one-series : (n : ℕ) (es : List Entry) → Once (map tagOfEntry es) → n ≡ total (weightOfEntry set) es .inner → All (InnerIs n) es
-unfolding total
-one-series n [] h e = tt
-one-series n (plain i ∷ es) h e = (tt, one-series n es (h .1) (omega (arith, e, item-inner i)))
-one-series n (series w ps ∷ es) h e =
-    let (a, b) = no-series n es (h .0) in
-    (omega (arith, e, a, packs-long ps), b)
+entry-inside : (n : ℕ) (e : Entry) → ((weightOfEntry set e .inner ≡ 0) × InnerIs n e) ⊎ ((tagOfEntry e ≡ 101) × (n ≡ weightOfEntry set e .inner → InnerIs n e))
+entry-inside n (plain i) = inl (item-inner i, tt)
+entry-inside n (series w ps) = inr (refl, λ e. omega (arith, e, packs-long ps))
 
 -- the checksum is none
 sealed-inner : (f : Form) (es : List Entry) (sum : List ℕ) → Sealing f es sum → total (weightOfEntry set) (unsealed es) .inner ≡ total (weightOfEntry set) es .inner
@@ -99,4 +85,4 @@ module _ {f : Form} {s : List ℕ} {p : Packet} (k : Parsed f s p) (b : Bytes s)
 
   pub inner-run : {n : ℕ} → n ≡ total (weightOfEntry set) (p .entries) .inner → InnerRun n (levelRun set f (drop (start f (k .width)) s))
   inner-run {n = n} e =
-      rw (k .runs) (one-series n (k .es .val) once (e ∙ ap (λ x. total (weightOfEntry set) (x .entries) .inner) (k .packet-is) ∙ sealed-inner f (k .es .val) (k .sum) (k .sealing)))
+      rw (k .runs) (one-inside tagOfEntry (weightOfEntry set) InnerIs 101 entry-inside n (k .es .val) once (e ∙ ap (λ x. total (weightOfEntry set) (x .entries) .inner) (k .packet-is) ∙ sealed-inner f (k .es .val) (k .sum) (k .sealing)))

@@ -1,27 +1,25 @@
 -- The packet of a sheet that was read: what its parts write, and how many bytes the packs of its series take.
 use mathlib.Core.Path.{_≡_, refl, sym, ap, _∙_}
-use mathlib.Core.Logic.{_⊎_, inl, inr, ⊎-elim}
+use mathlib.Core.Logic.{_⊎_, inl, inr}
 use Prim.Native.Nat.{ℕ, _≤_, _<_}
 use native.Mathlib.Omega.{arith}
-use mathlib.Core.Bool.{false}
 use mathlib.Core.List.{List, [], _∷_, map}
 use lib.ListN.{length, drop, length-drop}
-use borrow.Author.Tests.{leb-true, eq-eqb}
+use borrow.Author.Tests.{leb-true}
 use Rattle.format.specs.Answer.{ok, Got}
 use Rattle.format.specs.Coding.{Bytes}
-use Rattle.format.specs.Lists.{has, flatAll}
+use Rattle.format.specs.Lists.{flatAll}
 use Rattle.format.specs.Table.{Form, set}
 use Rattle.format.specs.Run.{run, always}
 use Rattle.format.specs.Packet.{flatPack, flatEntry}
 use Rattle.format.specs.Sheet.{Part, one, targets, Sheet, tagOfPart, partAt, formOf, sheetLimit, unsheet}
 use Rattle.format.specs.Calls.{packOf, entryOf}
-use Rattle.format.specs.Valid.{All, Once}
-use Rattle.format.proofs.words.Answers.{never, no-bool, bind-then, need-then, after-then, after-need-then, ok-inj}
-use Rattle.format.proofs.words.Keys.{has-none}
+use Rattle.format.specs.Valid.{Once}
+use Rattle.format.proofs.words.Answers.{never, bind-then, need-then, after-then, after-need-then, ok-inj}
 use Rattle.format.proofs.sheets.Sheets.{sheet-says}
-use Rattle.walks.specs.declared.Sizes.{Sizes}
 use Rattle.walks.specs.Meet.{total, weightOfPart}
 use Rattle.walks.specs.Runs.{Ran, madeOf}
+use Rattle.walks.proofs.Inners.{one-inside}
 use Rattle.walks.proofs.Totals.{val-inner, targets-normal}
 use Rattle.records.specs.Meet.{partStep}
 use Rattle.stores.proofs.Entries.{ran-ok}
@@ -62,23 +60,6 @@ sheet-read b t h e =
     }
 
 -- ---- one series at most
-
--- Of things whose tags stand once, only one with the tag k weighs inside, and P n says that it weighs n.
-module _ {X : Type 0} (tag : X → ℕ) (weight : X → Sizes) (P : ℕ → X → Type 0) (k : ℕ)
-    (each : (n : ℕ) (x : X) → ((weight x .inner ≡ 0) × P n x) ⊎ ((tag x ≡ k) × (n ≡ weight x .inner → P n x))) where
-  none-inside : (n : ℕ) (xs : List X) → has k (map tag xs) ≡ false → (total weight xs .inner ≡ 0) × All (P n) xs
-  unfolding total
-  none-inside n [] h = (refl, tt)
-  none-inside n (x ∷ xs) h =
-      let (a, b) = none-inside n xs (has-none (tag x) k (map tag xs) h .1) in
-      ⊎-elim (λ y. (omega (arith, y .0, a), (y .1, b))) (λ y. no-bool (sym (has-none (tag x) k (map tag xs) h .0) ∙ eq-eqb (tag x) k (y .0))) (each n x)
-
-  one-inside : (n : ℕ) (xs : List X) → Once (map tag xs) → n ≡ total weight xs .inner → All (P n) xs
-  unfolding total
-  one-inside n [] h e = tt
-  one-inside n (x ∷ xs) h e =
-      ⊎-elim (λ y. (y .1, one-inside n xs (h .1) (omega (arith, y .0, e))))
-      (λ y. let (a, b) = none-inside n xs (ap (λ j. has j (map tag xs)) (sym (y .0)) ∙ h .0) in (y .1 (omega (arith, a, e)), b)) (each n x)
 
 part-inside : (n : ℕ) (p : Part) → ((weightOfPart p .inner ≡ 0) × InnerPart n p) ⊎ ((tagOfPart p ≡ 101) × (n ≡ weightOfPart p .inner → InnerPart n p))
 part-inside n (one v) = inl (val-inner set v, tt)

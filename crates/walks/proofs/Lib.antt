@@ -7,6 +7,7 @@ pub mod Turns
 pub mod ItemTurns
 pub mod PackTurns
 pub mod Totals
+pub mod Inners
 pub mod Openings
 pub mod Closings
 pub mod Packets

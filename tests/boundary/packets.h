@@ -11,13 +11,13 @@ struct packet {
     char name[64];
     uint64_t form;
     size_t size;
-    uint8_t bytes[VMTI_PACKET_MOST];
+    uint8_t bytes[VMTI_PACKET_MAX];
     size_t sheet_size;
-    uint8_t sheet[VMTI_SHEET_MOST];
+    uint8_t sheet[VMTI_SHEET_OF_PACKET_MAX];
 };
 
 /* Room for what a call writes. */
-static uint8_t out[VMTI_SHEET_MOST];
+static uint8_t out[VMTI_SHEET_OF_PACKET_MAX];
 
 static void die(const char *why, const char *of)
 {
@@ -45,9 +45,9 @@ static void get_packet(struct packet *p, const char *path)
     fclose(file);
     p->form = p->size >= sizeof key && memcmp(p->bytes, key, sizeof key) == 0 ? VMTI_STANDALONE : VMTI_EMBEDDED;
     answer = vmti_read(p->form, p->bytes, p->size, p->sheet, sizeof p->sheet);
-    if (VMTI_NUMBER(answer) != 0)
+    if (!VMTI_OK(answer))
         die("refused", path);
-    p->sheet_size = (size_t)VMTI_PLACE(answer);
+    p->sheet_size = VMTI_COUNT(answer);
 }
 
 /* The calls, each made on the packet or on its sheet, and given room. The edits put set tag 9, and tag 4 of the target 1. */

@@ -30,11 +30,7 @@ else
 fi
 
 x86_archive() {
-  local archive=target/staticlib/libvmti.a
-  # the gate has removed it; by hand it may be older than the code
-  if [ ! -f "$archive" ] || [ -n "$(find crates crates.txt -newer "$archive" -print -quit)" ]; then
-    rt staticlib vmti > target/staticlib.log 2>&1 || { tail -n 5 target/staticlib.log; return 1; }
-  fi
+  make --no-print-directory target/staticlib/libvmti.a > target/staticlib.log 2>&1 || { tail -n 5 target/staticlib.log; return 1; }
 }
 
 # On another machine the LLVM module that rt hands to the kit's compiler is kept and compiled once more, for this machine. No

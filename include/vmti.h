@@ -8,15 +8,14 @@
  *
  * Four calls:
  *
- *   vmti_read        a packet to its sheet: plain records, with no lengths of
- *                    lengths to follow
+ *   vmti_read        a packet to its sheet, a row of plain records
  *   vmti_write       a sheet to its packet
- *   vmti_normalise   a packet to its normal form: equal where packets mean the
- *                    same
+ *   vmti_normalise   a packet to its normal form, to compare or to keep
  *   vmti_edit        a packet with one item put or removed, and every other
  *                    byte kept
  *
- * They are for x86-64 Linux, and need no other library:
+ * They are for x86-64 Linux, and need no other library. `make install` of the
+ * source tree puts them in place; then
  *
  *   cc viewer.c $(pkg-config --cflags --libs vmti)
  *
@@ -91,10 +90,10 @@
  * call may be made from any thread at any time, and from a signal handler, as
  * long as no one changes the lent bytes while it runs.
  *
- * It takes at most 4,096 bytes of stack, whatever the input, and does not
- * recurse with it (measured: 2,376; a signal stack of MINSIGSTKSZ may be too
- * small). It ends for every input. Usual packets take microseconds; the time of
- * the worst grows with the square of the count of their items.
+ * It takes at most 4,096 bytes of stack, whatever the input (2,376 were seen; a
+ * signal stack of MINSIGSTKSZ may have fewer). It ends for every input. Usual
+ * packets take microseconds; the time of the worst grows with the square of the
+ * count of their items.
  *
  * The calls were proved: what is said here of numbers, places and bytes holds
  * for all inputs. What is said of NULL, alignment and the stack is tested, not
@@ -119,11 +118,13 @@ extern "C" {
 #define VMTI_PACKET_MAX 8192           /* bytes of a packet. A longer one is refused with 1, and none is written */
 #define VMTI_SHEET_MAX 65536           /* bytes of a sheet. A longer one is refused with 1, and none is written */
 #define VMTI_SHEET_OF_PACKET_MAX 40963 /* bytes of the sheet that vmti_read writes: never more, so less room will do */
-#define VMTI_ROWS_MAX 4096             /* items and packs of a packet, its checksum and series counted too: entries for
-                                        * a table of your own, with one for each. No accepted sheet has more records */
+#define VMTI_ROWS_MAX 4096             /* items and packs of a packet, checksum and series with them: the rows that
+                                        * vmtirows prints. No accepted sheet has more records, so a table of your own
+                                        * with so many entries has one for each */
 
 /* The parts of the one number. VMTI_NUMBER is an unsigned, VMTI_PLACE and
- * VMTI_COUNT are a size_t, VMTI_OK is true or false. */
+ * VMTI_COUNT are a size_t, VMTI_OK is true or false. Each uses its argument
+ * once. */
 #define VMTI_NUMBER(answer) VMTI_CAST_(unsigned, (answer) & 255u)
 #define VMTI_PLACE(answer) VMTI_CAST_(size_t, (answer) >> 8)
 #define VMTI_COUNT(answer) VMTI_PLACE(answer)
@@ -321,8 +322,10 @@ uint64_t vmti_normalise(uint64_t form, const uint8_t *packet, size_t packet_len,
  *   16           no fault, and it needs VMTI_PLACE(answer) bytes
  *   success      VMTI_COUNT(answer) bytes of out were written
  *
- * From 19 on the place is 0. Where an embedded packet's own refusal might be at
- * 0 too, vmti_read with no room tells them apart: 16 if the packet has no fault.
+ * From 19 on the place is 0, but for 16. The packet's own refusal may be at 0
+ * too: vmti_read with no room tells, by 16, that the packet has no fault.
+ *
+ * For one edit after another let two buffers take turns as packet and out.
  *
  * An example: puts the row of a target's centre, tag 19, as four bytes.
  *

@@ -4,14 +4,11 @@
 #include <vmti.h>
 #include "examples.h"
 
-static int passed, failed;
+static int failed;
 
 static void hold(int is_so, const char *what)
 {
-    if (is_so)
-        passed++;
-    else
-        failed++;
+    failed += !is_so;
     printf("%s: %s\n", is_so ? "so" : "NOT SO", what);
 }
 
@@ -53,7 +50,5 @@ int main(void)
 
     snprintf(version, sizeof version, "%d.%d.%d", VMTI_VERSION_NUMBER / 1000000, VMTI_VERSION_NUMBER / 1000 % 1000, VMTI_VERSION_NUMBER % 1000);
     hold(strcmp(version, VMTI_VERSION) == 0, "the version's number is its text");
-
-    printf("%d passed, %d failed\n", passed, failed);
     return failed > 0;
 }

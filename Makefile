@@ -8,7 +8,8 @@
 PREFIX = /usr/local
 to = $(DESTDIR)$(abspath $(PREFIX))
 version = $(shell sed -n 's/^.define VMTI_VERSION "\(.*\)"$$/\1/p' include/vmti.h)
-files = bin/vmtirows include/vmti.h lib/libvmti.a lib/pkgconfig/vmti.pc libexec/vmtirows share/man/man1/vmtirows.1 share/man/man3/vmti.3
+files = bin/vmtirows include/vmti.h lib/libvmti.a lib/pkgconfig/vmti.pc libexec/vmtirows \
+	share/man/man1/vmtirows.1 share/man/man3/vmti.3
 program = target/bin/vmtirows
 archive = target/staticlib/libvmti.a
 code := $(shell find crates crates.txt -type f)
@@ -29,7 +30,8 @@ $(archive): $(code)
 install: $(archive) $(program)
 	install -D -m 644 $(archive) "$(to)/lib/libvmti.a"
 	install -D -m 644 include/vmti.h "$(to)/include/vmti.h"
-	sed 's|@PREFIX@|$(abspath $(PREFIX))|; s|@VERSION@|$(version)|' include/vmti.pc.in | install -D -m 644 /dev/stdin "$(to)/lib/pkgconfig/vmti.pc"
+	sed 's|@PREFIX@|$(abspath $(PREFIX))|; s|@VERSION@|$(version)|' include/vmti.pc.in \
+	| install -D -m 644 /dev/stdin "$(to)/lib/pkgconfig/vmti.pc"
 	install -D -m 644 docs/vmtirows.1 "$(to)/share/man/man1/vmtirows.1"
 	install -D -m 644 docs/vmti.3 "$(to)/share/man/man3/vmti.3"
 	if $(program) < /dev/null > /dev/null 2>&1; then install -D $(program) "$(to)/bin/vmtirows"; \

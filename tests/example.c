@@ -48,7 +48,8 @@ int main(void)
     answer = vmti_edit(VMTI_EMBEDDED, b, sizeof b, VMTI_SET, 0, 5, VMTI_REMOVE, NULL, 0, out, sizeof out);
     hold(is(answer, out, "", 0), "a removal takes NULL and 0");
 
-    snprintf(version, sizeof version, "%d.%d.%d", VMTI_VERSION_NUMBER / 1000000, VMTI_VERSION_NUMBER / 1000 % 1000, VMTI_VERSION_NUMBER % 1000);
+    snprintf(version, sizeof version, "%d.%d.%d", VMTI_VERSION_NUMBER / 1000000, VMTI_VERSION_NUMBER / 1000 % 1000,
+             VMTI_VERSION_NUMBER % 1000);
     hold(strcmp(version, VMTI_VERSION) == 0, "the version's number is its text");
     return failed > 0;
 }

@@ -1,7 +1,8 @@
 # `make` proves every crate and builds what is installed: the program that ./vmtirows runs, and the library for C. `make test` is
-# the gate; `make bench` times the C calls. `make install` and `make uninstall` heed PREFIX and DESTDIR.
+# the gate; `make bench` times the C calls; `make examples` builds the C programs that examples/two_columns and
+# examples/add_value run. `make install` and `make uninstall` heed PREFIX and DESTDIR.
 
-.PHONY: all proofs test bench install uninstall clean
+.PHONY: all proofs test bench examples install uninstall clean
 # rt uses target/ alone
 .NOTPARALLEL:
 
@@ -45,6 +46,9 @@ test:
 
 bench:
 	@tests/bench
+
+examples:
+	@examples/build
 
 clean:
 	rm -rf target tests/*/target

@@ -10,7 +10,7 @@
 
 #define WIDTH_MIN 100
 #define WIDTH_MAX 400
-#define CELL_MIN 26 /* room for the longest tail */
+#define CELL_MIN 25 /* room for the longest tail, and beside it for the longest name */
 #define ELLIPSIS "..."
 #define ELLIPSIS_LEN 3
 

@@ -270,7 +270,8 @@ int main(int count, char **words)
         fputs(USAGE, stderr);
         return 2;
     }
-    status = packet_load(&packets[DETECTOR], PROGRAM, words[first]) | packet_load(&packets[REVIEWER], PROGRAM, words[first + 1]);
+    status = packet_load(&packets[DETECTOR], PROGRAM, words[first]);
+    status |= packet_load(&packets[REVIEWER], PROGRAM, words[first + 1]);
     if (status != 0)
         return 2;
     screen_open(&screen, colour, packets);

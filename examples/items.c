@@ -65,28 +65,29 @@ static const struct tagged {
 
 static const struct tagged not_listed = {VMTI_SET, 0, BYTES, "(private)"};
 
+/* By number, from 0 on. */
 static const char *const refusals[] = {
-    [VMTI_OVER_LIMIT] = "over the limit of 8,192 bytes",
-    [VMTI_NOT_THE_KEY] = "not the key of a standalone packet",
-    [VMTI_CUT_OFF] = "a tag, a target id or a length is cut off",
-    [VMTI_BAD_TAG] = "not a tag",
-    [VMTI_BAD_LENGTH] = "not a length, or the checksum's length is not in one byte",
-    [VMTI_PAST_END] = "a value runs past the end of what holds it, or the packet's own length is not exact",
-    [VMTI_EMPTY_VALUE] = "a value has no bytes",
-    [VMTI_BAD_ID] = "not a target id",
-    [VMTI_TAG_REPEATED] = "a tag stands twice in the set or in one target",
-    [VMTI_ID_REPEATED] = "a target id stands twice",
-    [VMTI_LENGTH_NOT_ALLOWED] = "a value is longer or shorter than its tag allows",
-    [VMTI_PIXEL_ZERO] = "a pixel is 0, and pixels count from 1",
-    [VMTI_MAY_NOT_STAND] = "an item may not stand there: a checksum in an embedded packet or before the end, "
-                           "or an offset from the frame centre in a standalone packet",
-    [VMTI_MISSING] = "a standalone packet must begin with its time stamp, end with its checksum, "
-                     "and have a location for each target",
-    [VMTI_CHECKSUM_DIFFERS] = "the checksum differs",
-    [VMTI_ROOM_TOO_SHORT] = "the room for the answer is too short",
-    [VMTI_BAD_RECORD] = "not a sheet",
-    [VMTI_ABSENT] = "there is no such target, or no such item to remove",
-    [VMTI_NOT_EDITABLE] = "an edit may not name this tag: the set's 1 and 101, and 0 and those above 16,383",
+    "accepted",
+    "over the limit of 8,192 bytes",
+    "not the key of a standalone packet",
+    "a tag, a target id or a length is cut off",
+    "not a tag",
+    "not a length, or the checksum's length is not in one byte",
+    "a value runs past the end of what holds it, or the packet's own length is not exact",
+    "a value has no bytes",
+    "not a target id",
+    "a tag stands twice in the set or in one target",
+    "a target id stands twice",
+    "a value is longer or shorter than its tag allows",
+    "a pixel is 0, and pixels count from 1",
+    ("an item may not stand there: a checksum in an embedded packet or before the end, "
+     "or an offset from the frame centre in a standalone packet"),
+    "a standalone packet must begin with its time stamp, end with its checksum, and have a location for each target",
+    "the checksum differs",
+    "the room for the answer is too short",
+    "not a sheet",
+    "there is no such target, or no such item to remove",
+    "an edit may not name this tag: the set's 1 and 101, and 0 and those above 16,383",
 };
 
 void words_clear(struct words *words)
@@ -147,18 +148,22 @@ uint64_t number_of(const uint8_t *bytes, size_t len)
     return number;
 }
 
-/* Microseconds from 1970 on, as 2026-06-14T09:31:05.250000Z. */
+/* Microseconds from 1970 on, as 2026-06-14T09:31:05.25Z. */
 static void add_time(struct words *words, uint64_t microseconds)
 {
     time_t seconds = (time_t)(microseconds / 1000000);
+    unsigned part = (unsigned)(microseconds % 1000000);
+    int digits = 6;
     struct tm *utc = gmtime(&seconds);
 
     if (utc == NULL)
         return;
     words_add(words, "%d-%02d-%02dT%02d:%02d:%02d", utc->tm_year + 1900, utc->tm_mon + 1, utc->tm_mday, utc->tm_hour,
               utc->tm_min, utc->tm_sec);
-    if (microseconds % 1000000 != 0)
-        words_add(words, ".%06u", (unsigned)(microseconds % 1000000));
+    for (; part != 0 && part % 10 == 0; digits--)
+        part /= 10;
+    if (part != 0)
+        words_add(words, ".%0*u", digits, part);
     words_add(words, "Z ");
 }
 
@@ -188,7 +193,5 @@ void words_add_value(struct words *words, int level, uint64_t tag, const uint8_t
 
 const char *refusal_words(unsigned number)
 {
-    if (number >= sizeof refusals / sizeof refusals[0] || refusals[number] == NULL)
-        return "refused";
-    return refusals[number];
+    return number < sizeof refusals / sizeof refusals[0] ? refusals[number] : "refused";
 }

@@ -37,26 +37,38 @@ standalone() {
   bytes "$whole" "$(printf '%04X' $((sum % 65536)))"
 }
 
+# survey COUNT WIDTH HEIGHT PACK..: a packet that says how many targets there are, with width and height as they come
+survey() {
+  local count=$1 width=$2 height=$3
+  shift 3
+  standalone "$(field 02 00065433 5E77F8D0)" "$(field 03 "$(text 'ridge thermal')")" "$(field 04 06)" "$(field 05 "$count")" \
+    "$(field 06 "$count")" "08 $width" "09 $height" "$(field 0B 0640)" "$(field 65 "$@")"
+}
+
+# animal ID CONFIDENCE LOCATION HEX..: a pack
+animal() {
+  local id=$1 confidence=$2 location=$3
+  shift 3
+  pack "$id" "$(field 05 "$confidence")" "$(field 11 "$location")" "$@"
+}
+
+# mask HEX: the outline of target 2, its last corner as given
+mask() { field 65 "$(field 01 030BFC57 030BFC62 030C1A65 030C385E "03$1")"; }
+
 # What the detector sent. Its frame sizes have leading zeros, one a long length too; so has a row of target 1.
 detector() {
-  standalone "$(field 02 00065433 5E77F8D0)" "$(field 03 "$(text 'ridge thermal')")" "$(field 04 06)" "$(field 05 03)" \
-    "$(field 06 03)" '08 81 03 000780' "$(field 09 000438)" "$(field 0B 0640)" "$(field 65 \
-    "$(pack 01 "$(field 01 1988F1)" "$(field 05 5A)" "$(field 11 2BC1A6B535B4E0750974)" "$(field 13 00000368)" \
-      "$(field 14 0471)" "$(field 1E 0007)")" \
-    "$(pack 02 "$(field 05 48)" "$(field 11 2BC1AD4235B4E5600975)" "$(field 13 019D)" "$(field 14 DC)" \
-      "$(field 65 "$(field 01 030BFC57 030BFC62 030C1A65 030C385E 030C21D8)")")" \
-    "$(pack 03 "$(field 05 2D)" "$(field 17 01)" "$(field 11 2BC1B71735B4DB8B0973)")")"
+  survey 03 '81 03 00 07 80' '03 00 04 38' \
+    "$(animal 01 5A 2BC1A6B535B4E0750974 "$(field 01 1988F1)" "$(field 13 00000368)" "$(field 14 0471)" "$(field 1E 0007)")" \
+    "$(animal 02 48 2BC1AD4235B4E5600975 "$(field 13 019D)" "$(field 14 DC)" "$(mask 0C21D8)")" \
+    "$(animal 03 2D 2BC1B71735B4DB8B0973 "$(field 17 01)")"
 }
 
 # What the reviewer made of it: target 7 found, target 2's column and mask and target 1's private item corrected, target 3's
 # status taken away and its height given.
 reviewer() {
-  standalone "$(field 02 00065433 5E77F8D0)" "$(field 03 "$(text 'ridge thermal')")" "$(field 04 06)" "$(field 05 04)" \
-    "$(field 06 04)" "$(field 08 0780)" "$(field 09 0438)" "$(field 0B 0640)" "$(field 65 \
-    "$(pack 01 "$(field 01 1988F1)" "$(field 05 5A)" "$(field 11 2BC1A6B535B4E0750974)" "$(field 13 0368)" \
-      "$(field 14 0471)" "$(field 1E 07)")" \
-    "$(pack 02 "$(field 05 48)" "$(field 11 2BC1AD4235B4E5600975)" "$(field 13 019D)" "$(field 14 E2)" \
-      "$(field 65 "$(field 01 030BFC57 030BFC62 030C1A65 030C385E 030C30D6)")")" \
-    "$(pack 03 "$(field 05 2D)" "$(field 11 2BC1B71735B4DB8B0973)" "$(field 0C 0972)")" \
-    "$(pack 07 "$(field 05 64)" "$(field 11 2BC19CE035B4EF340978)" "$(field 13 0211)" "$(field 14 0583)")")"
+  survey 04 '02 07 80' '02 04 38' \
+    "$(animal 01 5A 2BC1A6B535B4E0750974 "$(field 01 1988F1)" "$(field 13 0368)" "$(field 14 0471)" "$(field 1E 07)")" \
+    "$(animal 02 48 2BC1AD4235B4E5600975 "$(field 13 019D)" "$(field 14 E2)" "$(mask 0C30D6)")" \
+    "$(animal 03 2D 2BC1B71735B4DB8B0973 "$(field 0C 0972)")" \
+    "$(animal 07 64 2BC19CE035B4EF340978 "$(field 13 0211)" "$(field 14 0583)")"
 }

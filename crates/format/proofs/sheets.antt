@@ -4,3 +4,4 @@ pub mod Targets
 pub mod Sheets
 pub mod Content
 pub mod Normal
+pub mod Same

@@ -4,4 +4,5 @@ pub mod Bytes
 pub mod Keys
 pub mod Flats
 pub mod Together
+pub mod Shrinks
 pub mod Changes

@@ -16,7 +16,8 @@ use Rattle.format.specs.Sheet.{content}
 use Rattle.format.specs.Calls.{entryOf, packetOf, packed, normalise}
 use Rattle.format.specs.Room.{leaves}
 use Rattle.format.proofs.reading.Packets.{parse-says}
-use Rattle.format.proofs.sheets.Normal.{entries-less, normal-less}
+use Rattle.format.proofs.sheets.Normal.{entries-less}
+use Rattle.format.proofs.sheets.Same.{normal-less}
 use Rattle.format.specs.Valid.{All}
 use Rattle.items.proofs.Tests.{bind-so, bind-not}
 use Rattle.walks.specs.declared.Sizes.{Sizes}

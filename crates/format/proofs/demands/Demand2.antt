@@ -21,7 +21,8 @@ use Rattle.format.proofs.table.Values.{short-keeps, short-number}
 use Rattle.format.proofs.reading.Packets.{parse-says, valid-parses}
 use Rattle.format.proofs.sheets.Sheets.{sheet-says, sheet-back, form-back}
 use Rattle.format.proofs.sheets.Content.{content-valid}
-use Rattle.format.proofs.sheets.Normal.{closed-form, packet-valid, packet-content, normal-less}
+use Rattle.format.proofs.sheets.Normal.{closed-form, packet-valid, packet-content}
+use Rattle.format.proofs.sheets.Same.{normal-less}
 use Rattle.format.proofs.demands.Accepted.{read-is, read-then}
 
 -- ---- the normal form of a valid packet

@@ -13,7 +13,7 @@ use Rattle.format.specs.Calls.{read, normalise}
 use Rattle.format.specs.demands.Sizes.{Sizes}
 use Rattle.format.proofs.reading.Packets.{parse-says}
 use Rattle.format.proofs.sheets.Content.{content-size}
-use Rattle.format.proofs.sheets.Normal.{normal-less}
+use Rattle.format.proofs.sheets.Same.{normal-less}
 use Rattle.format.proofs.rows.Point.{rows-few}
 use Rattle.format.proofs.demands.Accepted.{read-then}
 use Rattle.format.proofs.demands.Demand2.{normal-then}

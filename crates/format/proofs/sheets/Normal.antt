@@ -1,22 +1,20 @@
--- The normal form: a valid sheet's packet is valid, says that sheet, and is never longer than a packet that says it.
+-- The normal form: a valid sheet's packet is valid, and says that sheet.
 use mathlib.Core.Path.{_≡_, refl, ap, _∙_, subst}
-use Prim.Native.Nat.{ℕ, _+_, _*_, _≤_, _<_, _^_}
+use Prim.Native.Nat.{ℕ, _+_, _≤_, _<_, _^_}
 use native.Mathlib.Omega.{arith}
 use mathlib.Core.Bool.{false}
-use mathlib.Core.List.{List, map, map-map}
+use mathlib.Core.List.{List, map}
 use lib.ListN.{length, length-append}
 use Rattle.format.specs.Answer.{ok}
-use Rattle.format.specs.Coding.{oidBytes, lenWidth, fixed}
+use Rattle.format.specs.Coding.{oidBytes, lenWidth}
 use Rattle.format.specs.Lists.{none?, flatAll}
-use Rattle.format.specs.Table.{Form, embedded, standalone, Level, set, pack, ruleOf, ended, short}
-use Rattle.format.specs.Packet.{Item, Pack, Entry, plain, series, Packet, tagOfItem, idOfPack, tagOfEntry, flatItem, packBody, flatPack, flatEntry, covered, framed, flat, checksum, closed}
+use Rattle.format.specs.Table.{Form, embedded, standalone, Level, set, pack, ended}
+use Rattle.format.specs.Packet.{Item, Pack, Entry, series, tagOfItem, idOfPack, tagOfEntry, flatItem, packBody, flatPack, flatEntry, covered, framed, flat, closed}
 use Rattle.format.specs.Sheet.{Val, Target, Part, one, targets, Sheet, tagOfVal, idOfTarget, tagOfPart, valOf, targetOf, partOf, content}
 use Rattle.format.specs.Calls.{itemOf, packWith, seriesWith, packOf, entryOf, packetOf}
-use Rattle.format.specs.Valid.{Together, Holds, Begins, ItemValid, PackValid, SeriesValid, EntryValid, Framed, Valid, ValValid, TargetValid, PartValid, SheetValid}
-use Rattle.format.proofs.words.Together.{map-keys, none-map, together-made, map-back, flat-less}
-use Rattle.format.proofs.coding.Digits.{length-fixed}
-use Rattle.format.proofs.coding.Lengths.{length-len, width-holds, width-least}
-use Rattle.format.proofs.table.Values.{short-size}
+use Rattle.format.specs.Valid.{Together, Begins, ItemValid, PackValid, EntryValid, Valid, ValValid, TargetValid, PartValid, SheetValid}
+use Rattle.format.proofs.words.Together.{map-keys, none-map, together-made, map-back}
+use Rattle.format.proofs.coding.Lengths.{length-len, width-holds}
 use Rattle.format.proofs.reading.Items.{length-item}
 use Rattle.format.proofs.reading.Packs.{length-pack}
 use Rattle.format.proofs.reading.Entries.{seriesItem, series-flat, plain-flat}
@@ -169,79 +167,3 @@ unfolding packetOf
 packet-content t h =
     closed-content (t .form) (map entryOf (t .parts))
     ∙ sheet-path _ _ _ _ refl (map-back entryOf partOf (PartValid (t .form)) (part-back (t .form)) (t .parts) (h .parts-valid .each))
-
--- ---- and is never longer than a packet that says it
-
-item-less : (l : Level) (f : Form) (i : Item) → ItemValid l f i → length (flatItem (itemOf (valOf l i))) ≤ 1 * length (flatItem i)
-unfolding itemOf valOf
-item-less l f i h =
-    let v : List ℕ = short (ruleOf l (i .tag)) (i .value) in
-    let s : length v ≤ length (i .value) = short-size (ruleOf l (i .tag)) (i .value) (h .meets .not-empty) .1 in
-    let w : lenWidth (length v) ≤ i .width = width-least (i .width) (length (i .value)) (length v) s (h .coded) in
-    omega (arith, length-item (itemOf (valOf l i)), length-item i)
-
-length-body : (w i : ℕ) (is : List Item) → length (packBody (record { width = w; id = i; items = is })) ≡ length (oidBytes i) + length (flatAll flatItem is)
-unfolding packBody
-length-body w i is = length-append (oidBytes i) (flatAll flatItem is)
-
--- fewer bytes of items, under the shortest length
-pack-with-less : (p : Pack) (is : List Item) → Holds (p .width) (length (packBody p)) → length (flatAll flatItem is) ≤ length (flatAll flatItem (p .items))
-    → length (flatPack (packWith (p .id) is)) ≤ length (flatPack p)
-unfolding packWith
-pack-with-less p is h a =
-    let n : ℕ = length (packBody (record { width = 0; id = p .id; items = is })) in
-    let m : ℕ = length (packBody p) in
-    let q : Pack = record { width = lenWidth n; id = p .id; items = is } in
-    let b : n ≤ m = omega (arith, length-body 0 (p .id) is, length-body (p .width) (p .id) (p .items), a) in
-    omega (arith, width-least (p .width) m n b h, length-pack q, length-pack p, length-body (lenWidth n) (p .id) is, length-body 0 (p .id) is, b)
-
-pack-less : (f : Form) (p : Pack) → PackValid f p → length (flatPack (packOf (targetOf p))) ≤ 1 * length (flatPack p)
-unfolding packOf targetOf
-pack-less f p h =
-    let is : List Item = map itemOf (map (valOf pack) (p .items)) in
-    let a : length (flatAll flatItem is) ≤ 1 * length (flatAll flatItem (p .items))
-    = rw map-map (flat-less (λ i. itemOf (valOf pack i)) flatItem flatItem 1 (ItemValid pack f) (item-less pack f) (p .items) (h .items-valid .each)) in
-    omega (arith, pack-with-less p is (h .coded) (omega (arith, a)))
-
-series-less : (f : Form) (w : ℕ) (ps : List Pack) → SeriesValid f w ps → length (flatEntry (seriesWith (map packOf (map targetOf ps)))) ≤ 1 * length (flatEntry (series w ps))
-unfolding seriesWith
-series-less f w ps h =
-    let qs : List Pack = map packOf (map targetOf ps) in
-    let a : length (flatAll flatPack qs) ≤ 1 * length (flatAll flatPack ps)
-    = rw map-map (flat-less (λ p. packOf (targetOf p)) flatPack flatPack 1 (PackValid f) (pack-less f) ps (h .packs-valid .each)) in
-    let v : ℕ = lenWidth (length (flatAll flatPack qs)) in
-    let z : v ≤ w = width-least w (length (flatAll flatPack ps)) (length (flatAll flatPack qs)) (omega (arith, a)) (h .coded) in
-    omega (arith, length-series v qs, length-series w ps, a, z)
-
-entry-less : (f : Form) (e : Entry) → EntryValid f e → length (flatEntry (entryOf (partOf e))) ≤ 1 * length (flatEntry e)
-unfolding entryOf partOf
-entry-less f (plain i) h = rw (plain-flat (itemOf (valOf set i)), plain-flat i) (item-less set f i h)
-entry-less f (series w ps) h = series-less f w ps h
-
-length-alone : (w : ℕ) (b c : List ℕ) → length (framed standalone w b c) ≡ 16 + w + (length b + 2) + length c
-unfolding framed
-length-alone w b c = rw length-append (rw length-covered)
-
--- the frame of fewer bytes is no longer
-frame-less : (f : Form) (w : ℕ) (es : List Entry) (b c : List ℕ) → Framed f w b c → length (flatAll flatEntry es) ≤ length b → length (flat (closed f es)) ≤ length (framed f w b c)
-unfolding closed flat
-frame-less embedded w es b c g a = unfold framed in a
-frame-less standalone w es b c g a =
-    let n : ℕ = length (flatAll flatEntry es) in
-    let v : ℕ = lenWidth (n + 4) in
-    let d : List ℕ = fixed 2 (checksum (covered v (flatAll flatEntry es))) in
-    let ld : length d ≡ 2 = length-fixed 2 (checksum (covered v (flatAll flatEntry es))) in
-    let lc : length c ≡ 2 = rw (g .1) (length-fixed 2 (checksum (covered w b))) in
-    let z : v ≤ w = width-least w (length b + 4) (n + 4) (omega arith) (g .0) in
-    omega (arith, length-alone v (flatAll flatEntry es) d, length-alone w b c)
-
-closed-less : (p : Packet) (es : List Entry) → Valid p → length (flatAll flatEntry es) ≤ length (flatAll flatEntry (p .entries)) → length (flat (closed (p .form) es)) ≤ length (flat p)
-unfolding flat
-closed-less p es h a = frame-less (p .form) (p .width) es (flatAll flatEntry (p .entries)) (p .sum) (h .framed) a
-
-pub normal-less : (p : Packet) → Valid p → length (flat (packetOf (content p))) ≤ length (flat p)
-unfolding packetOf content
-normal-less p h =
-    let a : length (flatAll flatEntry (map entryOf (map partOf (p .entries)))) ≤ 1 * length (flatAll flatEntry (p .entries))
-    = rw map-map (flat-less (λ e. entryOf (partOf e)) flatEntry flatEntry 1 (EntryValid (p .form)) (entry-less (p .form)) (p .entries) (h .entries-valid .each)) in
-    closed-less p (map entryOf (map partOf (p .entries))) h (omega (arith, a))

@@ -14,6 +14,7 @@ use Rattle.format.specs.Lists.{none?, has}
 use Rattle.format.specs.Table.{Form, Level, set, pack, Most, upTo, any, Rule, rules, find, ruleOf, mayStand, mayBegin, standing, isNumber, within, sized, valued, itemRules, strip, short}
 use Rattle.format.specs.Valid.{Valued}
 use Rattle.format.proofs.words.Answers.{bind-then, need-then, need-last, no-bool, and-both}
+use Rattle.format.proofs.words.Shrinks.{Shrinks, shrinks-not}
 
 -- ---- the rules for one item, as facts
 
@@ -81,8 +82,10 @@ pub strip-number : (v : List ℕ) → bytesNumber (strip v) ≡ bytesNumber v
 unfolding number
 strip-number = strip-by (λ v w. bytesNumber w ≡ bytesNumber v) refl (λ b s e. refl) (λ c s ih. ih)
 
-strip-less : (v : List ℕ) → length (strip v) ≤ length v
-strip-less = strip-by (λ v w. length w ≤ length v) (omega arith) (λ b s e. omega arith) (λ c s ih. omega arith)
+strip-shrinks : (v : List ℕ) → Shrinks (strip v) v
+strip-shrinks =
+    strip-by (λ v w. Shrinks w v) (shrinks-not []) (λ b s e. shrinks-not (b ∷ s))
+    (λ c s ih. record { less = omega (arith, ih .less); same = λ e. absurd (omega (arith, ih .less, e)) })
 
 strip-some : (v : List ℕ) → 0 < length v → 0 < length (strip v)
 strip-some = strip-by (λ v w. 0 < length v → 0 < length w) (λ h. h) (λ b s e h. h) (λ c s ih h. ih (omega arith))
@@ -152,7 +155,7 @@ short-valued l tag v p h =
     (λ e.
     let (a, b) = number-rule l tag e in
     record {
-      length-allowed = sized-less (ruleOf l tag) (length (strip v)) (length v) a b (strip-some v p) (strip-less v) (h .length-allowed);
+      length-allowed = sized-less (ruleOf l tag) (length (strip v)) (length v) a b (strip-some v p) (strip-shrinks v .less) (h .length-allowed);
       pixel-not-0 = rw (strip-number v) (h .pixel-not-0);
     })
     (λ _. h)
@@ -161,8 +164,11 @@ pub short-twice : (r : Rule) (v : List ℕ) → short r (short r v) ≡ short r 
 unfolding short
 short-twice r v = short-by (λ w. short r w ≡ w) r v (λ e. rw (e, short) (strip-twice v)) (λ e. rw (e, short))
 
+pub short-shrinks : (r : Rule) (v : List ℕ) → Shrinks (short r v) v
+short-shrinks r v = short-by (λ w. Shrinks w v) r v (λ _. strip-shrinks v) (λ _. shrinks-not v)
+
 pub short-size : (r : Rule) (v : List ℕ) → 0 < length v → (0 < length (short r v)) × (length (short r v) ≤ length v)
-short-size r v h = short-by (λ w. (0 < length w) × (length w ≤ length v)) r v (λ e. (strip-some v h, strip-less v)) (λ _. (h, omega arith))
+short-size r v h = (short-by (λ w. 0 < length w) r v (λ e. strip-some v h) (λ _. h), short-shrinks r v .less)
 
 pub short-bytes : (r : Rule) (v : List ℕ) → Bytes v → Bytes (short r v)
 short-bytes r v h = short-by Bytes r v (λ e. strip-bytes v h) (λ _. h)

@@ -6,6 +6,7 @@ use mathlib.Core.Bool.{false}
 use mathlib.Core.List.{List, map}
 use lib.Dec.{eqb}
 use lib.ListN.{length}
+use lib.Seq.{sets}
 use Rattle.format.specs.Answer.{ok}
 use Rattle.format.specs.Coding.{Bytes}
 use Rattle.format.specs.Lists.{flatAll}
@@ -17,7 +18,7 @@ use Rattle.format.specs.Calls.{entryOf, packetOf, packed, normalise}
 use Rattle.format.specs.Room.{leaves}
 use Rattle.format.proofs.reading.Packets.{parse-says}
 use Rattle.format.proofs.sheets.Normal.{entries-less}
-use Rattle.format.proofs.sheets.Same.{normal-less}
+use Rattle.format.proofs.sheets.Same.{normal-less, normal-same}
 use Rattle.format.specs.Valid.{All}
 use Rattle.items.proofs.Tests.{bind-so, bind-not}
 use Rattle.walks.specs.declared.Sizes.{Sizes}
@@ -80,6 +81,13 @@ module _ (f : Form) (s : List ℕ) {c : Checked} (ec : c ≡ checkedOf (parse f 
       -- a normal form is never over the limit
       pub normal-within : size ≤ 8192
       normal-within = omega (arith, size-is normal-packs, small)
+
+      -- of as many bytes it is the packet itself
+      pub normal-copied : (lent : List ℕ) → size ≡ length s → {out : List ℕ} → out ≡ sets lent 0 s → out ≡ sets lent 0 (flat (closed f es))
+      normal-copied lent e eo =
+          let k = parse-says f s packet b (fine f s ec b t .1) in
+          let n : length (flat (packetOf (content packet))) ≡ length (flat packet) = ap length normal-form ∙ size-is normal-packs ∙ e ∙ sym (ap length (k .lies-flat)) in
+          eo ∙ ap (sets lent 0) (sym (k .lies-flat) ∙ sym (normal-same packet (k .valid) n) ∙ normal-form)
 
     -- what the walk that writes is asked for
     module _ {k : ℕ} (ek : (w : ℕ) → opening f s ≡ ok w → k ≡ start f w) where

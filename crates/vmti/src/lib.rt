@@ -116,6 +116,11 @@ pub fn normalise(packet: &[u8], alone: bool, out: &mut [u8]) -> Answer
     if out.len() < size {
         return answer_of(16, size);
     }
+    // No piece grows, so a normal form of as many bytes is the packet itself.
+    if size == packet.len() {
+        stores::copy(out, 0, packet);
+        return answer_of(0, size);
+    }
     let from = walks::whole::set_start(packet, alone);
     let table = items::table();
     let a = frames::open(out, alone, sizes.normal);

@@ -55,19 +55,23 @@ run-bytes n l (refused k p) h = refl
 -- ---- a pack
 
 -- its items, as those of its target and as entries
-same-normal : (is : List Item) → flatAll flatItem (map itemOf (map (valOf pack) is)) ≡ flatAll (entryNormal pack) (map plain is)
+pub same-normal : (is : List Item) → flatAll flatItem (map itemOf (map (valOf pack) is)) ≡ flatAll (entryNormal pack) (map plain is)
 unfolding flatAll itemNormal valOf
 same-normal [] = refl
 same-normal (i ∷ is) = ap (λ x. entryNormal pack (plain i) ++ x) (same-normal is)
+
+-- how many bytes they are with an id in front
+pub body-long : (id : ℕ) (is : List Item) → length (oidBytes id ++ flatAll flatItem (map itemOf (map (valOf pack) is))) ≡ length (oidBytes id) + total (weightOfItem pack) is .normal
+unfolding packBody
+body-long id is =
+    body-normal (record { id = id; vals = map (valOf pack) is }) 0
+    ∙ ap (λ x. length (oidBytes id) + x .normal) (sym (total-map (valOf pack) (weightOfItem pack) (weightOfVal pack) (λ i. unfold valOf in refl) is))
 
 pub pack-normal : (w id : ℕ) (is : List Item) (n : ℕ) → n ≡ length (oidBytes id) + total (weightOfItem pack) is .normal
     → packNormal (record { width = w; id = id; items = is }) ≡ packFront n id ++ flatAll (entryNormal pack) (map plain is)
 unfolding flatPack packOf packWith packBody targetOf packFront
 pack-normal w id is n e =
-    let l : length (oidBytes id ++ flatAll flatItem (map itemOf (map (valOf pack) is))) ≡ n
-    = body-normal (record { id = id; vals = map (valOf pack) is }) 0
-    ∙ ap (λ x. length (oidBytes id) + x .normal) (sym (total-map (valOf pack) (weightOfItem pack) (weightOfVal pack) (λ i. unfold valOf in refl) is))
-    ∙ sym e in
+    let l : length (oidBytes id ++ flatAll flatItem (map itemOf (map (valOf pack) is))) ≡ n = body-long id is ∙ sym e in
     rw (l, same-normal is) (sym (append-assoc (lenBytes (lenWidth n) n) (oidBytes id) (flatAll (entryNormal pack) (map plain is))))
 
 -- no series stands in it

@@ -1,4 +1,5 @@
 pub mod Forms
+pub mod Copied
 pub mod Pieces
 pub mod Turns
 pub mod Packet

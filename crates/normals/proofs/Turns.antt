@@ -18,11 +18,13 @@ use Rattle.walks.specs.declared.Walked.the-variants.{Good, Bad}
 use Rattle.walks.specs.Meet.{levelWalk, total, weightOfItem, Within}
 use Rattle.walks.specs.Runs.{Ran, madeOf, levelRun, seriesRun}
 use Rattle.walks.proofs.Turns.{within-of}
-use Rattle.stores.proofs.Puts.{Puts, Parted, head-room, head-behind, rest-room, rest-put}
+use Rattle.stores.proofs.Stores.{tail-length}
+use Rattle.stores.proofs.Puts.{Puts, puts-then, Parted, head-room, head-behind, rest-room, rest-put}
 use Rattle.stores.proofs.Writing.{each}
 use Rattle.stores.proofs.Entries.{LevelWriting, EntryAt, level-start, level-done, entry-tag, entry-room, valueAt, value-long, stored, entry-fits, entry-more, one-is, packs-run, packs-asked}
 use Rattle.stores.proofs.Packs.{SeriesWriting, PackAt, pack-stands, pack-id, pack-room, itemsAt, items-long, items-run, items-asked, packed, pack-fits, pack-more}
 use Rattle.normals.specs.Meet.{itemNormal, entryNormal, packNormal, levelNormal, seriesNormal, seriesFront, packFront, InnerRun}
+use Rattle.normals.proofs.Copied.{items-same}
 use Rattle.normals.proofs.Forms.{entryBytes, run-bytes, pack-normal, no-inner, walk-sizes, walk-fault}
 
 -- ---- the items of a level
@@ -131,3 +133,14 @@ module _ {f : Form} {s out₀ out : List ℕ} {p k key used width size : ℕ} (i
       pub items-more : {r : ℕ} {o : List ℕ} → (r ≡ length (levelNormal pack f (itemsAt i))) × (o ≡ sets (take (length out₁ - m) (drop m out₁)) 0 (levelNormal pack f (itemsAt i)))
           → SeriesNormals f s out₀ (putMid m (length out₁ - m) out₁ o) (p + width + size) (m + r)
       items-more q = pack-more i (rest-put pack-parts em q) refl
+
+      -- and its items copied, where they keep their size
+      module _ (kept : used + z .normal ≡ size) where
+        same-items : levelNormal pack f (itemsAt i) ≡ itemsAt i
+        same-items = let w = pack-stands i in items-same i (sym (ap (λ a. a .normal) (walk-sizes f (itemsAt i) (w .items) (items-run i) (w .entries-are) (ey .0) ty))) kept
+
+        pub copy-asked : m + length (itemsAt i) ≤ length out₁
+        copy-asked = omega (arith, ap length same-items, rw tail-length at (rest-room pack-parts em), items-behind)
+
+        pub copied-more : {r : ℕ} {o : List ℕ} → Puts out₁ m (itemsAt i) r o → SeriesNormals f s out₀ o (p + width + size) r
+        copied-more q = pack-more i (rw (pack-parts .is, same-items) (puts-then out k (packFront (used + z .normal) key) (itemsAt i) em q)) refl

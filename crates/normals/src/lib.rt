@@ -108,8 +108,14 @@ pub fn pack_normal(table: &[u64], s: &[u8], alone: bool, out: &mut [u8]) -> usiz
         let Walked::Good { sizes, mark: _ } = w else {
             return k;
         };
-        let m = put_pack(out, k, used + sizes.normal, key);
-        k = m + item_normal(table, &s[from..next], false, alone, 0, &mut out[m..]);
+        let n = used + sizes.normal;
+        let m = put_pack(out, k, n, key);
+        // No item grows, so items that keep their size are in normal form.
+        k = if n == size {
+            stores::copy(out, m, &s[from..next])
+        } else {
+            m + item_normal(table, &s[from..next], false, alone, 0, &mut out[m..])
+        };
         p = next;
     }
     k

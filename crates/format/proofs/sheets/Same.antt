@@ -70,11 +70,14 @@ item-shrinks l f i h =
     shrinks-append _ _ _ _ (shrinks-not (oidBytes (i .tag)))
     (under-shrinks (i .width) (short (ruleOf l (i .tag)) (i .value)) (i .value) (short-shrinks (ruleOf l (i .tag)) (i .value)) (h .coded))
 
+pub items-shrink : (f : Form) (is : List Item) → All (ItemValid pack f) is → Shrinks (flatAll flatItem (map itemOf (map (valOf pack) is))) (flatAll flatItem is)
+items-shrink f = pieces-shrink (valOf pack) itemOf flatItem (ItemValid pack f) (item-shrinks pack f)
+
 pack-shrinks : (f : Form) (p : Pack) → PackValid f p → Shrinks (flatPack (packOf (targetOf p))) (flatPack p)
 unfolding packOf packWith targetOf flatPack packBody
 pack-shrinks f p h =
     under-shrinks (p .width) _ _
-    (shrinks-append _ _ _ _ (shrinks-not (oidBytes (p .id))) (pieces-shrink (valOf pack) itemOf flatItem (ItemValid pack f) (item-shrinks pack f) (p .items) (h .items-valid .each)))
+    (shrinks-append _ _ _ _ (shrinks-not (oidBytes (p .id))) (items-shrink f (p .items) (h .items-valid .each)))
     (h .coded)
 
 entry-shrinks : (f : Form) (e : Entry) → EntryValid f e → Shrinks (flatEntry (entryOf (partOf e))) (flatEntry e)

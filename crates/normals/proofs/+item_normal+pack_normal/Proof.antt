@@ -11,7 +11,7 @@ use Rattle.stores.proofs.Writing.{each}
 use Rattle.stores.proofs.Entries.{entry-fault, entry-room}
 use Rattle.stores.proofs.Packs.{series-start, series-done, pack-fault, pack-room, items-asked}
 use Rattle.normals.specs.Meet.{packNormal}
-use Rattle.normals.proofs.Turns.{LevelNormals, level-begins, level-room, level-ends, NormalEntry, one-asked, one-more, head-asked, series-behind, series-asked, series-more, SeriesNormals, NormalPack, no-fault, body-few, pack-asked, items-behind, level-asked, items-more}
+use Rattle.normals.proofs.Turns.{LevelNormals, level-begins, level-room, level-ends, NormalEntry, one-asked, one-more, head-asked, series-behind, series-asked, series-more, SeriesNormals, NormalPack, no-fault, body-few, pack-asked, items-behind, level-asked, items-more, copy-asked, copied-more}
 use Rattle.normals.proofs.item_normal.Reads as item-normal
 use Rattle.normals.proofs.item_normal.Kinds as item-normal-kinds
 use Rattle.normals.proofs.+item_normal+pack_normal.Lts-item_normal as item-normal-lts
@@ -23,6 +23,7 @@ use Rattle.heads.proofs.pack_head.Reads as pack-head-reads
 use Rattle.normals.proofs.put_normal.Reads as put-normal-reads
 use Rattle.normals.proofs.put_pack.Reads as put-pack-reads
 use Rattle.normals.proofs.put_series.Reads as put-series-reads
+use Rattle.stores.proofs.copy.Reads as copy-reads
 use Rattle.walks.proofs.is_series.Reads as is-series-reads
 use Rattle.walks.proofs.item_walk.Reads as item-walk-reads
 use Rattle.normals.proofs.+item_normal+pack_normal.{statement}
@@ -52,7 +53,7 @@ abbrev item-claims : ℕ → item-normal-lts.Claims
 item-claims t = (item-head-reads.Asked, item-head-reads.Learnt, is-series-reads.Asked, is-series-reads.Learnt, put-series-reads.Asked, put-series-reads.Learnt, pack-normal-below t, pack-normal.Post, put-normal-reads.Asked, put-normal-reads.Learnt)
 
 abbrev pack-claims : ℕ → pack-normal-lts.Claims
-pack-claims t = (pack-head-reads.Asked, pack-head-reads.Learnt, item-walk-reads.Asked, item-walk-reads.Learnt, put-pack-reads.Asked, put-pack-reads.Learnt, item-normal-below t, item-normal.Post)
+pack-claims t = (pack-head-reads.Asked, pack-head-reads.Learnt, item-walk-reads.Asked, item-walk-reads.Learnt, put-pack-reads.Asked, put-pack-reads.Learnt, copy-reads.Asked, copy-reads.Learnt, item-normal-below t, item-normal.Post)
 
 -- ---- the item walk
 
@@ -262,41 +263,59 @@ pack-normal-same-length-2 t c = c .before .before .before .before .before .befor
 pack-normal-returns-2 : (t : ℕ) → pack-normal-lts.Need-returns-2 (pack-claims t) (pack-normal-at t) pack-normal.Post pack-normal-Inv-loop pack-normal-μ-loop
 pack-normal-returns-2 t c = no-fault (pack-at t (c .before .before .before .before .before)) (c .before .before .item-walk .ensures) (c .enum-told2 .given .1)
 
-pack-normal-add-put-pack : (t : ℕ) → pack-normal-lts.Need-add-put-pack (pack-claims t) (pack-normal-at t) pack-normal.Post pack-normal-Inv-loop pack-normal-μ-loop
-pack-normal-add-put-pack t c = omega (arith, body-few (pack-at t (c .before .before .before .before .before .before .before .before)) (c .before .before .before .before .before .item-walk .ensures) (c .before .before .before .w .given .1))
+pack-normal-add-n : (t : ℕ) → pack-normal-lts.Need-add-n (pack-claims t) (pack-normal-at t) pack-normal.Post pack-normal-Inv-loop pack-normal-μ-loop
+pack-normal-add-n t c = omega (arith, body-few (pack-at t (c .before .before .before .before .before .before .before)) (c .before .before .before .before .item-walk .ensures) (c .before .before .w .given .1))
 
 pack-normal-put-pack-requires : (t : ℕ) → pack-normal-lts.Need-put-pack-requires (pack-claims t) (pack-normal-at t) pack-normal.Post pack-normal-Inv-loop pack-normal-μ-loop
 pack-normal-put-pack-requires t c κs = pack-asked (pack-at t (c .before .before .before .before .before .before .before .before)) (c .before .before .before .before .before .item-walk .ensures) (c .before .before .before .w .given .1)
 
+pack-normal-sub-copy : (t : ℕ) → pack-normal-lts.Need-sub-copy (pack-claims t) (pack-normal-at t) pack-normal.Post pack-normal-Inv-loop pack-normal-μ-loop
+pack-normal-sub-copy t c = omega (arith, pack-room (pack-at t (c .before .before .before .before .before .before .before .before .before .before .before .before .before)))
+
+pack-normal-part-copy-start : (t : ℕ) → pack-normal-lts.Need-part-copy-start (pack-claims t) (pack-normal-at t) pack-normal.Post pack-normal-Inv-loop pack-normal-μ-loop
+pack-normal-part-copy-start t c = omega (arith, pack-room (pack-at t (c .before .before .before .before .before .before .before .before .before .before .before .before .before)))
+
+pack-normal-part-copy-end : (t : ℕ) → pack-normal-lts.Need-part-copy-end (pack-claims t) (pack-normal-at t) pack-normal.Post pack-normal-Inv-loop pack-normal-μ-loop
+pack-normal-part-copy-end t c = omega (arith, pack-room (pack-at t (c .before .before .before .before .before .before .before .before .before .before .before .before .before)))
+
+pack-normal-copy-requires : (t : ℕ) → pack-normal-lts.Need-copy-requires (pack-claims t) (pack-normal-at t) pack-normal.Post pack-normal-Inv-loop pack-normal-μ-loop
+pack-normal-copy-requires t c κs = copy-asked (pack-at t (c .before .before .before .before .before .before .before .before .before .before .before .before .before .before)) (c .before .before .before .before .before .before .before .before .before .before .before .item-walk .ensures) (c .before .before .before .before .before .before .before .before .before .w .given .1) (c .before .before .before .before .before .put-pack .ensures) (c .before .before .if1 .taken)
+
 pack-normal-sub-item-normal : (t : ℕ) → pack-normal-lts.Need-sub-item-normal (pack-claims t) (pack-normal-at t) pack-normal.Post pack-normal-Inv-loop pack-normal-μ-loop
-pack-normal-sub-item-normal t c = omega (arith, pack-room (pack-at t (c .before .before .before .before .before .before .before .before .before .before .before)))
+pack-normal-sub-item-normal t c = omega (arith, pack-room (pack-at t (c .before .before .before .before .before .before .before .before .before .before .before .before)))
 
 pack-normal-part-item-normal-start : (t : ℕ) → pack-normal-lts.Need-part-item-normal-start (pack-claims t) (pack-normal-at t) pack-normal.Post pack-normal-Inv-loop pack-normal-μ-loop
-pack-normal-part-item-normal-start t c = omega (arith, pack-room (pack-at t (c .before .before .before .before .before .before .before .before .before .before .before)))
+pack-normal-part-item-normal-start t c = omega (arith, pack-room (pack-at t (c .before .before .before .before .before .before .before .before .before .before .before .before)))
 
 pack-normal-part-item-normal-end : (t : ℕ) → pack-normal-lts.Need-part-item-normal-end (pack-claims t) (pack-normal-at t) pack-normal.Post pack-normal-Inv-loop pack-normal-μ-loop
-pack-normal-part-item-normal-end t c = omega (arith, pack-room (pack-at t (c .before .before .before .before .before .before .before .before .before .before .before)))
+pack-normal-part-item-normal-end t c = omega (arith, pack-room (pack-at t (c .before .before .before .before .before .before .before .before .before .before .before .before)))
 
 pack-normal-sub-item-normal-2 : (t : ℕ) → pack-normal-lts.Need-sub-item-normal-2 (pack-claims t) (pack-normal-at t) pack-normal.Post pack-normal-Inv-loop pack-normal-μ-loop
-pack-normal-sub-item-normal-2 t c = items-behind (pack-at t (c .before .before .before .before .before .before .before .before .before .before .before .before)) (c .before .before .before .before .before .before .before .before .before .item-walk .ensures) (c .before .before .before .before .before .before .before .w .given .1) (c .before .before .before .put-pack .ensures)
+pack-normal-sub-item-normal-2 t c = items-behind (pack-at t (c .before .before .before .before .before .before .before .before .before .before .before .before .before)) (c .before .before .before .before .before .before .before .before .before .before .item-walk .ensures) (c .before .before .before .before .before .before .before .before .w .given .1) (c .before .before .before .before .put-pack .ensures)
 
 pack-normal-part-item-normal-start-2 : (t : ℕ) → pack-normal-lts.Need-part-item-normal-start-2 (pack-claims t) (pack-normal-at t) pack-normal.Post pack-normal-Inv-loop pack-normal-μ-loop
-pack-normal-part-item-normal-start-2 t c = items-behind (pack-at t (c .before .before .before .before .before .before .before .before .before .before .before .before)) (c .before .before .before .before .before .before .before .before .before .item-walk .ensures) (c .before .before .before .before .before .before .before .w .given .1) (c .before .before .before .put-pack .ensures)
+pack-normal-part-item-normal-start-2 t c = items-behind (pack-at t (c .before .before .before .before .before .before .before .before .before .before .before .before .before)) (c .before .before .before .before .before .before .before .before .before .before .item-walk .ensures) (c .before .before .before .before .before .before .before .before .w .given .1) (c .before .before .before .before .put-pack .ensures)
 
 pack-normal-part-item-normal-end-2 : (t : ℕ) → pack-normal-lts.Need-part-item-normal-end-2 (pack-claims t) (pack-normal-at t) pack-normal.Post pack-normal-Inv-loop pack-normal-μ-loop
 pack-normal-part-item-normal-end-2 t c = search needs
 
 pack-normal-item-normal-requires : (t : ℕ) → pack-normal-lts.Need-item-normal-requires (pack-claims t) (pack-normal-at t) pack-normal.Post pack-normal-Inv-loop pack-normal-μ-loop
-pack-normal-item-normal-requires t c κs = (omega (arith, c .before .before .before .before .before .before .before .before .before .before .before .before .before .before .before .before .before .before .before .before .before .before .pre .0), (c .before .before .before .before .before .before .before .before .before .before .before .before .before .before .before .before .before .before .before .before .before .before .pre .1 .0, level-asked (pack-at t (c .before .before .before .before .before .before .before .before .before .before .before .before .before)) (c .before .before .before .before .before .before .before .before .before .before .item-walk .ensures) (c .before .before .before .before .before .before .before .before .w .given .1) (c .before .before .before .before .put-pack .ensures)))
+pack-normal-item-normal-requires t c κs = (omega (arith, c .before .before .before .before .before .before .before .before .before .before .before .before .before .before .before .before .before .before .before .before .before .before .before .pre .0), (c .before .before .before .before .before .before .before .before .before .before .before .before .before .before .before .before .before .before .before .before .before .before .before .pre .1 .0, level-asked (pack-at t (c .before .before .before .before .before .before .before .before .before .before .before .before .before .before)) (c .before .before .before .before .before .before .before .before .before .before .before .item-walk .ensures) (c .before .before .before .before .before .before .before .before .before .w .given .1) (c .before .before .before .before .before .put-pack .ensures)))
 
 pack-normal-add-k : (t : ℕ) → pack-normal-lts.Need-add-k (pack-claims t) (pack-normal-at t) pack-normal.Post pack-normal-Inv-loop pack-normal-μ-loop
-pack-normal-add-k t c = omega (arith, items-more (pack-at t (c .before .before .before .before .before .before .before .before .before .before .before .before .before .before .before .before)) (c .before .before .before .before .before .before .before .before .before .before .before .before .before .item-walk .ensures) (c .before .before .before .before .before .before .before .before .before .before .before .w .given .1) (c .before .before .before .before .before .before .before .put-pack .ensures) (c .before .before .item-normal .ensures) .writes .sum, pack-at t (c .before .before .before .before .before .before .before .before .before .before .before .before .before .before .before .before) .room, c .before .before .before .before .before .before .before .before .before .before .before .before .before .before .before .before .before .before .before .before .before .before .before .before .before .good)
+pack-normal-add-k t c = omega (arith, items-more (pack-at t (c .before .before .before .before .before .before .before .before .before .before .before .before .before .before .before .before .before)) (c .before .before .before .before .before .before .before .before .before .before .before .before .before .before .item-walk .ensures) (c .before .before .before .before .before .before .before .before .before .before .before .before .w .given .1) (c .before .before .before .before .before .before .before .before .put-pack .ensures) (c .before .before .item-normal .ensures) .writes .sum, pack-at t (c .before .before .before .before .before .before .before .before .before .before .before .before .before .before .before .before .before) .room, c .before .before .before .before .before .before .before .before .before .before .before .before .before .before .before .before .before .before .before .before .before .before .before .before .before .before .good)
 
 pack-normal-loop-less : (t : ℕ) → pack-normal-lts.Need-loop-less (pack-claims t) (pack-normal-at t) pack-normal.Post pack-normal-Inv-loop pack-normal-μ-loop
-pack-normal-loop-less t c = omega (arith, pack-room (pack-at t (c .before .before .before .before .before .before .before .before .before .before .before .before .before .before .before .before)))
+pack-normal-loop-less t c = omega (arith, pack-room (pack-at t (c .before .before .before .before .before .before .before .before .before .before .before .before .before .before .before .before .before)))
 
 pack-normal-loop-again : (t : ℕ) → pack-normal-lts.Need-loop-again (pack-claims t) (pack-normal-at t) pack-normal.Post pack-normal-Inv-loop pack-normal-μ-loop
-pack-normal-loop-again t c = items-more (pack-at t (c .before .before .before .before .before .before .before .before .before .before .before .before .before .before .before .before)) (c .before .before .before .before .before .before .before .before .before .before .before .before .before .item-walk .ensures) (c .before .before .before .before .before .before .before .before .before .before .before .w .given .1) (c .before .before .before .before .before .before .before .put-pack .ensures) (c .before .before .item-normal .ensures)
+pack-normal-loop-again t c = copied-more (pack-at t (c .before .before .before .before .before .before .before .before .before .before .before .before .before .before .before .before .before)) (c .before .before .before .before .before .before .before .before .before .before .before .before .before .before .item-walk .ensures) (c .before .before .before .before .before .before .before .before .before .before .before .before .w .given .1) (c .before .before .before .before .before .before .before .before .put-pack .ensures) (c .before .before .before .before .before .if1 .taken) (c .before .before .copy .ensures)
+
+pack-normal-loop-less-2 : (t : ℕ) → pack-normal-lts.Need-loop-less-2 (pack-claims t) (pack-normal-at t) pack-normal.Post pack-normal-Inv-loop pack-normal-μ-loop
+pack-normal-loop-less-2 t c = omega (arith, pack-room (pack-at t (c .before .before .before .before .before .before .before .before .before .before .before .before .before .before .before .before .before)))
+
+pack-normal-loop-again-2 : (t : ℕ) → pack-normal-lts.Need-loop-again-2 (pack-claims t) (pack-normal-at t) pack-normal.Post pack-normal-Inv-loop pack-normal-μ-loop
+pack-normal-loop-again-2 t c = items-more (pack-at t (c .before .before .before .before .before .before .before .before .before .before .before .before .before .before .before .before .before)) (c .before .before .before .before .before .before .before .before .before .before .before .before .before .before .item-walk .ensures) (c .before .before .before .before .before .before .before .before .before .before .before .before .w .given .1) (c .before .before .before .before .before .before .before .before .put-pack .ensures) (c .before .before .item-normal .ensures)
 
 pack-normal-same-length-3 : (t : ℕ) → pack-normal-lts.Need-same-length-3 (pack-claims t) (pack-normal-at t) pack-normal.Post pack-normal-Inv-loop pack-normal-μ-loop
 pack-normal-same-length-3 t c = c .before .loop .inv .writes .same
@@ -322,7 +341,9 @@ pub +item-normal+pack-normal-spec : {M : Type 1} → statement M
     (pack-normal-returns t) (pack-normal-add-from t) (pack-normal-add-from-2 t) (pack-normal-add-next t)
     (pack-normal-add-next-2 t) (pack-normal-sub-item-walk t) (pack-normal-part-item-walk-start t) (pack-normal-part-item-walk-end t)
     (pack-normal-item-walk-requires t) (pack-normal-enum-known-w t) (pack-normal-enum-told-2 t) (pack-normal-same-length-2 t)
-    (pack-normal-returns-2 t) (pack-normal-add-put-pack t) (pack-normal-put-pack-requires t) (pack-normal-sub-item-normal t)
+    (pack-normal-returns-2 t) (pack-normal-add-n t) (pack-normal-put-pack-requires t) (pack-normal-sub-copy t)
+    (pack-normal-part-copy-start t) (pack-normal-part-copy-end t) (pack-normal-copy-requires t) (pack-normal-sub-item-normal t)
     (pack-normal-part-item-normal-start t) (pack-normal-part-item-normal-end t) (pack-normal-sub-item-normal-2 t) (pack-normal-part-item-normal-start-2 t)
     (pack-normal-part-item-normal-end-2 t) (pack-normal-item-normal-requires t) (pack-normal-add-k t) (pack-normal-loop-less t)
-    (pack-normal-loop-again t) (pack-normal-same-length-3 t) (pack-normal-returns-3 t))
+    (pack-normal-loop-again t) (pack-normal-loop-less-2 t) (pack-normal-loop-again-2 t) (pack-normal-same-length-3 t)
+    (pack-normal-returns-3 t))

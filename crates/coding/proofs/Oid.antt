@@ -12,7 +12,7 @@ use lib.Pow.{shl-lt}
 use lib.Bits.{bitAnd, bitOr, and-mask, or-shifted}
 use borrow.Author.Tests.{lt-ltb, le-ltb, eq-eqb, ne-eqb}
 use Rattle.format.specs.Answer.{ok, refused, got, _>>=_, need}
-use Rattle.format.specs.Coding.{oidGo, oid, tagOf}
+use Rattle.format.specs.Coding.{oidGo, oid, tagOf, idOf}
 use Rattle.format.proofs.words.Answers.{never}
 use Rattle.coding.proofs.Rooms.{bits-room, bits-more}
 
@@ -125,3 +125,17 @@ module _ (s : List ℕ) where
     pub tag-good : 0 < v → ok (got v n) ≡ tagOf s
     unfolding tagOf _>>=_ need
     tag-good h = rw (← e, lt-ltb 0 v h)
+
+-- one byte is a whole tag or id
+module _ (s : List ℕ) (some : 0 < length s) (b : ℕ) (e : b ≡ getD s 0 0) (h : b < 128) where
+  oid-one : (k bad : ℕ) → 0 < k → ok (got b 1) ≡ oid k bad s
+  oid-one k bad z =
+      let g : 0 * 128 + getD s 0 0 ≡ b = omega arith in
+      oid-good k bad s b 1 (rw g at (sym (last k bad 0 0 s z some (omega arith)))) (λ x. omega arith)
+
+  pub tag-one : 0 < b → ok (got b 1) ≡ tagOf s
+  tag-one z = tag-good s b 1 (oid-one 2 4 (omega arith)) z
+
+  pub id-one : ok (got b 1) ≡ idOf s
+  unfolding idOf
+  id-one = oid-one 9 8 (omega arith)

@@ -1,10 +1,10 @@
 -- Heads as the code reads them, case by case, and the room of all that a head says.
-use mathlib.Core.Path.{_≡_, sym, ap, _∙_}
+use mathlib.Core.Path.{_≡_, refl, sym, ap, _∙_}
 use Prim.Native.Nat.{ℕ, _+_, _-_, _≤_, _<_}
 use native.Mathlib.Omega.{arith}
 use mathlib.Core.Bool.{Bool, true, false, not, _&&_, _||_}
 use mathlib.Core.List.{List}
-use lib.ListN.{length, take, drop, length-drop}
+use lib.ListN.{length, take, drop, getD, length-drop}
 use lib.Dec.{leb, eqb}
 use borrow.Author.Tests.{le-leb, lt-leb, not-true, not-false}
 use Rattle.format.specs.Answer.{Ans, refused, Got, _>>=_, need}
@@ -16,6 +16,8 @@ use Rattle.format.proofs.bounds.Packets.{head-room, pack-head-room}
 use Rattle.coding.specs.Code.{numOf}
 use Rattle.coding.specs.declared.Num.{Num}
 use Rattle.coding.specs.declared.Num.the-variants.{Value, Refused}
+use Rattle.coding.proofs.Lens.{len-small}
+use Rattle.coding.proofs.Oid.{tag-one}
 use Rattle.coding.proofs.Rooms.{tail-part, tag-room, len-room}
 use Rattle.items.proofs.Tests.{bind-so, bind-not, need-so, need-not}
 use Rattle.heads.specs.Meet.{faultOf, itemHeadOf, packHeadOf}
@@ -98,6 +100,15 @@ module _ (s : List ℕ) {b : Num} (eb : numOf b ≡ lenOf s) where
         pub pack-head-whole : {k u : ℕ} → a ≡ Value k u → packHeadOf (Whole k u w n) ≡ packHead s
         unfolding packHead
         pack-head-whole e = sym (bind-so _ _ _ (said eb tb) ∙ need-so _ _ _ (le-leb (w + n) (length s) (omega arith)) ∙ bind-so _ _ _ (mid-said s w n ea e))
+
+-- ---- heads with a byte each for the key and the length
+
+pub item-head-short : (l : Level) (s : List ℕ) (t n : ℕ) → t ≡ getD s 0 0 → n ≡ getD (drop 1 s) 0 0 → 0 < t → t < 128 → n < 128 → 1 + 1 + n ≤ length s → isSet l && eqb t 1 ≡ false
+    → itemHeadOf (Whole t 1 1 n) ≡ headOf l s
+item-head-short l s t n et en z th nh room p =
+    let long : 0 < length (drop 1 s) = rw length-drop (omega arith) in
+    let eb : numOf (Value n 1) ≡ lenOf (take (length s - 1) (drop 1 s)) = rw tail-part (len-small (drop 1 s) n en long nh) in
+    item-head-whole s {a = Value t 1} (tag-one s (omega arith) t et th z) refl {b = Value n 1} eb refl l {x = false} (rw p) refl (omega arith) (omega arith)
 
 -- ---- room: a head lies within the bytes with all that it heads
 

@@ -1,2 +1,3 @@
+pub mod Glances
 pub mod Rows
 pub mod Tests

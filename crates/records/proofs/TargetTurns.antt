@@ -25,7 +25,8 @@ use Rattle.walks.specs.declared.Sizes.{Sizes}
 use Rattle.walks.specs.declared.Walked.{Walked}
 use Rattle.walks.specs.declared.Walked.the-variants.{Good, Bad}
 use Rattle.walks.specs.Meet.{noSizes, packSizes, plusSizes, total, weightOfVal, weightOfTarget, stopAt, laterBy, Few, Small, Within}
-use Rattle.walks.proofs.Walks.{few-more, Going, going-start}
+use Rattle.walks.specs.Going.{Going}
+use Rattle.walks.proofs.Walks.{few-more, going-start}
 use Rattle.walks.proofs.Series.{after-not}
 use Rattle.walks.proofs.Turns.{Reads, within-more, turn-bad, turn-more}
 use Rattle.records.specs.Meet.{pieceBy, targetWhole, targetOpens, recordsWalk, targetsWalk}

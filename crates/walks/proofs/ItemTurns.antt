@@ -27,13 +27,10 @@ use Rattle.walks.specs.declared.Sizes.{Sizes}
 use Rattle.walks.specs.declared.Walked.{Walked}
 use Rattle.walks.specs.declared.Walked.the-variants.{Good, Bad}
 use Rattle.walks.specs.Meet.{pieceOf, noSizes, itemSizes, seriesSizes, plusSizes, weightOfEntry, stepAt, markTag, levelWalk, seriesWalk, seriesFrom, stopAt, laterBy, Few, Small, Within}
-use Rattle.walks.proofs.Walks.{few-more, Going, going-start}
+use Rattle.walks.specs.Going.{LevelGoing}
+use Rattle.walks.proofs.Walks.{few-more, going-start}
 use Rattle.walks.proofs.Levels.{Stood, stood, step-fault, read-peek, plain-step, plain-weight, plain-few, series-bad, series-good}
 use Rattle.walks.proofs.Turns.{Reads, within-of, within-more, turn-bad, turn-more}
-
-abbrev pub LevelGoing : Bool → Form → List ℕ → ℕ → Sizes → Bool → ℕ → ℕ → Type 0
-LevelGoing b f s p a m top low =
-    Going (peek false false b) always (weightOfEntry (levelOf b)) (λ e. eqb (tagOfEntry e) (markTag (levelOf b))) tagOfEntry (stepAt (levelOf b) f) (levelWalk (levelOf b) f s) s p a m top low
 
 pub level-start : (b : Bool) (f : Form) (s : List ℕ) → LevelGoing b f s 0 noSizes false 0 18446744073709551615
 unfolding levelWalk

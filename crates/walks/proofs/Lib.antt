@@ -5,6 +5,7 @@ pub mod Levels
 pub mod Series
 pub mod Turns
 pub mod ItemTurns
+pub mod Glances
 pub mod PackTurns
 pub mod Totals
 pub mod Inners

@@ -25,7 +25,8 @@ use Rattle.walks.specs.declared.Sizes.{Sizes}
 use Rattle.walks.specs.declared.Walked.{Walked}
 use Rattle.walks.specs.declared.Walked.the-variants.{Good, Bad}
 use Rattle.walks.specs.Meet.{pieceFault, noSizes, packSizes, plusSizes, total, weightOfItem, weightOfPack, levelWalk, seriesWalk, stopAt, laterBy, Few, Small, Within}
-use Rattle.walks.proofs.Walks.{few-more, Going, going-start}
+use Rattle.walks.specs.Going.{Going}
+use Rattle.walks.proofs.Walks.{few-more, going-start}
 use Rattle.walks.proofs.Series.{items-good, items-bad, pack-fault, PackStood, pack-stood, pack-10, pack-inside, pack-14, pack-good}
 use Rattle.walks.proofs.Turns.{Reads, within-more, turn-bad, turn-more}
 

@@ -13,7 +13,8 @@ use Rattle.walks.specs.declared.Sizes.{Sizes}
 use Rattle.walks.specs.declared.Walked.{Walked}
 use Rattle.walks.specs.declared.Walked.the-variants.{Good, Bad}
 use Rattle.walks.specs.Meet.{plusSizes, Few, Within}
-use Rattle.walks.proofs.Walks.{few-more, Going, going-bad, going-done, going-over, going-more}
+use Rattle.walks.specs.Going.{Going}
+use Rattle.walks.proofs.Walks.{few-more, going-bad, going-done, going-over, going-more}
 
 -- what was read in n bytes, and what it adds
 pub record Reads {X : Type 0} (weight : X → Sizes) (mark : X → Bool) (key : X → ℕ) (step : Ans (Got X)) (k n : ℕ) (a : Sizes) (m : Bool) : Type 0 where
@@ -30,6 +31,9 @@ within-more (Bad k q) n m l h = omega (arith, h)
 
 pub within-of : {r w : Walked} (n : ℕ) → r ≡ w → Within w n → Within r n
 within-of n e h = subst (λ x. Within x n) (sym e) h
+
+pub told-as : {w r whole : Walked} (n : ℕ) → w ≡ r → (r ≡ whole) × Within r n → (w ≡ whole) × Within w n
+told-as n e t = (e ∙ t .0, within-of n e (t .1))
 
 module _ {X : Type 0} {look : List ℕ → Got ℕ} {more : List ℕ → Bool} {weight : X → Sizes} {mark : X → Bool} {key : X → ℕ} {step : Step X} {whole : Walked} {s : List ℕ} {p : ℕ} {a : Sizes} {m : Bool}
     {top low : ℕ} (g : Going look more weight mark key step whole s p a m top low) where

@@ -17,19 +17,7 @@ use Rattle.walks.specs.declared.Sizes.{Sizes}
 use Rattle.walks.specs.declared.Walked.{Walked}
 use Rattle.walks.specs.declared.Walked.the-variants.{Good, Bad}
 use Rattle.walks.specs.Meet.{noSizes, plusSizes, total, any, walkedOf, Few}
-
--- what was walked so far, and the rest from p
-abbrev pub resume : {X : Type 0} → (X → Sizes) → (X → Bool) → Sizes → Bool → ℕ → Ans (Got (List X)) → Walked
-resume weight mark a m p (ok rs) = Good (plusSizes a (total weight (rs .val))) (m || any mark (rs .val))
-resume weight mark a m p (refused n q) = Bad n (p + q)
-
-pub record Going {X : Type 0} (look : List ℕ → Got ℕ) (more : List ℕ → Bool) (weight : X → Sizes) (mark : X → Bool) (key : X → ℕ) (step : Step X) (whole : Walked) (s : List ℕ) (p : ℕ)
-    (a : Sizes) (m : Bool) (top low : ℕ) : Type 0 where
-  pub seen : List ℕ
-  pub past : Past look s p top low seen
-  pub rest : whole ≡ resume weight mark a m p (skip more key step seen 0 (drop p s))
-  pub few : Few a p
-  pub to : p ≤ length s
+use Rattle.walks.specs.Going.{resume, Going}
 
 pub same-sizes : {a b : Sizes} → a .sheet ≡ b .sheet → a .rows ≡ b .rows → a .normal ≡ b .normal → a .inner ≡ b .inner → a ≡ b
 same-sizes p q r t i = record { sheet = p i; rows = q i; normal = r i; inner = t i }

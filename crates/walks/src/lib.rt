@@ -261,16 +261,12 @@ pub fn item_walk(table: &[u64], s: &[u8], set: bool, alone: bool) -> Walked
     requires { ⌜ (now table ≡ itemTable) × (length (now s) ≤ 8192) ⌝ }
     ensures { λ r. ⌜ (r ≡ levelWalk (levelOf set) (formOf alone) (now (s .entry))) × Within r (length (now (s .entry))) ⌝ }
 {
-    let mut p: usize = 0;
-    let mut sum = Sizes {
-        sheet: 0,
-        rows: 0,
-        normal: 0,
-        inner: 0,
-    };
-    let mut mark = false;
-    let mut top: u64 = 0;
-    let mut low: u64 = 18446744073709551615;
+    let q = quick::run(table, s, set, alone);
+    let mut p = q.at;
+    let mut sum = q.sizes;
+    let mut mark = q.mark;
+    let mut top = q.top;
+    let mut low = q.low;
     while p < s.len() {
         let a = item_at(table, s, p, set, alone, top, low);
         let Piece::Whole {
@@ -334,7 +330,17 @@ pub fn pack_walk(table: &[u64], s: &[u8], alone: bool) -> Walked
         }
         let from = p + width + used;
         let next = p + width + size;
-        let w = item_walk(table, &s[from..next], false, alone);
+        let items = &s[from..next];
+        let q = quick::run(table, items, false, alone);
+        let all = q.sizes;
+        let w = if q.at == items.len() {
+            Walked::Good {
+                sizes: all,
+                mark: q.mark,
+            }
+        } else {
+            item_walk(table, items, false, alone)
+        };
         let Walked::Good { sizes, mark } = w else {
             return later(w, from);
         };
@@ -365,3 +371,4 @@ pub enum Checked {
 }
 
 pub mod whole; // whole.rt: the whole packet
+pub mod quick; // quick.rt: the quick way over a level

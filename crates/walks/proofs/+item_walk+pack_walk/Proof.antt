@@ -5,15 +5,16 @@ use mathlib.Core.Bool.{Bool, true, false, not, _||_}
 use mathlib.Core.Logic.{⊎-elim}
 use Prim.Native.Nat.{ℕ, _+_, _-_, _≤_, _<_}
 use native.Mathlib.Omega.{arith}
-use lib.ListN.{length}
+use lib.ListN.{length, take, drop}
 use borrow.Author.Needs.{needs}
 use borrow.Fn.Kinds.{In}
 use borrow.Fn.PlainCycle.{Measures, is, falls, and}
-use Rattle.format.specs.Table.{isAlone}
+use Rattle.format.specs.Table.{pack, isAlone}
 use Rattle.items.specs.Meet.{formOf}
-use Rattle.walks.specs.Meet.{plusSizes}
-use Rattle.walks.proofs.Turns.{turn-done}
-use Rattle.walks.proofs.ItemTurns.{ItemAt, LevelGoing, level-start, depth, series-deep, value-long, item-fault, piece-stood, piece-room, EntryTold, item-told, series-within, series-told, entry-bad, bad-within, good-small, entry-more}
+use Rattle.walks.specs.Going.{LevelGoing}
+use Rattle.walks.specs.Meet.{plusSizes, levelWalk, Within}
+use Rattle.walks.proofs.Turns.{told-as, turn-done}
+use Rattle.walks.proofs.ItemTurns.{ItemAt, depth, series-deep, value-long, item-fault, piece-stood, piece-room, EntryTold, item-told, series-within, series-told, entry-bad, bad-within, good-small, entry-more}
 use Rattle.walks.proofs.PackTurns.{PackAt, SeriesGoing, lent-long, series-start, head-fault, head-stood, head-room, id-again, items-within, items-fault, no-location, items-small, pack-small, pack-more}
 use Rattle.walks.proofs.item_walk.Reads as item-walk
 use Rattle.walks.proofs.item_walk.Kinds as item-walk-kinds
@@ -32,6 +33,7 @@ use Rattle.walks.proofs.one_item.Reads as one-item-reads
 use Rattle.walks.proofs.piece_fault.Reads as piece-fault-reads
 use Rattle.walks.proofs.pack_sizes.Reads as pack-sizes-reads
 use Rattle.walks.proofs.plus.Reads as plus-reads
+use Rattle.walks.proofs.quick.run.Reads as run-reads
 use Rattle.walks.proofs.series_of.Reads as series-of-reads
 use Rattle.walks.proofs.smaller.Reads as smaller-reads
 use Rattle.walks.proofs.stop.Reads as stop-reads
@@ -61,10 +63,10 @@ pack-walk-below t =
 
 -- what is known of the callees, the other walk's at a smaller measure
 abbrev item-claims : ℕ → item-walk-lts.Claims
-item-claims t = (item-at-reads.Asked, item-at-reads.Learnt, stop-reads.Asked, stop-reads.Learnt, is-series-reads.Asked, is-series-reads.Learnt, pack-walk-below t, pack-walk.Post, series-of-reads.Asked, series-of-reads.Learnt, one-item-reads.Asked, one-item-reads.Learnt, later-reads.Asked, later-reads.Learnt, plus-reads.Asked, plus-reads.Learnt, either-reads.Asked, either-reads.Learnt, larger-reads.Asked, larger-reads.Learnt, smaller-reads.Asked, smaller-reads.Learnt)
+item-claims t = (run-reads.Asked, run-reads.Learnt, item-at-reads.Asked, item-at-reads.Learnt, stop-reads.Asked, stop-reads.Learnt, is-series-reads.Asked, is-series-reads.Learnt, pack-walk-below t, pack-walk.Post, series-of-reads.Asked, series-of-reads.Learnt, one-item-reads.Asked, one-item-reads.Learnt, later-reads.Asked, later-reads.Learnt, plus-reads.Asked, plus-reads.Learnt, either-reads.Asked, either-reads.Learnt, larger-reads.Asked, larger-reads.Learnt, smaller-reads.Asked, smaller-reads.Learnt)
 
 abbrev pack-claims : ℕ → pack-walk-lts.Claims
-pack-claims t = (pack-head-reads.Asked, pack-head-reads.Learnt, piece-fault-reads.Asked, piece-fault-reads.Learnt, stop-reads.Asked, stop-reads.Learnt, is-seen-reads.Asked, is-seen-reads.Learnt, item-walk-below t, item-walk.Post, later-reads.Asked, later-reads.Learnt, either-reads.Asked, either-reads.Learnt, pack-sizes-reads.Asked, pack-sizes-reads.Learnt, plus-reads.Asked, plus-reads.Learnt, larger-reads.Asked, larger-reads.Learnt, smaller-reads.Asked, smaller-reads.Learnt)
+pack-claims t = (pack-head-reads.Asked, pack-head-reads.Learnt, piece-fault-reads.Asked, piece-fault-reads.Learnt, stop-reads.Asked, stop-reads.Learnt, is-seen-reads.Asked, is-seen-reads.Learnt, run-reads.Asked, run-reads.Learnt, item-walk-below t, item-walk.Post, later-reads.Asked, later-reads.Learnt, either-reads.Asked, either-reads.Learnt, pack-sizes-reads.Asked, pack-sizes-reads.Learnt, plus-reads.Asked, plus-reads.Learnt, larger-reads.Asked, larger-reads.Learnt, smaller-reads.Asked, smaller-reads.Learnt)
 
 -- ---- the item walk
 
@@ -76,20 +78,20 @@ item-walk-μ-loop table s set alone p₀ sum₀ mark₀ top₀ low₀ p sum mark
 
 -- an item, where it was read
 item-here : (t : ℕ) (a : item-walk-lts.After-a (item-claims t) (item-walk-at t) item-walk.Post item-walk-Inv-loop item-walk-μ-loop)
-    → ItemAt (a .before .before .before .before .before .before .before .args .set) (formOf (a .before .before .before .before .before .before .before .args .alone)) (a .before .before .before .before .before .before .before .args .s .now) (a .before .before .before .before .loop .p) (a .before .before .before .before .loop .sum) (a .before .before .before .before .loop .mark) (a .before .before .before .before .loop .top) (a .before .before .before .before .loop .low) (a .a .given .0 .0) (a .a .given .0 .1 .0) (a .a .given .0 .1 .1 .0) (a .a .given .0 .1 .1 .1 .0)
+    → ItemAt (a .before .before .before .before .before .before .before .before .before .args .set) (formOf (a .before .before .before .before .before .before .before .before .before .args .alone)) (a .before .before .before .before .before .before .before .before .before .args .s .now) (a .before .before .before .before .loop .p) (a .before .before .before .before .loop .sum) (a .before .before .before .before .loop .mark) (a .before .before .before .before .loop .top) (a .before .before .before .before .loop .low) (a .a .given .0 .0) (a .a .given .0 .1 .0) (a .a .given .0 .1 .1 .0) (a .a .given .0 .1 .1 .1 .0)
 item-here t a = record {
   going = a .before .before .before .before .loop .inv;
   here = a .before .before .before .loop-test .taken;
   it = a .before .before .item-at .result;
   told = a .before .before .item-at .ensures;
   whole = a .a .given .1;
-  bytes = λ i. a .before .before .before .before .before .shared-slice-known2 .given i .fits;
-  most = a .before .before .before .before .before .before .before .pre .1 .1;
+  bytes = λ i. a .before .before .before .before .before .before .before .shared-slice-known2 .given i .fits;
+  most = a .before .before .before .before .before .before .before .before .before .pre .1 .1;
 }
 
 -- it lies within the bytes lent
 item-room : (t : ℕ) (a : item-walk-lts.After-a (item-claims t) (item-walk-at t) item-walk.Post item-walk-Inv-loop item-walk-μ-loop)
-    → a .before .before .before .before .loop .p + a .a .given .0 .1 .0 + a .a .given .0 .1 .1 .0 ≤ length (a .before .before .before .before .before .before .before .args .s .now)
+    → a .before .before .before .before .loop .p + a .a .given .0 .1 .0 + a .a .given .0 .1 .1 .0 ≤ length (a .before .before .before .before .before .before .before .before .before .args .s .now)
 item-room t a = piece-room (item-here t a)
 
 -- what one entry says, whichever way it was walked
@@ -101,11 +103,14 @@ item-told-at t j =
     (λ x. item-told (item-here t a) (j .before .is-series .ensures) (x .0 .left) (x .2 ∙ x .1 .ensures))
     (j .if1 .came)
 
+item-walk-run-requires : (t : ℕ) → item-walk-lts.Need-run-requires (item-claims t) (item-walk-at t) item-walk.Post item-walk-Inv-loop item-walk-μ-loop
+item-walk-run-requires t c κs = c .before .before .pre .1
+
 item-walk-loop-holds : (t : ℕ) → item-walk-lts.Need-loop-holds (item-claims t) (item-walk-at t) item-walk.Post item-walk-Inv-loop item-walk-μ-loop
-item-walk-loop-holds t c = level-start _ _ _
+item-walk-loop-holds t c = c .before .run .ensures
 
 item-walk-item-at-requires : (t : ℕ) → item-walk-lts.Need-item-at-requires (item-claims t) (item-walk-at t) item-walk.Post item-walk-Inv-loop item-walk-μ-loop
-item-walk-item-at-requires t c κs = (c .before .before .before .before .pre .1 .0, omega (arith, c .loop-test .taken))
+item-walk-item-at-requires t c κs = (c .before .before .before .before .before .before .pre .1 .0, omega (arith, c .loop-test .taken))
 
 item-walk-enum-known-a : (t : ℕ) → item-walk-lts.Need-enum-known-a (item-claims t) (item-walk-at t) item-walk.Post item-walk-Inv-loop item-walk-μ-loop
 item-walk-enum-known-a t c = search needs
@@ -120,10 +125,10 @@ item-walk-returns : (t : ℕ) → item-walk-lts.Need-returns (item-claims t) (it
 item-walk-returns t c = item-fault _ _ (c .before .before .before .before .before .loop .inv) (c .before .before .before .before .loop-test .taken) (c .before .before .before .item-at .ensures) (c .before .enum-told .given .1) (c .stop .ensures)
 
 item-walk-add-at : (t : ℕ) → item-walk-lts.Need-add-at (item-claims t) (item-walk-at t) item-walk.Post item-walk-Inv-loop item-walk-μ-loop
-item-walk-add-at t c = omega (arith, item-room t (c .before), c .before .before .before .before .before .before .before .before .pre .1 .1)
+item-walk-add-at t c = omega (arith, item-room t (c .before), c .before .before .before .before .before .before .before .before .before .before .pre .1 .1)
 
 item-walk-add-next : (t : ℕ) → item-walk-lts.Need-add-next (item-claims t) (item-walk-at t) item-walk.Post item-walk-Inv-loop item-walk-μ-loop
-item-walk-add-next t c = omega (arith, item-room t (c .before), c .before .before .before .before .before .before .before .before .pre .1 .1)
+item-walk-add-next t c = omega (arith, item-room t (c .before), c .before .before .before .before .before .before .before .before .before .before .pre .1 .1)
 
 item-walk-is-series-requires : (t : ℕ) → item-walk-lts.Need-is-series-requires (item-claims t) (item-walk-at t) item-walk.Post item-walk-Inv-loop item-walk-μ-loop
 item-walk-is-series-requires t c κs = search needs
@@ -140,8 +145,8 @@ item-walk-part-pack-walk-end t c = omega (arith, item-room t (c .before .before 
 item-walk-pack-walk-requires : (t : ℕ) → item-walk-lts.Need-pack-walk-requires (item-claims t) (item-walk-at t) item-walk.Post item-walk-Inv-loop item-walk-μ-loop
 item-walk-pack-walk-requires t c κs =
     let a = c .before .before .before .before in (
-      omega (arith, series-deep (a .before .before .before .before .before .before .before .args .set) (a .a .given .0 .0) (c .before .before .is-series .ensures) (c .before .if1 .taken), a .before .before .before .before .before .before .before .pre .0),
-      (a .before .before .before .before .before .before .before .pre .1 .0, omega (arith, value-long (item-here t a), item-room t a, a .before .before .before .before .before .before .before .pre .1 .1)),
+      omega (arith, series-deep (a .before .before .before .before .before .before .before .before .before .args .set) (a .a .given .0 .0) (c .before .before .is-series .ensures) (c .before .if1 .taken), a .before .before .before .before .before .before .before .before .before .pre .0),
+      (a .before .before .before .before .before .before .before .before .before .pre .1 .0, omega (arith, value-long (item-here t a), item-room t a, a .before .before .before .before .before .before .before .before .before .pre .1 .1)),
     )
 
 item-walk-series-of-requires : (t : ℕ) → item-walk-lts.Need-series-of-requires (item-claims t) (item-walk-at t) item-walk.Post item-walk-Inv-loop item-walk-μ-loop
@@ -153,7 +158,7 @@ item-walk-one-item-requires : (t : ℕ) → item-walk-lts.Need-one-item-requires
 item-walk-one-item-requires t c κs =
     let a = c .before .before .before in
     let k = piece-stood (item-here t a) in
-    (k .tag-small, omega (arith, k .short-less, item-room t a, a .before .before .before .before .before .before .before .pre .1 .1))
+    (k .tag-small, omega (arith, k .short-less, item-room t a, a .before .before .before .before .before .before .before .before .before .pre .1 .1))
 
 item-walk-enum-known-w : (t : ℕ) → item-walk-lts.Need-enum-known-w (item-claims t) (item-walk-at t) item-walk.Post item-walk-Inv-loop item-walk-μ-loop
 item-walk-enum-known-w t c = search needs
@@ -291,28 +296,43 @@ pack-walk-add-next-2 t c =
     let a = c .before .before .before in
     omega (arith, pack-room t a, pack-body t a, a .before .before .before .before .before .before .before .before .pre .1 .1)
 
-pack-walk-sub-item-walk : (t : ℕ) → pack-walk-lts.Need-sub-item-walk (pack-claims t) (pack-walk-at t) pack-walk.Post pack-walk-Inv-loop pack-walk-μ-loop
-pack-walk-sub-item-walk t c =
+pack-walk-sub-items : (t : ℕ) → pack-walk-lts.Need-sub-items (pack-claims t) (pack-walk-at t) pack-walk.Post pack-walk-Inv-loop pack-walk-μ-loop
+pack-walk-sub-items t c =
     let a = c .before .before .before in
     omega (arith, pack-room t a, pack-body t a, a .before .before .before .before .before .before .before .before .pre .1 .1)
 
-pack-walk-part-item-walk-start : (t : ℕ) → pack-walk-lts.Need-part-item-walk-start (pack-claims t) (pack-walk-at t) pack-walk.Post pack-walk-Inv-loop pack-walk-μ-loop
-pack-walk-part-item-walk-start t c =
+pack-walk-part-items-start : (t : ℕ) → pack-walk-lts.Need-part-items-start (pack-claims t) (pack-walk-at t) pack-walk.Post pack-walk-Inv-loop pack-walk-μ-loop
+pack-walk-part-items-start t c =
     let a = c .before .before .before in
     omega (arith, pack-room t a, pack-body t a, a .before .before .before .before .before .before .before .before .pre .1 .1)
 
-pack-walk-part-item-walk-end : (t : ℕ) → pack-walk-lts.Need-part-item-walk-end (pack-claims t) (pack-walk-at t) pack-walk.Post pack-walk-Inv-loop pack-walk-μ-loop
-pack-walk-part-item-walk-end t c =
+pack-walk-part-items-end : (t : ℕ) → pack-walk-lts.Need-part-items-end (pack-claims t) (pack-walk-at t) pack-walk.Post pack-walk-Inv-loop pack-walk-μ-loop
+pack-walk-part-items-end t c =
     let a = c .before .before .before in
     omega (arith, pack-room t a, pack-body t a, a .before .before .before .before .before .before .before .before .pre .1 .1)
+
+pack-walk-run-requires : (t : ℕ) → pack-walk-lts.Need-run-requires (pack-claims t) (pack-walk-at t) pack-walk.Post pack-walk-Inv-loop pack-walk-μ-loop
+pack-walk-run-requires t c κs =
+    let e = c .before in
+    let a = e .before .before .before in
+    (a .before .before .before .before .before .before .before .before .pre .1 .0, omega (arith, lent-long (pack-here t a) (e .before .is-seen .ensures) (e .if1 .left), pack-room t a, a .before .before .before .before .before .before .before .before .pre .1 .1))
 
 pack-walk-item-walk-requires : (t : ℕ) → pack-walk-lts.Need-item-walk-requires (pack-claims t) (pack-walk-at t) pack-walk.Post pack-walk-Inv-loop pack-walk-μ-loop
 pack-walk-item-walk-requires t c κs =
-    let e = c .before in
+    let e = c .before .before .before .before .before in
     let a = e .before .before .before in (
       omega (arith, a .before .before .before .before .before .before .before .before .pre .0),
       (a .before .before .before .before .before .before .before .before .pre .1 .0, omega (arith, lent-long (pack-here t a) (e .before .is-seen .ensures) (e .if1 .left), pack-room t a, a .before .before .before .before .before .before .before .before .pre .1 .1)),
     )
+
+-- what the items of a pack say, whichever way they were walked
+pack-told : (t : ℕ) (j : pack-walk-lts.Joined2 (pack-claims t) (pack-walk-at t) pack-walk.Post pack-walk-Inv-loop pack-walk-μ-loop)
+    → (j .if2 .w ≡ levelWalk pack (formOf (j .before .before .before .before .before .before .before .before .before .before .before .before .before .before .before .before .args .alone)) (take (j .before .before .before .before .before .before .before .before .before .before .before .before .before .loop .p + j .before .before .before .before .before .before .before .before .h .given .0 .1 .1 .0 + j .before .before .before .before .before .before .before .before .h .given .0 .1 .1 .1 .0 - (j .before .before .before .before .before .before .before .before .before .before .before .before .before .loop .p + j .before .before .before .before .before .before .before .before .h .given .0 .1 .1 .0 + j .before .before .before .before .before .before .before .before .h .given .0 .1 .0)) (drop (j .before .before .before .before .before .before .before .before .before .before .before .before .before .loop .p + j .before .before .before .before .before .before .before .before .h .given .0 .1 .1 .0 + j .before .before .before .before .before .before .before .before .h .given .0 .1 .0) (j .before .before .before .before .before .before .before .before .before .before .before .before .before .before .before .before .args .s .now)))) × Within (j .if2 .w) (length (take (j .before .before .before .before .before .before .before .before .before .before .before .before .before .loop .p + j .before .before .before .before .before .before .before .before .h .given .0 .1 .1 .0 + j .before .before .before .before .before .before .before .before .h .given .0 .1 .1 .1 .0 - (j .before .before .before .before .before .before .before .before .before .before .before .before .before .loop .p + j .before .before .before .before .before .before .before .before .h .given .0 .1 .1 .0 + j .before .before .before .before .before .before .before .before .h .given .0 .1 .0)) (drop (j .before .before .before .before .before .before .before .before .before .before .before .before .before .loop .p + j .before .before .before .before .before .before .before .before .h .given .0 .1 .1 .0 + j .before .before .before .before .before .before .before .before .h .given .0 .1 .0) (j .before .before .before .before .before .before .before .before .before .before .before .before .before .before .before .before .args .s .now))))
+pack-told t j =
+    ⊎-elim
+    (λ x. told-as _ (x .1) (turn-done (j .before .before .before .run .ensures) (omega (arith, x .0 .taken))))
+    (λ x. told-as _ (x .2) (x .1 .ensures))
+    (j .if2 .came)
 
 pack-walk-enum-known-w : (t : ℕ) → pack-walk-lts.Need-enum-known-w (pack-claims t) (pack-walk-at t) pack-walk.Post pack-walk-Inv-loop pack-walk-μ-loop
 pack-walk-enum-known-w t c = search needs
@@ -322,30 +342,30 @@ pack-walk-enum-told-2 t c = search needs
 
 pack-walk-later-requires : (t : ℕ) → pack-walk-lts.Need-later-requires (pack-claims t) (pack-walk-at t) pack-walk.Post pack-walk-Inv-loop pack-walk-μ-loop
 pack-walk-later-requires t c κs =
-    let e = c .before .before .before .before in
+    let e = c .before .before .before .before .before .before .before in
     let a = e .before .before .before in
-    items-within (pack-here t a) (e .before .is-seen .ensures) (e .if1 .left) (c .before .before .item-walk .ensures)
+    items-within (pack-here t a) (e .before .is-seen .ensures) (e .if1 .left) (pack-told t (c .before .before))
 
 pack-walk-returns-3 : (t : ℕ) → pack-walk-lts.Need-returns-3 (pack-claims t) (pack-walk-at t) pack-walk.Post pack-walk-Inv-loop pack-walk-μ-loop
 pack-walk-returns-3 t c =
-    let e = c .before .before .before .before .before in
+    let e = c .before .before .before .before .before .before .before .before in
     let a = e .before .before .before in
-    items-fault (pack-here t a) (e .before .is-seen .ensures) (e .if1 .left) (c .before .before .before .item-walk .ensures) (c .before .enum-told2 .given .1) (c .later .ensures)
+    items-fault (pack-here t a) (e .before .is-seen .ensures) (e .if1 .left) (pack-told t (c .before .before .before)) (c .before .enum-told2 .given .1) (c .later .ensures)
 
 pack-walk-either-requires : (t : ℕ) → pack-walk-lts.Need-either-requires (pack-claims t) (pack-walk-at t) pack-walk.Post pack-walk-Inv-loop pack-walk-μ-loop
 pack-walk-either-requires t c κs = search needs
 
 pack-walk-pack-sizes-requires : (t : ℕ) → pack-walk-lts.Need-pack-sizes-requires (pack-claims t) (pack-walk-at t) pack-walk.Post pack-walk-Inv-loop pack-walk-μ-loop
 pack-walk-pack-sizes-requires t c κs =
-    let e = c .before .before .before .before .before .before .before in
+    let e = c .before .before .before .before .before .before .before .before .before .before in
     let a = e .before .before .before in
-    (head-stood (pack-here t a) .id-few, items-small (pack-here t a) (e .before .is-seen .ensures) (e .if1 .left) (c .before .before .before .before .before .item-walk .ensures) (c .before .before .before .w .given .1) (either-is (a .before .before .before .before .before .before .before .before .args .alone) _ (c .before .either .ensures)))
+    (head-stood (pack-here t a) .id-few, items-small (pack-here t a) (e .before .is-seen .ensures) (e .if1 .left) (pack-told t (c .before .before .before .before .before)) (c .before .before .before .w .given .1) (either-is (a .before .before .before .before .before .before .before .before .args .alone) _ (c .before .either .ensures)))
 
 pack-walk-plus-requires : (t : ℕ) → pack-walk-lts.Need-plus-requires (pack-claims t) (pack-walk-at t) pack-walk.Post pack-walk-Inv-loop pack-walk-μ-loop
 pack-walk-plus-requires t c κs =
-    let e = c .before .before .before .before .before .before .before .before in
+    let e = c .before .before .before .before .before .before .before .before .before .before .before in
     let a = e .before .before .before in
-    pack-small (pack-here t a) (e .before .is-seen .ensures) (e .if1 .left) (c .before .before .before .before .before .before .item-walk .ensures) (c .before .before .before .before .w .given .1) (either-is (a .before .before .before .before .before .before .before .before .args .alone) _ (c .before .before .either .ensures)) (c .pack-sizes .ensures)
+    pack-small (pack-here t a) (e .before .is-seen .ensures) (e .if1 .left) (pack-told t (c .before .before .before .before .before .before)) (c .before .before .before .before .w .given .1) (either-is (a .before .before .before .before .before .before .before .before .args .alone) _ (c .before .before .either .ensures)) (c .pack-sizes .ensures)
 
 pack-walk-larger-requires : (t : ℕ) → pack-walk-lts.Need-larger-requires (pack-claims t) (pack-walk-at t) pack-walk.Post pack-walk-Inv-loop pack-walk-μ-loop
 pack-walk-larger-requires t c κs = search needs
@@ -355,21 +375,21 @@ pack-walk-smaller-requires t c κs = search needs
 
 pack-walk-loop-less : (t : ℕ) → pack-walk-lts.Need-loop-less (pack-claims t) (pack-walk-at t) pack-walk.Post pack-walk-Inv-loop pack-walk-μ-loop
 pack-walk-loop-less t c =
-    let a = c .before .before .before .before .before .before .before .before .before .before .before .before .before .before in
+    let a = c .before .before .before .before .before .before .before .before .before .before .before .before .before .before .before .before .before in
     let k = head-stood (pack-here t a) in
     omega (arith, k .len, a .before .before .before .before .loop-test .taken)
 
 pack-walk-loop-again : (t : ℕ) → pack-walk-lts.Need-loop-again (pack-claims t) (pack-walk-at t) pack-walk.Post pack-walk-Inv-loop pack-walk-μ-loop
 pack-walk-loop-again t c =
-    let e = c .before .before .before .before .before .before .before .before .before .before .before in
+    let e = c .before .before .before .before .before .before .before .before .before .before .before .before .before .before in
     let a = e .before .before .before in
-    pack-more (pack-here t a) (e .before .is-seen .ensures) (e .if1 .left) (c .before .before .before .before .before .before .before .before .before .item-walk .ensures) (c .before .before .before .before .before .before .before .w .given .1) (either-is (a .before .before .before .before .before .before .before .before .args .alone) _ (c .before .before .before .before .before .either .ensures)) (c .before .before .before .before .if2 .taken) (c .before .before .plus .ensures ∙ ap (plusSizes _) (c .before .before .before .pack-sizes .ensures)) (c .before .larger .ensures) (c .smaller .ensures)
+    pack-more (pack-here t a) (e .before .is-seen .ensures) (e .if1 .left) (pack-told t (c .before .before .before .before .before .before .before .before .before)) (c .before .before .before .before .before .before .before .w .given .1) (either-is (a .before .before .before .before .before .before .before .before .args .alone) _ (c .before .before .before .before .before .either .ensures)) (c .before .before .before .before .if3 .taken) (c .before .before .plus .ensures ∙ ap (plusSizes _) (c .before .before .before .pack-sizes .ensures)) (c .before .larger .ensures) (c .smaller .ensures)
 
 pack-walk-returns-4 : (t : ℕ) → pack-walk-lts.Need-returns-4 (pack-claims t) (pack-walk-at t) pack-walk.Post pack-walk-Inv-loop pack-walk-μ-loop
 pack-walk-returns-4 t c =
-    let e = c .before .before .before .before .before .before .before in
+    let e = c .before .before .before .before .before .before .before .before .before .before in
     let a = e .before .before .before in
-    no-location (pack-here t a) (e .before .is-seen .ensures) (e .if1 .left) (c .before .before .before .before .before .item-walk .ensures) (c .before .before .before .w .given .1) (either-is (a .before .before .before .before .before .before .before .before .args .alone) _ (c .before .either .ensures)) (c .if2 .left) refl
+    no-location (pack-here t a) (e .before .is-seen .ensures) (e .if1 .left) (pack-told t (c .before .before .before .before .before)) (c .before .before .before .w .given .1) (either-is (a .before .before .before .before .before .before .before .before .args .alone) _ (c .before .either .ensures)) (c .if3 .left) refl
 
 pack-walk-returns-5 : (t : ℕ) → pack-walk-lts.Need-returns-5 (pack-claims t) (pack-walk-at t) pack-walk.Post pack-walk-Inv-loop pack-walk-μ-loop
 pack-walk-returns-5 t c = turn-done (c .before .loop .inv) (c .loop-test .left)
@@ -378,7 +398,7 @@ pub +item-walk+pack-walk-spec : {M : Type 1} → statement M
 +item-walk+pack-walk-spec =
     close μ-item-walk μ-pack-walk
     (λ t. item-walk-lts.spec (item-claims t) (item-walk-at t) item-walk.Post item-walk-Inv-loop item-walk-μ-loop
-    (item-walk-loop-holds t) (item-walk-item-at-requires t) (item-walk-enum-known-a t) (item-walk-enum-told t)
+    (item-walk-run-requires t) (item-walk-loop-holds t) (item-walk-item-at-requires t) (item-walk-enum-known-a t) (item-walk-enum-told t)
     (item-walk-stop-requires t) (item-walk-returns t) (item-walk-add-at t) (item-walk-add-next t)
     (item-walk-is-series-requires t) (item-walk-sub-pack-walk t) (item-walk-part-pack-walk-start t) (item-walk-part-pack-walk-end t)
     (item-walk-pack-walk-requires t) (item-walk-series-of-requires t) (item-walk-one-item-requires t) (item-walk-enum-known-w t)
@@ -390,7 +410,7 @@ pub +item-walk+pack-walk-spec : {M : Type 1} → statement M
     (pack-walk-pack-head-requires t) (pack-walk-enum-known-h t) (pack-walk-enum-told t) (pack-walk-piece-fault-requires t)
     (pack-walk-stop-requires t) (pack-walk-returns t) (pack-walk-is-seen-requires t) (pack-walk-returns-2 t)
     (pack-walk-add-from t) (pack-walk-add-from-2 t) (pack-walk-add-next t) (pack-walk-add-next-2 t)
-    (pack-walk-sub-item-walk t) (pack-walk-part-item-walk-start t) (pack-walk-part-item-walk-end t) (pack-walk-item-walk-requires t)
+    (pack-walk-sub-items t) (pack-walk-part-items-start t) (pack-walk-part-items-end t) (pack-walk-run-requires t) (pack-walk-item-walk-requires t)
     (pack-walk-enum-known-w t) (pack-walk-enum-told-2 t) (pack-walk-later-requires t) (pack-walk-returns-3 t)
     (pack-walk-either-requires t) (pack-walk-pack-sizes-requires t) (pack-walk-plus-requires t)
     (pack-walk-larger-requires t) (pack-walk-smaller-requires t) (pack-walk-loop-less t) (pack-walk-loop-again t)

@@ -1,0 +1,26 @@
+-- An item that is told at a glance: by its tag, its length and its first byte.
+use mathlib.Core.Path.{_≡_}
+use Prim.Native.Nat.{ℕ, _+_, _/_, _%_, _^_, _<_}
+use mathlib.Core.Bool.{Bool, true, false, not, _&&_, _||_}
+use mathlib.Core.List.{List}
+use lib.ListN.{length, getD}
+use lib.Dec.{ltb, eqb}
+use Rattle.format.specs.Answer.{ok}
+use Rattle.format.specs.Table.{Form, Level, isSet, ruleOf, mayStand, valued, short}
+
+-- a row's bits: 32 and more for lengths, 17 for a number
+abbrev pub bit : ℕ → ℕ → Bool
+bit row k = not (eqb (row / 2 ^ k % 2) 0)
+
+unfoldable pub glanced : ℕ → ℕ → ℕ → Bool
+glanced row n first = ltb n 32 && (bit row (32 + n) && (not (bit row 17) || not (eqb first 0)))
+
+pub record Quick (l : Level) (f : Form) (tag n first : ℕ) : Type 0 where
+  pub small : tag < 24
+  pub some : 0 < n
+  pub few : n < 32
+  pub no-series : isSet l && eqb tag 101 ≡ false
+  pub no-seal : isSet l && eqb tag 1 ≡ false
+  pub stands : (last : Bool) → mayStand l f tag last ≡ true
+  pub allowed : (v : List ℕ) → length v ≡ n → getD v 0 0 ≡ first → valued (ruleOf l tag) v ≡ ok tt
+  pub shortest : (v : List ℕ) → length v ≡ n → getD v 0 0 ≡ first → short (ruleOf l tag) v ≡ v

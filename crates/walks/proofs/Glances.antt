@@ -1,0 +1,108 @@
+-- The quick way's turns: an item told at a glance is read as the item walk reads it.
+use mathlib.Core.Path.{_≡_, refl, sym, ap, _∙_}
+use Prim.Native.Nat.{ℕ, _+_, _-_, _*_, _≤_, _<_}
+use native.Mathlib.Omega.{arith}
+use mathlib.Core.Bool.{Bool, true, false, not, _&&_, _||_}
+use mathlib.Core.List.{List}
+use lib.ListN.{length, take, drop, getD, length-drop}
+use lib.Seq.{getD-drop, getD-take, length-take-le}
+use lib.Dec.{eqb}
+use Rattle.format.specs.Coding.{Bytes, oidBytes, lenWidth}
+use Rattle.format.specs.Table.{Form, Level, isSet, isAlone}
+use Rattle.coding.proofs.Counts.{len-one, count-start, count-done}
+use Rattle.items.specs.Meet.{levelOf}
+use Rattle.items.specs.Quick as items
+use Rattle.items.proofs.Tests.{standing-0}
+use Rattle.heads.specs.Meet.{peek, Past}
+use Rattle.heads.specs.declared.Head.the-variants as heads
+use Rattle.heads.proofs.Heads.{mid-part, item-head-short}
+use Rattle.walks.specs.declared.Piece.the-variants as piece
+use Rattle.walks.specs.declared.Sizes.{Sizes}
+use Rattle.walks.specs.Meet.{pieceOf, sizes, itemSizes, plusSizes, markTag}
+use Rattle.walks.specs.Going.{LevelGoing, Glance}
+use Rattle.format.specs.Read.{item}
+use Rattle.walks.proofs.Walks.{same-sizes}
+use Rattle.walks.proofs.Pieces.{piece-whole}
+use Rattle.walks.proofs.ItemTurns.{ItemAt, level-is, item-told, entry-more}
+
+-- the sizes of so many such items in p bytes
+abbrev pub quickSizes : ℕ → ℕ → Sizes
+quickSizes count p = sizes (4 * count + p) count p 0
+
+quick-plus : (l : Level) (tag n count p : ℕ) → isSet l && eqb tag 1 ≡ false → tag < 128 → n < 128
+    → quickSizes (count + 1) (p + 2 + n) ≡ plusSizes (quickSizes count p) (itemSizes l tag n)
+unfolding itemSizes
+quick-plus l tag n count p z th nh =
+    let u : 1 ≡ length (oidBytes tag) = count-done tag 1 tag (count-start tag (omega arith)) th .0 in
+    let w : 1 ≡ lenWidth n = len-one n nh in
+    let e : itemSizes l tag n ≡ sizes (6 + n) 1 (length (oidBytes tag) + (lenWidth n + n)) 0 = rw (z, itemSizes) in
+    rw e (same-sizes (omega arith) refl (omega (arith, u, w)) refl)
+
+-- as the code finds it
+pub glance-from : (b : Bool) (f : Form) (s : List ℕ) (p top : ℕ) {tag n : ℕ} → tag ≡ getD s p 0 → n ≡ getD s (p + 1) 0 → (tag ≤ top → ⊥) → 3 ≤ length s - p → n ≤ length s - p - 2
+    → {x : Bool} → x ≡ (not (isSet (levelOf b)) || not (isAlone f) || not (eqb p 0) || eqb tag 2) → x ≡ true
+    → items.Quick (levelOf b) f tag n (getD s (p + 2) 0) → Glance b f s p top n
+glance-from b f s p top {tag = tag} {n = n} et en above some room ex tx q = record {
+  quick = rw et at q;
+  above = omega arith;
+  size-is = en;
+  room = omega arith;
+  begins = rw et at (sym ex ∙ tx);
+}
+
+module _ {b : Bool} {f : Form} {s : List ℕ} {p top n : ℕ} (g : Glance b f s p top n) where
+  abbrev tag : ℕ
+  tag = getD s p 0
+
+  abbrev value : List ℕ
+  value = take (1 + 1 + n - (1 + 1)) (drop (1 + 1) (drop p s))
+
+  glance-small : (0 < tag) × (tag < 128) × (n < 128)
+  glance-small = (omega (arith, g .above), omega (arith, g .quick .small), omega (arith, g .quick .few))
+
+  value-is : value ≡ take n (drop (1 + 1) (drop p s))
+  value-is = mid-part (1 + 1) n (drop p s)
+
+  value-size : length value ≡ n
+  value-size = ap length value-is ∙ length-take-le n (drop (1 + 1) (drop p s)) (rw (length-drop, length-drop) (omega (arith, g .room)))
+
+  value-head : getD value 0 0 ≡ getD s (p + 2) 0
+  value-head =
+      ap (λ v. getD v 0 0) value-is
+      ∙ getD-take n _ 0 0 (g .quick .some)
+      ∙ getD-drop (1 + 1) (drop p s) 0 0
+      ∙ getD-drop p s 2 0
+
+  glance-piece : {low : ℕ} (seen : List ℕ) → Past (peek false false b) s p top low seen → piece.Whole tag 2 n n ≡ pieceOf (levelOf b) (item (levelOf b) f seen (drop p s))
+  glance-piece seen q =
+      let (z, th, nh) = glance-small in
+      let et : tag ≡ getD (drop p s) 0 0 = sym (getD-drop p s 0 0 ∙ ap (λ i. getD s i 0) (omega arith)) in
+      let en : n ≡ getD (drop 1 (drop p s)) 0 0 = g .size-is ∙ sym (getD-drop 1 (drop p s) 0 0 ∙ getD-drop p s 1 0) in
+      let room : 1 + 1 + n ≤ length (drop p s) = rw length-drop (omega (arith, g .room)) in
+      piece-whole (drop p s) (levelOf b) {h = heads.Whole tag 1 1 n} (item-head-short (levelOf b) (drop p s) tag n et en z th nh room (g .quick .no-seal)) refl f seen
+      (λ e. omega (arith, g .quick .some))
+      {j = 0} (standing-0 (levelOf b) f seen tag _ (sym (q .under tag (g .above))) (sym (g .quick .stands _)) (eqb p 0) (sym (q .first)) (sym (g .begins)))
+      refl refl
+      {m = 0} (sym (g .quick .allowed value value-size value-head)) refl
+      (sym (ap length (g .quick .shortest value value-size value-head) ∙ value-size))
+
+  pub glance-next : p + 2 + n ≤ length s
+  glance-next = g .room
+
+  -- x is the tag as the code read it
+  pub glance-more : {count : ℕ} {mark : Bool} {low : ℕ} → LevelGoing b f s p (quickSizes count p) mark top low → Bytes s → length s ≤ 8192
+      → {x : ℕ} → x ≡ tag → {y mark′ : Bool} → y ≡ eqb x (markTag (levelOf b)) → mark′ ≡ (mark || y) → {low′ : ℕ} → (low′ ≤ low) × (low′ ≤ x)
+      → LevelGoing b f s (p + 2 + n) (quickSizes (count + 1) (p + 2 + n)) mark′ x low′
+  glance-more {count = count} {mark = mark} {low = low} go bytes most ex ey em el =
+      let (z, th, nh) = glance-small in
+      let i : ItemAt b f s p _ _ top low tag 2 n n = record {
+        going = go;
+        here = omega (arith, g .room);
+        it = piece.Whole tag 2 n n;
+        told = λ seen q. glance-piece seen q;
+        whole = refl;
+        bytes = bytes;
+        most = most;
+      } in
+      entry-more i (item-told i {x = b && eqb tag 101} refl (rw level-is at (g .quick .no-series)) refl) refl (quick-plus (levelOf b) tag n count p (g .quick .no-seal) th nh)
+      (em ∙ ap (λ z. mark || z) (ey ∙ ap (λ z. eqb z (markTag (levelOf b))) ex)) (omega (arith, g .above, ex), omega (arith, ex)) (el .0, omega (arith, ex, el .1))

@@ -1,0 +1,45 @@
+-- A walk while it goes: what was walked so far, with what is still to come, is the whole. For items and packs, of a packet or of a
+-- sheet: `look` is what a look back reads, and the run goes on while `more` says so.
+use mathlib.Core.Path.{_≡_}
+use Prim.Native.Nat.{ℕ, _+_, _≤_, _<_}
+use mathlib.Core.Bool.{Bool, true, false, not, _||_}
+use mathlib.Core.List.{List}
+use lib.ListN.{length, drop, getD}
+use lib.Dec.{eqb}
+use Rattle.format.specs.Answer.{Ans, ok, refused, Got}
+use Rattle.format.specs.Packet.{tagOfEntry}
+use Rattle.format.specs.Run.{Step, skip, always}
+use Rattle.format.specs.Table.{Form, isSet, isAlone}
+use Rattle.items.specs.Meet.{levelOf}
+use Rattle.items.specs.Quick as items
+use Rattle.heads.specs.Meet.{peek, Past}
+use Rattle.walks.specs.declared.Sizes.{Sizes}
+use Rattle.walks.specs.declared.Walked.{Walked}
+use Rattle.walks.specs.declared.Walked.the-variants.{Good, Bad}
+use Rattle.walks.specs.Meet.{plusSizes, total, any, weightOfEntry, markTag, stepAt, levelWalk, Few}
+
+-- what was walked so far, and the rest from p
+abbrev pub resume : {X : Type 0} → (X → Sizes) → (X → Bool) → Sizes → Bool → ℕ → Ans (Got (List X)) → Walked
+resume weight mark a m p (ok rs) = Good (plusSizes a (total weight (rs .val))) (m || any mark (rs .val))
+resume weight mark a m p (refused n q) = Bad n (p + q)
+
+pub record Going {X : Type 0} (look : List ℕ → Got ℕ) (more : List ℕ → Bool) (weight : X → Sizes) (mark : X → Bool) (key : X → ℕ) (step : Step X) (whole : Walked) (s : List ℕ) (p : ℕ)
+    (a : Sizes) (m : Bool) (top low : ℕ) : Type 0 where
+  pub seen : List ℕ
+  pub past : Past look s p top low seen
+  pub rest : whole ≡ resume weight mark a m p (skip more key step seen 0 (drop p s))
+  pub few : Few a p
+  pub to : p ≤ length s
+
+-- the item walk of a level
+abbrev pub LevelGoing : Bool → Form → List ℕ → ℕ → Sizes → Bool → ℕ → ℕ → Type 0
+LevelGoing b f s p a m top low =
+    Going (peek false false b) always (weightOfEntry (levelOf b)) (λ e. eqb (tagOfEntry e) (markTag (levelOf b))) tagOfEntry (stepAt (levelOf b) f) (levelWalk (levelOf b) f s) s p a m top low
+
+-- an item at p that is told at a glance, with a byte each for its tag and its length, and whose tag is above top
+pub record Glance (b : Bool) (f : Form) (s : List ℕ) (p top n : ℕ) : Type 0 where
+  pub quick : items.Quick (levelOf b) f (getD s p 0) n (getD s (p + 2) 0)
+  pub above : top < getD s p 0
+  pub size-is : n ≡ getD s (p + 1) 0
+  pub room : p + 2 + n ≤ length s
+  pub begins : not (isSet (levelOf b)) || not (isAlone f) || not (eqb p 0) || eqb (getD s p 0) 2 ≡ true

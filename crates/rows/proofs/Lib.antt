@@ -2,3 +2,4 @@ pub mod Numbers
 pub mod LevelTurns
 pub mod SeriesTurns
 pub mod Packet
+pub mod Filling

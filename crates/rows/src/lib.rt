@@ -67,3 +67,5 @@ pub fn pack_rows(s: &[u8], at: usize, alone: bool, out: &mut [u64]) -> usize
     }
     k
 }
+
+pub mod table; // table.rt: rows as a lent slice of structs

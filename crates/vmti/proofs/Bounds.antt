@@ -49,7 +49,7 @@ refused-small f s n p e = go (leb (length s) 8192) refl
         let b : 0 ≡ p = cc in
         (omega arith, omega arith, omega arith)
 
-call-refused : {A : Type 0} (f : Form) (s : List ℕ) (g : Packet → A) (n p : ℕ) → (parse f s >>= λ k. ok (g k)) ≡ refused n p → (1 ≤ n) × (n ≤ 19) × (p ≤ 8192)
+pub call-refused : {A : Type 0} (f : Form) (s : List ℕ) (g : Packet → A) (n p : ℕ) → (parse f s >>= λ k. ok (g k)) ≡ refused n p → (1 ≤ n) × (n ≤ 19) × (p ≤ 8192)
 unfolding _>>=_
 call-refused {A = A} f s g n p e = go (parse f s) refl e
   where

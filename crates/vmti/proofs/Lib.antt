@@ -9,3 +9,5 @@ pub mod Editing
 pub mod Locating
 pub mod Bounds
 pub mod Promised
+pub mod Lending
+pub mod Tabled

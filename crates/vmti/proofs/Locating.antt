@@ -1,4 +1,4 @@
--- The call `locate`, case by case: a refusal, too little room, and the rows written.
+-- The calls `locate_numbers` and `locate`, case by case: a refusal, too little room, and the rows written.
 use mathlib.Core.Path.{_≡_, sym, ap, _∙_}
 use Prim.Native.Nat.{ℕ, _*_, _≤_, _<_}
 use native.Mathlib.Omega.{arith}

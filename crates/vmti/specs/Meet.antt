@@ -1,7 +1,8 @@
 -- Where the calls meet document 01: what they leave behind, for every input and every room.
-use Prim.Native.Nat.{ℕ, _*_}
+use Prim.Native.Nat.{ℕ, _*_, _≤_}
+use mathlib.Core.Path.{_≡_}
 use mathlib.Core.Bool.{true, false, not}
-use mathlib.Core.List.{List, _++_}
+use mathlib.Core.List.{List, _++_, map}
 use lib.ListN.{length, drop}
 use lib.Dec.{leb, eqb}
 use Rattle.format.specs.Answer.{Ans, ok, refused}
@@ -17,11 +18,12 @@ use Rattle.format.specs.Edit.{Holder, Change}
 use Rattle.edits.specs.Meet.{holderOf, changeOf}
 use Rattle.edits.specs.declared.Found.{Found}
 use Rattle.edits.specs.declared.Found.the-variants as found
-use Rattle.rows.specs.Meet.{numbers}
+use Rattle.rows.specs.declared.table.Row as table
+use Rattle.rows.specs.Meet.{numbers, rowOf, tableOf}
 use Rattle.vmti.specs.declared.Answer.{Answer}
 
 -- an answer, with what was lent as it is then
-abbrev pub leftOf : Answer → List ℕ → Left ℕ
+abbrev pub leftOf : {A : Type 0} → Answer → List A → Left A
 leftOf a lent = record { number = a .number; place = a .place; lent = lent }
 
 abbrev pub answerOf : ℕ → ℕ → Answer
@@ -58,3 +60,22 @@ holderNamed level id = holderOf (eqb level 0) id
 
 abbrev pub changeNamed : ℕ → List ℕ → Change
 changeNamed removal v = changeOf (not (eqb removal 0)) v
+
+-- rows lie in a lent slice of rows, one by one
+unfoldable pub leavesTable : List table.Row → Ans (List Row) → Left table.Row
+leavesTable lent (refused n p) = record { number = n; place = p; lent = lent }
+leavesTable lent (ok rs) =
+    elim (leb (length rs) (length lent)) [
+      | true ↦ record { number = 0; place = length rs; lent = map rowOf rs ++ drop (length rs) lent }
+      | false ↦ record { number = 16; place = length rs; lent = lent }
+    ]
+
+-- how many rows an answer says to be written
+abbrev pub countOf : Answer → ℕ
+countOf a = elim (eqb (a .number) 0) [ true ↦ a .place | false ↦ 0 ]
+
+-- an answer to x, and numbers whose first rows, as many as it counts, are what any table with so much room is left
+pub record Filled (room : ℕ) (x : Ans (List Row)) (a : Answer) (ns : List ℕ) : Type 0 where
+  pub held : 4 * countOf a ≤ length ns
+  pub fits : countOf a ≤ room
+  pub left : (lent : List table.Row) → length lent ≡ room → leftOf a (tableOf (countOf a) ns ++ drop (countOf a) lent) ≡ leavesTable lent x

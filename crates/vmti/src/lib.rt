@@ -206,7 +206,7 @@ pub fn edit(
 }
 
 // A packet's rows, as numbers, four to a row.
-pub fn locate(packet: &[u8], alone: bool, rows: &mut [u64]) -> Answer
+pub fn locate_numbers(packet: &[u8], alone: bool, rows: &mut [u64]) -> Answer
     ensures { λ r. ⌜ leftOf r (now (rows .exit)) ≡ leavesRows (now (rows .entry)) (Rows.locate (formOf alone) (now (packet .entry))) ⌝ }
 {
     let c = walks::whole::check(packet, alone);
@@ -282,3 +282,5 @@ pub extern "C" fn vmti_edit(
         out,
     ))
 }
+
+pub mod table; // table.rt: rows as a lent slice of structs

@@ -7,11 +7,11 @@ use Rattle.vmtirows.proofs.report.Tie as tie
 has-key-requires : tie.Need-has-key-requires
 has-key-requires c κs = search needs
 
-slice-aggregate-locate : tie.Need-slice-aggregate-locate
-slice-aggregate-locate c = search needs
+slice-aggregate-locate-numbers : tie.Need-slice-aggregate-locate-numbers
+slice-aggregate-locate-numbers c = search needs
 
-locate-requires : tie.Need-locate-requires
-locate-requires c κs = search needs
+locate-numbers-requires : tie.Need-locate-numbers-requires
+locate-numbers-requires c κs = search needs
 
 refused-requires : tie.Need-refused-requires
 refused-requires c κs = search needs
@@ -38,7 +38,7 @@ slice-aggregate-rows : tie.Need-slice-aggregate-rows
 slice-aggregate-rows c = search needs
 
 rows-requires : tie.Need-rows-requires
-rows-requires c κs = located-fits _ _ _ _ _ (c .before .before .before .before .before .before .before .before .before .locate .ensures) (c .before .before .before .before .before .before .if1 .left)
+rows-requires c κs = located-fits _ _ _ _ _ (c .before .before .before .before .before .before .before .before .before .locate-numbers .ensures) (c .before .before .before .before .before .before .if1 .left)
 
 returns-2 : tie.Need-returns-2
 returns-2 c = search needs
@@ -48,8 +48,8 @@ report-spec =
     tie.close
     (tie.spec
     has-key-requires
-    slice-aggregate-locate
-    locate-requires
+    slice-aggregate-locate-numbers
+    locate-numbers-requires
     refused-requires
     returns
     form-requires

@@ -1,11 +1,11 @@
--- `vmti::locate` meets its contract: each way out is a case of what is left behind.
+-- `vmti::locate_numbers` meets its contract: each way out is a case of what is left behind.
 -- In each answer a is where the check was found fine, and k where the set begins.
 use native.Mathlib.Omega.{arith}
 use borrow.Author.Needs.{needs}
 use Rattle.vmti.proofs.Opened.{opened, set-room, set-ran, set-long}
 use Rattle.vmti.proofs.Locating.{locate-refused, found-few, locate-short, found-size, locate-done}
-use Rattle.vmti.proofs.locate.Statement.{statement}
-use Rattle.vmti.proofs.locate.Tie as tie
+use Rattle.vmti.proofs.locate_numbers.Statement.{statement}
+use Rattle.vmti.proofs.locate_numbers.Tie as tie
 
 check-requires : tie.Need-check-requires
 check-requires c κs = search needs
@@ -72,8 +72,8 @@ returns-3 c =
     let a = k .before .before .before .before in
     locate-done _ _ _ (a .before .before .check .ensures) (λ i. a .before .before .before .before .shared-slice-known .given i .fits) (a .c .given .1) (k .set-start .ensures) (k .before .if1 .left) (c .before .before .before .item-rows .ensures .1) (c .answer-of2 .ensures)
 
-pub locate-spec : {M : Type 1} → statement M
-locate-spec =
+pub locate-numbers-spec : {M : Type 1} → statement M
+locate-numbers-spec =
     tie.close
     (tie.spec
     check-requires

@@ -27,8 +27,8 @@ use Rattle.rows.proofs.Numbers.{numbers-long}
 use Rattle.vmti.specs.declared.Answer.{Answer}
 use Rattle.vmti.specs.Meet.{leftOf, leavesRows}
 
--- for `leaves` and `leavesRows` alike
-pub one-result : (a b : Answer) (x y : List ℕ) (l : Left ℕ) → leftOf a x ≡ l → leftOf b y ≡ l → (a ≡ b) × (x ≡ y)
+-- for `leaves`, `leavesRows` and `leavesTable` alike, whatever is lent
+pub one-result : {A : Type 0} (a b : Answer) (x y : List A) (l : Left A) → leftOf a x ≡ l → leftOf b y ≡ l → (a ≡ b) × (x ≡ y)
 one-result a b x y l p q =
     let e : leftOf a x ≡ leftOf b y = p ∙ sym q in
     (λ i. record { number = e i .number; place = e i .place }, ap (λ z. z .lent) e)

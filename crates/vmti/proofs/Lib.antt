@@ -7,6 +7,7 @@ pub mod Normalising
 pub mod Written
 pub mod Editing
 pub mod Locating
+pub mod Showing
 pub mod Bounds
 pub mod Promised
 pub mod Lending

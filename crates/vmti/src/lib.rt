@@ -284,3 +284,4 @@ pub extern "C" fn vmti_edit(
 }
 
 pub mod table; // table.rt: rows as a lent slice of structs
+pub mod show; // show.rt: the part of one of two packets that is shown

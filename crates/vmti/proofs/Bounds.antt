@@ -25,13 +25,26 @@ use Rattle.format.proofs.demands.Sizes.{sizes}
 use Rattle.rows.specs.Meet.{numbers}
 use Rattle.rows.proofs.Numbers.{numbers-long}
 use Rattle.vmti.specs.declared.Answer.{Answer}
-use Rattle.vmti.specs.Meet.{leftOf, leavesRows}
+use Rattle.vmti.specs.declared.show.Part.{Part}
+use Rattle.vmti.specs.Meet.{leftOf, leavesRows, isDetectors, partShown}
+use Rattle.vmti.specs.Shows.{Names, Shows}
+use Rattle.vmti.proofs.Showing.{side-is}
 
 -- for `leaves`, `leavesRows` and `leavesTable` alike, whatever is lent
 pub one-result : {A : Type 0} (a b : Answer) (x y : List A) (l : Left A) → leftOf a x ≡ l → leftOf b y ≡ l → (a ≡ b) × (x ≡ y)
 one-result a b x y l p q =
     let e : leftOf a x ≡ leftOf b y = p ∙ sym q in
     (λ i. record { number = e i .number; place = e i .place }, ap (λ z. z .lent) e)
+
+-- `shown` names one part, and `show` hands back one list of bytes, at one place
+pub one-part : (f : Form) (r d : List ℕ) (h : Holder) (tag : ℕ) (a b : Part) → Names f r d h tag a → Names f r d h tag b → a ≡ b
+one-part f r d h tag a b p q =
+    let e : partShown a ≡ partShown b = p .0 ∙ sym (q .0) in
+    let s : a .detectors ≡ b .detectors = sym (side-is (a .detectors)) ∙ ap (λ x. isDetectors (x .side)) e ∙ side-is (b .detectors) in
+    λ i. record { detectors = s i; offset = e i .offset; size = e i .size }
+
+pub one-show : (f : Form) (r d : List ℕ) (pr pd : ℕ × ℕ) (h : Holder) (tag : ℕ) (v w : List ℕ) (j k : ℕ × ℕ) → Shows f r d pr pd h tag v j → Shows f r d pr pd h tag w k → (v ≡ w) × (j ≡ k)
+one-show f r d pr pd h tag v w j k p q = (p .0 ∙ sym (q .0), p .1 ∙ sym (q .1))
 
 -- ---- a refusal
 

@@ -12,3 +12,4 @@ pub mod Bounds
 pub mod Promised
 pub mod Lending
 pub mod Tabled
+pub mod Shown

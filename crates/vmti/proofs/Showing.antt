@@ -36,6 +36,7 @@ use Rattle.shows.specs.declared.Value.{Value}
 use Rattle.shows.specs.Meet.{valueOf, rowFor, rowIn}
 use Rattle.vmti.specs.declared.show.Part.{Part}
 use Rattle.vmti.specs.Meet.{rowNamed, ofTwo, sideOf, isDetectors, partShown, noPart, bytesShown, placeShown}
+use Rattle.vmti.specs.Shows.{Names}
 use Rattle.vmti.proofs.Opened.{fine, opened, start-is, set-room, lentSet, lent-is}
 
 -- ---- in one packet
@@ -58,11 +59,13 @@ module _ (f : Form) (s : List ℕ) (b : Bytes s) {a : Sizes} (t : checkedOf (par
   value-found (e, l) =
       let o = opened f s refl b t in
       let lent-long : length (lentSet f s refl b t ek) ≡ length s - k = ap length (tail-part k s) ∙ length-drop k s in
-      let entries : entriesOf set f (lentSet f s refl b t ek) ≡ o .es .val = ap (entriesOf set f) (lent-is f s refl b t ek) ∙ ap thingsOf (o .runs) in
-      (e ∙ ap (λ x. valueOf (rowIn h tag k x)) entries
-      ∙ ap (λ x. valueOf (rowIn h tag x (o .es .val))) (start-is f s refl b t ek)
-      ∙ ap valueOf (sym (bind-so (parse f s) _ (fine f s refl b t .0) (fine f s refl b t .1) ∙ row-is f s (fine f s refl b t .0) o h tag)),
-      omega (arith, set-room f s refl b t ek, lent-long))
+      let entries : entriesOf set f (lentSet f s refl b t ek) ≡ o .es .val = ap (entriesOf set f) (lent-is f s refl b t ek) ∙ ap thingsOf (o .runs) in (
+        e ∙ ap (λ x. valueOf (rowIn h tag k x)) entries
+            ∙ ap (λ x. valueOf (rowIn h tag x (o .es .val))) (start-is f s refl b t ek)
+            ∙ ap valueOf (sym (bind-so (parse f s) _ (fine f s refl b t .0) (fine f s refl b t .1) ∙ row-is f s (fine f s refl b t .0) o h tag)),
+        omega (arith, set-room f s refl b t ek, lent-long),
+      )
+
 -- ---- in two
 
 module _ {v : Value} (x y : Ans Row) (ev : v ≡ valueOf x) where
@@ -92,23 +95,19 @@ module _ {v : Value} (x y : Ans Row) (ev : v ≡ valueOf x) where
       go (refused n p) (ok r) e g = no-bool (sym zw ∙ ap (λ q. q .there) g)
       go (refused n p) (refused m q) e g = refl
 
--- what is answered: the part that is shown, within its packet
-abbrev pub Shows : List ℕ → List ℕ → Form → Holder → ℕ → Part → Type 0
-Shows r d f h tag p = (partShown p ≡ show f r d h tag) × (p .offset + p .size ≤ length (ofTwo (p .detectors) r d))
-
-module _ (r d : List ℕ) (f : Form) (h : Holder) (tag : ℕ) (hr : Bytes r) (hd : Bytes d) where
-  none-shown : {p : Part} → p ≡ noPart → show f r d h tag ≡ nothing → Shows r d f h tag p
+module _ (f : Form) (r d : List ℕ) (h : Holder) (tag : ℕ) (hr : Bytes r) (hd : Bytes d) where
+  none-shown : {p : Part} → p ≡ noPart → show f r d h tag ≡ nothing → Names f r d h tag p
   none-shown e z = (ap partShown e ∙ sym z, rw e (omega arith))
 
   module _ {a : Checked} (ea : a ≡ checkedOf (parse f r)) where
-    pub reviewer-wrong : {n k : ℕ} → a ≡ Wrong n k → {p : Part} → p ≡ noPart → Shows r d f h tag p
+    pub reviewer-wrong : {n k : ℕ} → a ≡ Wrong n k → {p : Part} → p ≡ noPart → Names f r d h tag p
     reviewer-wrong {n = n} {k = k} t e = none-shown e (shows f r d h tag hr hd .on-refused n k (inl (wrong-parsed f r n k (sym t ∙ ea))))
 
   module _ {b : Checked} (eb : b ≡ checkedOf (parse f d)) where
-    pub detector-wrong : {n k : ℕ} → b ≡ Wrong n k → {p : Part} → p ≡ noPart → Shows r d f h tag p
+    pub detector-wrong : {n k : ℕ} → b ≡ Wrong n k → {p : Part} → p ≡ noPart → Names f r d h tag p
     detector-wrong {n = n} {k = k} t e = none-shown e (shows f r d h tag hr hd .on-refused n k (inr (wrong-parsed f d n k (sym t ∙ eb))))
 
-  pub unnamed : {x : Bool} → x ≡ showable h tag → x ≡ false → {p : Part} → p ≡ noPart → Shows r d f h tag p
+  pub unnamed : {x : Bool} → x ≡ showable h tag → x ≡ false → {p : Part} → p ≡ noPart → Names f r d h tag p
   unnamed ex z e = none-shown e (shows f r d h tag hr hd .on-unnamed (sym ex ∙ z))
 
   module _ {a b : Sizes} (ta : checkedOf (parse f r) ≡ Fine a) (tb : checkedOf (parse f d) ≡ Fine b) (n : showable h tag ≡ true) where
@@ -117,14 +116,14 @@ module _ (r d : List ℕ) (f : Form) (h : Holder) (tag : ℕ) (hr : Bytes r) (hd
     in-two = rw (fine f r refl hr ta .1, fine f d refl hd tb .1) (rw (n, showIn))
 
     module _ {v : Value} (ev : (v ≡ valueOf (rowNamed h tag (parse f r))) × (v .offset + v .size ≤ length r)) where
-      pub reviewers : v .there ≡ true → Shows r d f h tag (record { detectors = false; offset = v .offset; size = v .size })
+      pub reviewers : v .there ≡ true → Names f r d h tag (record { detectors = false; offset = v .offset; size = v .size })
       reviewers z = (row-first _ _ (ev .0) z ∙ sym in-two, ev .1)
 
       module _ (z : v .there ≡ false) {w : Value} (ew : (w ≡ valueOf (rowNamed h tag (parse f d))) × (w .offset + w .size ≤ length d)) where
-        pub detectors : w .there ≡ true → Shows r d f h tag (record { detectors = true; offset = w .offset; size = w .size })
+        pub detectors : w .there ≡ true → Names f r d h tag (record { detectors = true; offset = w .offset; size = w .size })
         detectors y = (row-second _ _ (ev .0) z (ew .0) y ∙ sym in-two, ew .1)
 
-        pub neithers : w .there ≡ false → {p : Part} → p ≡ noPart → Shows r d f h tag p
+        pub neithers : w .there ≡ false → {p : Part} → p ≡ noPart → Names f r d h tag p
         neithers y e = none-shown e (in-two ∙ sym (row-none _ _ (ev .0) z (ew .0) y))
 
 -- ---- what may be shown
@@ -152,7 +151,7 @@ pub part-fits : (r d : List ℕ) (b : Bool) {m : ℕ} (n : ℕ) → m ≤ length
 part-fits r d true n h lr ld = omega arith
 part-fits r d false n h lr ld = omega arith
 
-side-is : (b : Bool) → isDetectors (sideOf b) ≡ b
+pub side-is : (b : Bool) → isDetectors (sideOf b) ≡ b
 side-is true = refl
 side-is false = refl
 

@@ -3,7 +3,6 @@ use Rattle.vmti.proofs.Showing.{zero-unnamed, set-named, target-named}
 use Rattle.vmti.proofs.show.is_showable.Statement.{statement}
 use Rattle.vmti.proofs.show.is_showable.Tie as tie
 
-
 returns : tie.Need-returns
 returns c = λ id. zero-unnamed (c .before .args .set) id (c .if1 .taken)
 

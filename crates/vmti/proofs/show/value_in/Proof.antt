@@ -9,7 +9,6 @@ use borrow.Author.Needs.{needs}
 use Rattle.vmti.proofs.show.value_in.Statement.{statement}
 use Rattle.vmti.proofs.show.value_in.Tie as tie
 
-
 set-start-requires : tie.Need-set-start-requires
 set-start-requires c κs = opened (formOf (c .before .args .alone)) (c .before .args .packet .now) refl (λ i. c .shared-slice-known .given i .fits) (c .before .pre .1 .1) .short
 

@@ -8,19 +8,19 @@ use mathlib.Core.List.{List, [], _∷_, _++_, append-nil, map}
 use lib.ListN.{length, length-append}
 use lib.Dec.{eqb}
 use borrow.Author.Tests.{eq-eqb, ne-eqb}
-use Rattle.format.specs.Answer.{Ans, ok, refused, _>>=_}
+use Rattle.format.specs.Answer.{ok, refused}
 use Rattle.format.specs.Coding.{oidBytes}
 use Rattle.format.specs.Lists.{flatAll, askHit}
-use Rattle.format.specs.Packet.{Item, Pack, Entry, plain, series, tagOfEntry, packBody, flatItem, flatPack, flatEntry}
+use Rattle.format.specs.Packet.{Item, Pack, Entry, plain, series, packBody, flatItem, flatPack, flatEntry}
 use Rattle.format.specs.Rows.{Row, row, itemRow, itemRows, packRows, entryRows}
 use Rattle.format.specs.Edit.{target, isSeries}
 use Rattle.format.specs.Show.{numberIn, seriesNumber, numberOf}
-use Rattle.format.specs.Valid.{All, Once}
+use Rattle.format.specs.Valid.{All}
 use Rattle.format.proofs.words.Answers.{never, no-bool}
 use Rattle.format.proofs.words.Keys.{all-map}
-use Rattle.format.proofs.rows.Find.{OneSeries, one-series}
+use Rattle.format.proofs.rows.Find.{OneSeries}
 use Rattle.items.proofs.Tests.{bind-so, bind-not}
-use Rattle.spots.specs.Meet.{hasTag, hasId}
+use Rattle.spots.specs.Meet.{hasId}
 use Rattle.spots.proofs.Splices.{Missed, Hit, Absent, spot-hits, place, ask-hit}
 use Rattle.shows.specs.Meet.{valueOf, rowFor, rowIn, packRowIn}
 

@@ -15,10 +15,9 @@ use Rattle.format.specs.Table.{Form, Level, set, pack, isSet}
 use Rattle.format.specs.Packet.{Item, Pack, Entry, plain, series, flatPack, flatEntry}
 use Rattle.format.specs.Read.{entry}
 use Rattle.format.specs.Rows.{Row, itemRow, entryRows}
-use Rattle.format.specs.Edit.{Holder, theSet, target, isSeries}
-use Rattle.format.specs.Edit as Edit
+use Rattle.format.specs.Edit.{Holder, target, isSeries}
 use Rattle.format.specs.Show.{numberOf, showable}
-use Rattle.format.proofs.words.Answers.{no-bool, and-both}
+use Rattle.format.proofs.words.Answers.{and-both}
 use Rattle.format.proofs.words.Keys.{all-map}
 use Rattle.format.proofs.reading.Packets.{set-says, set-once}
 use Rattle.format.proofs.rows.Find.{OneSeries, one-series}
@@ -29,14 +28,14 @@ use Rattle.heads.proofs.Heads.{mid-part}
 use Rattle.walks.specs.Meet.{stepAt, deepenAt}
 use Rattle.walks.specs.Runs.{Ran, levelRun, seriesRun}
 use Rattle.spots.specs.declared.Spot.{Spot}
-use Rattle.spots.specs.Meet.{thingsOf, hasTag, hasId, entriesOf, packsOf, entrySpot}
+use Rattle.spots.specs.Meet.{thingsOf, hasTag, entriesOf, packsOf}
 use Rattle.spots.proofs.Splices.{Missed, Absent, ask-absent}
-use Rattle.spots.proofs.Entries.{TagFound, tag-hit, tag-here, tag-is, tag-room, tag-one, tag-series, series-hit, no-series}
+use Rattle.spots.proofs.Entries.{TagFound, tag-hit, tag-here, tag-is, tag-room, tag-one, tag-series, series-hit}
 use Rattle.spots.proofs.Packs.{IdFound, id-hit, id-here, id-is, id-room, id-items, id-pack}
 use Rattle.edits.specs.Meet.{holderOf}
 use Rattle.shows.specs.declared.Value.{Value}
 use Rattle.shows.specs.Meet.{valueOf, rowFor, rowIn, packRowIn}
-use Rattle.shows.proofs.Passing.{Passed, past-entries, pack-none, pack-row, target-row}
+use Rattle.shows.proofs.Passing.{Passed, past-entries, pack-row, target-row}
 
 -- what is answered: the row's value, that ends at n at most
 abbrev pub Found : Ans Row → ℕ → Value → Type 0

@@ -1,5 +1,5 @@
 -- The call `shown`, case by case: a packet refused, no item named, and the value's part of the one packet or the other.
-use mathlib.Core.Path.{_≡_, refl, sym, ap, _∙_, subst}
+use mathlib.Core.Path.{_≡_, refl, sym, ap, _∙_}
 use mathlib.Core.Logic.{inl, inr}
 use Prim.Native.Nat.{ℕ, _+_, _-_, _≤_}
 use native.Mathlib.Omega.{arith}
@@ -13,7 +13,7 @@ use Rattle.format.specs.Coding.{Bytes}
 use Rattle.format.specs.Table.{Form, embedded, standalone, set}
 use Rattle.format.specs.Packet.{Entry, Packet}
 use Rattle.format.specs.Read.{opening, start, unsealed, parse}
-use Rattle.format.specs.Rows.{Row, rowsOf, entryRows}
+use Rattle.format.specs.Rows.{Row, entryRows}
 use Rattle.format.specs.Edit.{Holder}
 use Rattle.format.specs.Show.{reviewer, detector, Shown, shown, nothing, numberOf, findRow, showable, eitherRow, showIn, show}
 use Rattle.format.specs.demands.Rows.{part}

@@ -1,13 +1,12 @@
 -- What `show` hands back, of the call itself: from its contract, and what is shown of the definitions. A value is never empty.
-use mathlib.Core.Path.{_≡_, refl, sym, ap, _∙_, subst}
-use mathlib.Core.Logic.{_⊎_}
-use Prim.Native.Nat.{ℕ, _+_, _<_}
+use mathlib.Core.Path.{_≡_, refl, ap, _∙_, subst}
+use Prim.Native.Nat.{ℕ, _<_}
 use native.Mathlib.Omega.{arith}
 use mathlib.Core.Bool.{Bool, true, false}
-use mathlib.Core.List.{List, [], _∷_, _++_}
+use mathlib.Core.List.{List, [], _∷_}
 use lib.ListN.{length}
 use lib.Dec.{eqb}
-use Rattle.format.specs.Answer.{Ans, ok, refused}
+use Rattle.format.specs.Answer.{Ans, ok}
 use Rattle.format.specs.Coding.{Bytes}
 use Rattle.format.specs.Lists.{askHit}
 use Rattle.format.specs.Table.{Form, embedded, standalone}
@@ -15,10 +14,8 @@ use Rattle.format.specs.Packet.{Item, Pack, Entry, plain, series, Packet}
 use Rattle.format.specs.Read.{parse}
 use Rattle.format.specs.Rows.{sealItem, sealed}
 use Rattle.format.specs.Edit.{Holder, theSet, target}
-use Rattle.format.specs.Show.{Side, reviewer, detector, nothing, showable, show}
-use Rattle.format.specs.Show as Show
-use Rattle.format.specs.Valid.{All, Framed, ItemValid, PackValid, EntryValid, Valid}
-use Rattle.format.specs.demands.Rows.{part}
+use Rattle.format.specs.Show.{Side, reviewer, detector, nothing, show}
+use Rattle.format.specs.Valid.{All, Framed, ItemValid, PackValid, EntryValid}
 use Rattle.format.specs.demands.Shows.{itemValue, entryValue, packValue, valueIn, valueOf, ShownValue}
 use Rattle.format.specs.demands.Shows as Definitions
 use Rattle.format.proofs.words.Answers.{never, ok-inj}

@@ -1,13 +1,8 @@
 -- `shows::value_at` meets its contract.
-use mathlib.Core.Path.{refl}
 use Rattle.edits.specs.Meet.{holderOf}
 use Rattle.shows.proofs.Values.{showable-some, set-showable, of-set, of-target}
 use Rattle.shows.proofs.value_at.Statement.{statement}
 use Rattle.shows.proofs.value_at.Tie as tie
-use Rattle.shows.proofs.value_at.Reads as reads
-use Rattle.shows.proofs.value_at.Lts as lts
-use Rattle.shows.proofs.item_value.Reads as item-value-reads
-use Rattle.shows.proofs.target_value.Reads as target-value-reads
 
 item-value-requires : tie.Need-item-value-requires
 item-value-requires c κs = (c .before .before .pre .0, c .before .before .pre .1 .ran, set-showable (c .before .before .args .id) (c .before .before .args .tag) (c .if1 .taken) (c .before .before .pre .2))

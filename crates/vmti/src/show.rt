@@ -11,7 +11,7 @@ ghost use Rattle.walks.specs.declared.Checked.the-variants.{Fine};
 ghost use Rattle.walks.specs.Meet.{checkedOf};
 ghost use Rattle.edits.specs.Meet.{holderOf};
 ghost use Rattle.shows.specs.Meet.{valueOf};
-ghost use Rattle.vmti.specs.Meet.{rowOf, partShown, ofTwo, noPart, bytesShown, placeShown};
+ghost use Rattle.vmti.specs.Meet.{rowNamed, partShown, ofTwo, noPart, bytesShown, placeShown};
 use shows::Value;
 use walks::Checked;
 
@@ -49,7 +49,7 @@ fn is_showable(set: bool, tag: u64) -> bool
 // Where the item's value stands in a packet that was found fine.
 fn value_in(packet: &[u8], alone: bool, set: bool, id: u64, tag: u64) -> Value
     requires { ⌜ (Show.showable (holderOf set id) tag ≡ true) × ((a : Sizes) × (checkedOf (parse (formOf alone) (now packet)) ≡ Fine a)) ⌝ }
-    ensures { λ r. ⌜ (r ≡ valueOf (rowOf (holderOf set id) tag (parse (formOf alone) (now (packet .entry))))) × (r .offset + r .size ≤ length (now (packet .entry))) ⌝ }
+    ensures { λ r. ⌜ (r ≡ valueOf (rowNamed (holderOf set id) tag (parse (formOf alone) (now (packet .entry))))) × (r .offset + r .size ≤ length (now (packet .entry))) ⌝ }
 {
     let from = walks::whole::set_start(packet, alone);
     shows::value_at(&packet[from..], from, alone, set, id, tag)

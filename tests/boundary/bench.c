@@ -1,14 +1,14 @@
-/* Times the calls: prints for each call and packet their names, the packet's bytes and the nanoseconds of one call.
+/* Times the calls: prints for each call and input their names, the input's bytes and the nanoseconds of one call.
  *
  *   bench FILE.. */
 #define _POSIX_C_SOURCE 199309L
 #include <time.h>
-#include "packets.h"
+#include "inputs.h"
 
 /* As in tests/compare/src/bin/bench.rs. */
 enum { ROUNDS = 5, ROUND = 200000000 };
 
-static struct packet p;
+static struct input p;
 
 /* Nanoseconds of so many calls. */
 static double round_of(int which, unsigned long times)
@@ -44,9 +44,9 @@ int main(int argc, char **argv)
 {
     int i, which;
     for (i = 1; i < argc; i++) {
-        get_packet(&p, argv[i]);
-        for (which = 0; which < CALLS; which++) {
-            printf("%s %s %zu %.1f\n", calls[which].name, p.name, p.size, time_of(which));
+        get_input(&p, argv[i]);
+        for (which = 0; which < calls_on(&p); which++) {
+            printf("%s %s %zu %.1f\n", calls[which].name, p.name, given(&p, which), time_of(which));
             fflush(stdout);
         }
     }

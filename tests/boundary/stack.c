@@ -1,4 +1,4 @@
-/* How much of the stack the calls use: prints for each call and packet their names, the packet's bytes and those of
+/* How much of the stack the calls use: prints for each call and input their names, the input's bytes and those of
  * the stack, the few of its caller here with them, and fails if they are more than MOST.
  *
  *   stack FILE..
@@ -8,11 +8,11 @@
 #define _GNU_SOURCE
 #include <sys/mman.h>
 #include <ucontext.h>
-#include "packets.h"
+#include "inputs.h"
 
 enum { PAGE = 4096, ROOM = 16 * PAGE, MOST = 4096 };
 
-static struct packet p;
+static struct input p;
 static int which;
 static ucontext_t here, there;
 
@@ -47,11 +47,11 @@ int main(int argc, char **argv)
     if (all == MAP_FAILED || mprotect(all, PAGE, PROT_NONE) != 0)
         die("no memory", "stack");
     for (i = 1; i < argc; i++) {
-        get_packet(&p, argv[i]);
-        for (which = 0; which < CALLS; which++) {
+        get_input(&p, argv[i]);
+        for (which = 0; which < calls_on(&p); which++) {
             /* a byte that is written may be as the pattern was, but not as both */
             const size_t one = used(all + PAGE, 0xA5), other = used(all + PAGE, 0x5A), most = one < other ? other : one;
-            printf("%s %s %zu %zu\n", calls[which].name, p.name, p.size, most);
+            printf("%s %s %zu %zu\n", calls[which].name, p.name, given(&p, which), most);
             if (most > MOST) {
                 fprintf(stderr, "%s %s: over %d bytes of stack\n", calls[which].name, p.name, MOST);
                 over = 1;

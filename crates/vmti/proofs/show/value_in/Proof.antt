@@ -1,5 +1,6 @@
 -- `vmti::show::value_in` meets its contract.
 use mathlib.Core.Path.{refl}
+use native.Mathlib.Omega.{arith}
 use Rattle.items.specs.Meet.{formOf}
 use Rattle.edits.specs.Meet.{holderOf}
 use Rattle.vmti.proofs.Opened.{opened, set-room, set-long}
@@ -22,7 +23,13 @@ part-value-at-end : tie.Need-part-value-at-end
 part-value-at-end c = search needs
 
 value-at-requires : tie.Need-value-at-requires
-value-at-requires c κs = (set-long (formOf (c .before .before .before .args .alone)) (c .before .before .before .args .packet .now) refl (λ i. c .before .before .shared-slice-known .given i .fits) (c .before .before .before .pre .1 .1) (c .before .set-start .ensures), set-is (formOf (c .before .before .before .args .alone)) (c .before .before .before .args .packet .now) refl (λ i. c .before .before .shared-slice-known .given i .fits) (c .before .before .before .pre .1 .1) (c .before .set-start .ensures), c .before .before .before .pre .0)
+value-at-requires c κs =
+    let k = c .before .before in
+    let i = k .before in (
+      omega (arith, set-long (formOf (i .args .alone)) (i .args .packet .now) refl (λ n. k .shared-slice-known .given n .fits) (i .pre .1 .1) (c .before .set-start .ensures)),
+      set-is (formOf (i .args .alone)) (i .args .packet .now) refl (λ n. k .shared-slice-known .given n .fits) (i .pre .1 .1) (c .before .set-start .ensures),
+      i .pre .0,
+    )
 
 returns : tie.Need-returns
 returns c = value-found (formOf (c .before .before .before .before .args .alone)) (c .before .before .before .before .args .packet .now) (λ i. c .before .before .before .shared-slice-known .given i .fits) (c .before .before .before .before .pre .1 .1) (c .before .before .set-start .ensures) (holderOf (c .before .before .before .before .args .set) (c .before .before .before .before .args .id)) (c .before .before .before .before .args .tag) (c .value-at .ensures)

@@ -4,11 +4,11 @@ use mathlib.Core.Path.{_≡_, refl, _∙_, ap, sym}
 use mathlib.Core.List.{List, [], _∷_, _++_, map}
 use native.Mathlib.Omega.{arith}
 use native.Mathlib.Nat.{zero-add}
-use lib.ListN.{length, getD, drop, set, length-set}
+use lib.ListN.{length, drop, set, length-set}
 use lib.Seq.{sets, sets-eq, getD-drop, drop-drop}
 use Rattle.format.specs.Rows as Rows
 use Rattle.rows.specs.declared.table.Row.{Row}
-use Rattle.rows.specs.Meet.{numbers, tableRow, rowOf, rowAt, tableOf}
+use Rattle.rows.specs.Meet.{numbers, rowOf, rowAt, tableOf}
 
 pub table-long : (n : ℕ) (ns : List ℕ) → length (tableOf n ns) ≡ n
 unfolding tableOf

@@ -2,14 +2,13 @@
 use mathlib.Core.Path.{_≡_, refl, sym, ap, _∙_, subst}
 use Prim.Native.Nat.{ℕ, _*_, _≤_, _<_}
 use native.Mathlib.Omega.{arith}
-use mathlib.Core.List.{List, [], _++_, map}
+use mathlib.Core.List.{List, _++_, map}
 use lib.ListN.{length, drop, length-append}
 use borrow.Author.Tests.{le-leb, lt-leb, eq-eqb, ne-eqb}
 use Rattle.format.specs.Answer.{Ans, ok, refused}
 use Rattle.format.specs.Coding.{Bytes}
 use Rattle.format.specs.Table.{Form}
 use Rattle.format.specs.Rows.{Row, rowsOf, locate}
-use Rattle.format.specs.Room.{Left}
 use Rattle.format.proofs.demands.Sizes.{sizes as size-law}
 use Rattle.rows.specs.declared.table.Row as table
 use Rattle.rows.specs.Meet.{numbers, rowOf, tableOf}

@@ -1,5 +1,4 @@
 -- `vmti::table::numbered` meets its contract.
-use native.Mathlib.Omega.{arith}
 use borrow.Author.Needs.{needs}
 use Rattle.vmti.proofs.Tabled.{table-filled, table-asked}
 use Rattle.vmti.proofs.table.numbered.Statement.{statement}

@@ -1,0 +1,45 @@
+-- `vmtiask::main` is safe and ends: the turns that are left fall.
+use native.Mathlib.Omega.{arith}
+use Rattle.vmtiask.proofs.main.Statement.{statement}
+use Rattle.vmtiask.proofs.main.Tie as tie
+
+abbrev Inv-loop : tie.InvT-loop
+Inv-loop out₀ at₀ turns₀ more₀ out at turns more = Unit {0}
+
+abbrev μ-loop : tie.MeasureT-loop
+μ-loop out₀ at₀ turns₀ more₀ out at turns more = turns
+
+loop-holds : tie.Need-loop-holds Inv-loop μ-loop
+loop-holds c = tt
+
+question-requires : tie.Need-question-requires Inv-loop μ-loop
+question-requires c κs = tt
+
+sub-turns : tie.Need-sub-turns Inv-loop μ-loop
+sub-turns c = omega arith
+
+loop-less : tie.Need-loop-less Inv-loop μ-loop
+loop-less c = omega arith
+
+loop-again : tie.Need-loop-again Inv-loop μ-loop
+loop-again c = tt
+
+flush-requires : tie.Need-flush-requires Inv-loop μ-loop
+flush-requires c κs = tt
+
+returns : tie.Need-returns Inv-loop μ-loop
+returns c = tt
+
+pub main-spec : {M : Type 1} → statement M
+main-spec =
+    tie.close
+    (tie.spec
+    Inv-loop
+    μ-loop
+    loop-holds
+    question-requires
+    sub-turns
+    loop-less
+    loop-again
+    flush-requires
+    returns)

@@ -153,17 +153,27 @@ pub fn has_key(s: &[u8]) -> bool
     true
 }
 
-// The checksum of the first n bytes.
+// The same in 32 bits: what is added up in half the room takes less time.
+fn wide32(x: u8) -> u32
+    ensures { λ r. ⌜ (r ≡ x) × (r < 256) ⌝ }
+{
+    x as u32
+}
+
+// The checksum of the first n bytes: the high bytes and the low ones are added up apart, and put together once.
 pub fn sum_of(s: &[u8], n: usize) -> u64
     requires { ⌜ (n ≤ length (now s)) × (n ≤ 8192) ⌝ }
     ensures { λ r. ⌜ r ≡ checksum (take n (now (s .entry))) ⌝ }
 {
-    let mut t: u64 = 0;
+    let mut high: u32 = 0;
+    let mut low: u32 = 0;
     let mut i: usize = 0;
     while i + 1 < n {
-        t += wide(s[i]) * 256 + wide(s[i + 1]);
+        high += wide32(s[i]);
+        low += wide32(s[i + 1]);
         i += 2;
     }
+    let t = (high as u64) * 256 + (low as u64);
     if i < n {
         return (t + wide(s[i]) * 256) % 65536;
     }

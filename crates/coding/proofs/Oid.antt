@@ -139,3 +139,11 @@ module _ (s : List ℕ) (some : 0 < length s) (b : ℕ) (e : b ≡ getD s 0 0) (
   pub id-one : ok (got b 1) ≡ idOf s
   unfolding idOf
   id-one = oid-one 9 8 (omega arith)
+
+-- two bytes are a whole id, the first of them more than 80
+module _ (s : List ℕ) (some : 1 < length s) (a b : ℕ) (ea : a ≡ getD s 0 0) (eb : b ≡ getD s 1 0) (ha : 128 < a) (la : a < 256) (h : b < 128) where
+  pub id-two : ok (got ((a - 128) * 128 + b) 2) ≡ idOf s
+  unfolding idOf
+  id-two =
+      let l : OidLeft s 9 8 (a - 128) 1 = oid-more s 9 8 0 0 (oid-start s 9 8) a (a - 128) (omega arith) (omega arith) ea (omega arith) (omega arith) la in
+      oid-good 9 8 s _ 2 (oid-last s 9 8 (a - 128) 1 l b ((a - 128) * 128 + b) (omega arith) some eb (omega arith) h) (λ x. omega arith)

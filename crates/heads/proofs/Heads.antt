@@ -1,13 +1,14 @@
 -- Heads as the code reads them, case by case, and the room of all that a head says.
-use mathlib.Core.Path.{_≡_, refl, sym, ap, _∙_}
-use Prim.Native.Nat.{ℕ, _+_, _-_, _≤_, _<_}
+use mathlib.Core.Path.{_≡_, refl, sym, ap, _∙_, subst}
+use Prim.Native.Nat.{ℕ, _+_, _-_, _*_, _≤_, _<_}
 use native.Mathlib.Omega.{arith}
 use mathlib.Core.Bool.{Bool, true, false, not, _&&_, _||_}
 use mathlib.Core.List.{List}
 use lib.ListN.{length, take, drop, getD, length-drop}
+use lib.Seq.{getD-drop, getD-take, length-take-le}
 use lib.Dec.{leb, eqb}
 use borrow.Author.Tests.{le-leb, lt-leb, not-true, not-false}
-use Rattle.format.specs.Answer.{Ans, refused, Got, _>>=_, need}
+use Rattle.format.specs.Answer.{Ans, ok, refused, Got, got, _>>=_, need}
 use Rattle.format.specs.Coding.{Bytes, tagOf, idOf, lenOf}
 use Rattle.format.specs.Table.{Level, isSet}
 use Rattle.format.specs.Read.{headOf, packHead}
@@ -17,10 +18,10 @@ use Rattle.coding.specs.Code.{numOf}
 use Rattle.coding.specs.declared.Num.{Num}
 use Rattle.coding.specs.declared.Num.the-variants.{Value, Refused}
 use Rattle.coding.proofs.Lens.{len-small}
-use Rattle.coding.proofs.Oid.{tag-one}
+use Rattle.coding.proofs.Oid.{tag-one, id-one, id-two}
 use Rattle.coding.proofs.Rooms.{tail-part, tag-room, len-room}
 use Rattle.items.proofs.Tests.{bind-so, bind-not, need-so, need-not}
-use Rattle.heads.specs.Meet.{faultOf, itemHeadOf, packHeadOf}
+use Rattle.heads.specs.Meet.{faultOf, itemHeadOf, packHeadOf, PackHeadIf}
 use Rattle.heads.specs.declared.Head.{Head}
 use Rattle.heads.specs.declared.Head.the-variants.{Whole}
 
@@ -101,7 +102,7 @@ module _ (s : List ℕ) {b : Num} (eb : numOf b ≡ lenOf s) where
         unfolding packHead
         pack-head-whole e = sym (bind-so _ _ _ (said eb tb) ∙ need-so _ _ _ (le-leb (w + n) (length s) (omega arith)) ∙ bind-so _ _ _ (mid-said s w n ea e))
 
--- ---- heads with a byte each for the key and the length
+-- ---- heads with a byte for the length, and one for the key, or two for an id
 
 pub item-head-short : (l : Level) (s : List ℕ) (t n : ℕ) → t ≡ getD s 0 0 → n ≡ getD (drop 1 s) 0 0 → 0 < t → t < 128 → n < 128 → 1 + 1 + n ≤ length s → isSet l && eqb t 1 ≡ false
     → itemHeadOf (Whole t 1 1 n) ≡ headOf l s
@@ -109,6 +110,29 @@ item-head-short l s t n et en z th nh room p =
     let long : 0 < length (drop 1 s) = rw length-drop (omega arith) in
     let eb : numOf (Value n 1) ≡ lenOf (take (length s - 1) (drop 1 s)) = rw tail-part (len-small (drop 1 s) n en long nh) in
     item-head-whole s {a = Value t 1} (tag-one s (omega arith) t et th z) refl {b = Value n 1} eb refl l {x = false} (rw p) refl (omega arith) (omega arith)
+
+module _ (s : List ℕ) (n : ℕ) (en : n ≡ getD s 0 0) (nh : n < 128) (room : 1 + n ≤ length s) where
+  abbrev body : List ℕ
+  body = take n (drop 1 s)
+
+  body-long : length body ≡ n
+  body-long = length-take-le n (drop 1 s) (rw length-drop (omega arith))
+
+  body-at : (i : ℕ) → i < n → getD body i 0 ≡ getD s (1 + i) 0
+  body-at i h = getD-take n (drop 1 s) i 0 h ∙ getD-drop 1 s i 0
+
+  with-id : {k u : ℕ} → ok (got k u) ≡ idOf body → packHeadOf (Whole k u 1 n) ≡ packHead s
+  with-id {k = k} {u = u} e =
+      pack-head-whole s {b = Value n 1} (len-small s n en (omega arith) nh) refl (omega arith) (omega arith) {a = Value k u} (rw (mid-part 1 n s) e) refl
+
+  pub pack-head-one : (k : ℕ) → k ≡ getD s 1 0 → k < 128 → 0 < n → packHeadOf (Whole k 1 1 n) ≡ packHead s
+  pack-head-one k e h z = with-id (id-one body (rw body-long z) k (e ∙ sym (body-at 0 z)) h)
+
+  pub pack-head-two : (a b : ℕ) → a ≡ getD s 1 0 → b ≡ getD s 2 0 → 128 < a → a < 256 → b < 128 → 1 < n → packHeadOf (Whole ((a - 128) * 128 + b) 2 1 n) ≡ packHead s
+  pack-head-two a b ea eb ha la hb z = with-id (id-two body (rw body-long z) a b (ea ∙ sym (body-at 0 (omega arith))) (eb ∙ sym (body-at 1 z)) ha la hb)
+
+pub pack-head-if : (s : List ℕ) {h : Head} {k u w n : ℕ} → h ≡ Whole k u w n → PackHeadIf h s → packHeadOf (Whole k u w n) ≡ packHead s
+pack-head-if s e t = subst (λ h. PackHeadIf h s) e t
 
 -- ---- room: a head lies within the bytes with all that it heads
 

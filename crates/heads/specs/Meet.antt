@@ -28,6 +28,11 @@ abbrev pub packHeadOf : Head → Ans Read.PackHead
 packHeadOf (Whole k u w n) = ok (record { width = w; size = n; id = k; used = u })
 packHeadOf (Fault n) = refused n 0
 
+-- a look that may say nothing
+abbrev pub PackHeadIf : Head → List ℕ → Type 0
+PackHeadIf (Whole k u w n) s = packHeadOf (Whole k u w n) ≡ packHead s
+PackHeadIf (Fault n) s = Unit {0}
+
 -- ---- what was there before
 
 abbrev pub peekItem : Ans Read.Head → Got ℕ

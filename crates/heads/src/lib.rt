@@ -10,7 +10,7 @@ ghost use Rattle.format.specs.Lists.{has};
 ghost use Rattle.format.specs.Table.{isSet, isAlone};
 ghost use Rattle.format.specs.Read.{headOf, item, packHead};
 ghost use Rattle.items.specs.Meet.{formOf, levelOf};
-ghost use Rattle.heads.specs.Meet.{faultOf, itemHeadOf, packHeadOf, peek, Peeked, Heads, Past};
+ghost use Rattle.heads.specs.Meet.{faultOf, itemHeadOf, packHeadOf, PackHeadIf, peek, Peeked, Heads, Past};
 use coding::Num;
 
 // What heads an item or a pack: its key, how many bytes the key and the length take, and the length.
@@ -98,6 +98,73 @@ pub fn pack_head(s: &[u8]) -> Head
     let a = coding::id_of(&s[width..width + size]);
     let Num::Value { value: key, used } = a else {
         return fault_of(a);
+    };
+    Head::Whole {
+        key,
+        used,
+        width,
+        size,
+    }
+}
+
+// The same for a length in one byte and an id in one or two, as most are; a fault says nothing.
+fn short_pack_head(s: &[u8]) -> Head
+    ensures { λ r. ⌜ PackHeadIf r (now (s .entry)) ⌝ }
+{
+    if s.len() < 3 {
+        return Head::Fault(0);
+    }
+    let n = coding::wide(s[0]);
+    let size = n as usize;
+    if 127 < size {
+        return Head::Fault(0);
+    }
+    if s.len() - 1 < size {
+        return Head::Fault(0);
+    }
+    if size == 0 {
+        return Head::Fault(0);
+    }
+    let a = coding::wide(s[1]);
+    if a < 128 {
+        return Head::Whole {
+            key: a,
+            used: 1,
+            width: 1,
+            size,
+        };
+    }
+    let b = coding::wide(s[2]);
+    if 127 < b {
+        return Head::Fault(0);
+    }
+    if a == 128 {
+        return Head::Fault(0);
+    }
+    if size == 1 {
+        return Head::Fault(0);
+    }
+    Head::Whole {
+        key: (a - 128) * 128 + b,
+        used: 2,
+        width: 1,
+        size,
+    }
+}
+
+// The same as `pack_head`, the quick way first: for who reads pack after pack.
+pub fn quick_pack_head(s: &[u8]) -> Head
+    ensures { λ r. ⌜ packHeadOf r ≡ packHead (now (s .entry)) ⌝ }
+{
+    let h = short_pack_head(s);
+    let Head::Whole {
+        key,
+        used,
+        width,
+        size,
+    } = h
+    else {
+        return pack_head(s);
     };
     Head::Whole {
         key,

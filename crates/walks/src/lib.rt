@@ -312,7 +312,7 @@ pub fn pack_walk(table: &[u64], s: &[u8], alone: bool) -> Walked
     let mut top: u64 = 0;
     let mut low: u64 = 18446744073709551615;
     while p < s.len() {
-        let h = heads::pack_head(&s[p..]);
+        let h = heads::quick_pack_head(&s[p..]);
         let Head::Whole {
             key,
             used,

@@ -23,7 +23,7 @@ use Rattle.walks.proofs.pack_walk.Reads as pack-walk
 use Rattle.walks.proofs.pack_walk.Kinds as pack-walk-kinds
 use Rattle.walks.proofs.+item_walk+pack_walk.Lts-pack_walk as pack-walk-lts
 use Rattle.heads.proofs.is_seen.Reads as is-seen-reads
-use Rattle.heads.proofs.pack_head.Reads as pack-head-reads
+use Rattle.heads.proofs.quick_pack_head.Reads as quick-pack-head-reads
 use Rattle.walks.proofs.either.Reads as either-reads
 use Rattle.walks.proofs.is_series.Reads as is-series-reads
 use Rattle.walks.proofs.item_at.Reads as item-at-reads
@@ -66,7 +66,7 @@ abbrev item-claims : ℕ → item-walk-lts.Claims
 item-claims t = (run-reads.Asked, run-reads.Learnt, item-at-reads.Asked, item-at-reads.Learnt, stop-reads.Asked, stop-reads.Learnt, is-series-reads.Asked, is-series-reads.Learnt, pack-walk-below t, pack-walk.Post, series-of-reads.Asked, series-of-reads.Learnt, one-item-reads.Asked, one-item-reads.Learnt, later-reads.Asked, later-reads.Learnt, plus-reads.Asked, plus-reads.Learnt, either-reads.Asked, either-reads.Learnt, larger-reads.Asked, larger-reads.Learnt, smaller-reads.Asked, smaller-reads.Learnt)
 
 abbrev pack-claims : ℕ → pack-walk-lts.Claims
-pack-claims t = (pack-head-reads.Asked, pack-head-reads.Learnt, piece-fault-reads.Asked, piece-fault-reads.Learnt, stop-reads.Asked, stop-reads.Learnt, is-seen-reads.Asked, is-seen-reads.Learnt, run-reads.Asked, run-reads.Learnt, item-walk-below t, item-walk.Post, later-reads.Asked, later-reads.Learnt, either-reads.Asked, either-reads.Learnt, pack-sizes-reads.Asked, pack-sizes-reads.Learnt, plus-reads.Asked, plus-reads.Learnt, larger-reads.Asked, larger-reads.Learnt, smaller-reads.Asked, smaller-reads.Learnt)
+pack-claims t = (quick-pack-head-reads.Asked, quick-pack-head-reads.Learnt, piece-fault-reads.Asked, piece-fault-reads.Learnt, stop-reads.Asked, stop-reads.Learnt, is-seen-reads.Asked, is-seen-reads.Learnt, run-reads.Asked, run-reads.Learnt, item-walk-below t, item-walk.Post, later-reads.Asked, later-reads.Learnt, either-reads.Asked, either-reads.Learnt, pack-sizes-reads.Asked, pack-sizes-reads.Learnt, plus-reads.Asked, plus-reads.Learnt, larger-reads.Asked, larger-reads.Learnt, smaller-reads.Asked, smaller-reads.Learnt)
 
 -- ---- the item walk
 
@@ -218,8 +218,8 @@ pack-here : (t : ℕ) (a : pack-walk-lts.After-h (pack-claims t) (pack-walk-at t
 pack-here t a = record {
   going = a .before .before .before .before .before .loop .inv;
   here = a .before .before .before .before .loop-test .taken;
-  it = a .before .before .pack-head .result;
-  told = a .before .before .pack-head .ensures;
+  it = a .before .before .quick-pack-head .result;
+  told = a .before .before .quick-pack-head .ensures;
   is = a .h .given .1;
   bytes = λ i. a .before .before .before .before .before .before .shared-slice-known2 .given i .fits;
   most = a .before .before .before .before .before .before .before .before .pre .1 .1;
@@ -241,17 +241,17 @@ either-is false m e = e
 pack-walk-loop-holds : (t : ℕ) → pack-walk-lts.Need-loop-holds (pack-claims t) (pack-walk-at t) pack-walk.Post pack-walk-Inv-loop pack-walk-μ-loop
 pack-walk-loop-holds t c = series-start _ _
 
-pack-walk-sub-pack-head : (t : ℕ) → pack-walk-lts.Need-sub-pack-head (pack-claims t) (pack-walk-at t) pack-walk.Post pack-walk-Inv-loop pack-walk-μ-loop
-pack-walk-sub-pack-head t c = search needs
+pack-walk-sub-quick-pack-head : (t : ℕ) → pack-walk-lts.Need-sub-quick-pack-head (pack-claims t) (pack-walk-at t) pack-walk.Post pack-walk-Inv-loop pack-walk-μ-loop
+pack-walk-sub-quick-pack-head t c = search needs
 
-pack-walk-part-pack-head-start : (t : ℕ) → pack-walk-lts.Need-part-pack-head-start (pack-claims t) (pack-walk-at t) pack-walk.Post pack-walk-Inv-loop pack-walk-μ-loop
-pack-walk-part-pack-head-start t c = search needs
+pack-walk-part-quick-pack-head-start : (t : ℕ) → pack-walk-lts.Need-part-quick-pack-head-start (pack-claims t) (pack-walk-at t) pack-walk.Post pack-walk-Inv-loop pack-walk-μ-loop
+pack-walk-part-quick-pack-head-start t c = search needs
 
-pack-walk-part-pack-head-end : (t : ℕ) → pack-walk-lts.Need-part-pack-head-end (pack-claims t) (pack-walk-at t) pack-walk.Post pack-walk-Inv-loop pack-walk-μ-loop
-pack-walk-part-pack-head-end t c = search needs
+pack-walk-part-quick-pack-head-end : (t : ℕ) → pack-walk-lts.Need-part-quick-pack-head-end (pack-claims t) (pack-walk-at t) pack-walk.Post pack-walk-Inv-loop pack-walk-μ-loop
+pack-walk-part-quick-pack-head-end t c = search needs
 
-pack-walk-pack-head-requires : (t : ℕ) → pack-walk-lts.Need-pack-head-requires (pack-claims t) (pack-walk-at t) pack-walk.Post pack-walk-Inv-loop pack-walk-μ-loop
-pack-walk-pack-head-requires t c κs = search needs
+pack-walk-quick-pack-head-requires : (t : ℕ) → pack-walk-lts.Need-quick-pack-head-requires (pack-claims t) (pack-walk-at t) pack-walk.Post pack-walk-Inv-loop pack-walk-μ-loop
+pack-walk-quick-pack-head-requires t c κs = search needs
 
 pack-walk-enum-known-h : (t : ℕ) → pack-walk-lts.Need-enum-known-h (pack-claims t) (pack-walk-at t) pack-walk.Post pack-walk-Inv-loop pack-walk-μ-loop
 pack-walk-enum-known-h t c = search needs
@@ -266,7 +266,7 @@ pack-walk-stop-requires : (t : ℕ) → pack-walk-lts.Need-stop-requires (pack-c
 pack-walk-stop-requires t c κs = search needs
 
 pack-walk-returns : (t : ℕ) → pack-walk-lts.Need-returns (pack-claims t) (pack-walk-at t) pack-walk.Post pack-walk-Inv-loop pack-walk-μ-loop
-pack-walk-returns t c = head-fault _ (c .before .before .before .before .before .before .before .loop .inv) (c .before .before .before .before .before .before .loop-test .taken) _ (c .before .before .before .before .pack-head .ensures) (c .before .before .enum-told .given .1) (c .before .piece-fault .ensures) (c .stop .ensures)
+pack-walk-returns t c = head-fault _ (c .before .before .before .before .before .before .before .loop .inv) (c .before .before .before .before .before .before .loop-test .taken) _ (c .before .before .before .before .quick-pack-head .ensures) (c .before .before .enum-told .given .1) (c .before .piece-fault .ensures) (c .stop .ensures)
 
 pack-walk-is-seen-requires : (t : ℕ) → pack-walk-lts.Need-is-seen-requires (pack-claims t) (pack-walk-at t) pack-walk.Post pack-walk-Inv-loop pack-walk-μ-loop
 pack-walk-is-seen-requires t c κs = search needs
@@ -406,8 +406,8 @@ pub +item-walk+pack-walk-spec : {M : Type 1} → statement M
     (item-walk-either-requires t) (item-walk-larger-requires t) (item-walk-smaller-requires t) (item-walk-loop-less t)
     (item-walk-loop-again t) (item-walk-returns-3 t))
     (λ t. pack-walk-lts.spec (pack-claims t) (pack-walk-at t) pack-walk.Post pack-walk-Inv-loop pack-walk-μ-loop
-    (pack-walk-loop-holds t) (pack-walk-sub-pack-head t) (pack-walk-part-pack-head-start t) (pack-walk-part-pack-head-end t)
-    (pack-walk-pack-head-requires t) (pack-walk-enum-known-h t) (pack-walk-enum-told t) (pack-walk-piece-fault-requires t)
+    (pack-walk-loop-holds t) (pack-walk-sub-quick-pack-head t) (pack-walk-part-quick-pack-head-start t) (pack-walk-part-quick-pack-head-end t)
+    (pack-walk-quick-pack-head-requires t) (pack-walk-enum-known-h t) (pack-walk-enum-told t) (pack-walk-piece-fault-requires t)
     (pack-walk-stop-requires t) (pack-walk-returns t) (pack-walk-is-seen-requires t) (pack-walk-returns-2 t)
     (pack-walk-add-from t) (pack-walk-add-from-2 t) (pack-walk-add-next t) (pack-walk-add-next-2 t)
     (pack-walk-sub-items t) (pack-walk-part-items-start t) (pack-walk-part-items-end t) (pack-walk-run-requires t) (pack-walk-item-walk-requires t)

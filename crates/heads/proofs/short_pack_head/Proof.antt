@@ -1,0 +1,88 @@
+-- `heads::short_pack_head` meets its contract: each fault says nothing.
+use native.Mathlib.Omega.{arith}
+use borrow.Author.Needs.{needs}
+use Rattle.heads.proofs.Heads.{pack-head-one, pack-head-two}
+use Rattle.heads.proofs.short_pack_head.Statement.{statement}
+use Rattle.heads.proofs.short_pack_head.Tie as tie
+
+returns : tie.Need-returns
+returns c = search needs
+
+shared-slice-read-wide : tie.Need-shared-slice-read-wide
+shared-slice-read-wide c = search needs
+
+wide-requires : tie.Need-wide-requires
+wide-requires c κs = search needs
+
+returns-2 : tie.Need-returns-2
+returns-2 c = search needs
+
+sub-if3 : tie.Need-sub-if3
+sub-if3 c = search needs
+
+returns-3 : tie.Need-returns-3
+returns-3 c = search needs
+
+returns-4 : tie.Need-returns-4
+returns-4 c = search needs
+
+shared-slice-read-wide-2 : tie.Need-shared-slice-read-wide-2
+shared-slice-read-wide-2 c = search needs
+
+wide-requires-2 : tie.Need-wide-requires-2
+wide-requires-2 c κs = search needs
+
+returns-5 : tie.Need-returns-5
+returns-5 c =
+    let n = c .before .before .before in
+    pack-head-one _ _ (n .before .before .before .wide .ensures .0) (omega (arith, n .before .before .if2 .left)) (omega (arith, n .before .if3 .left, n .before .before .before .before .before .if1 .left)) _ (c .before .wide2 .ensures .0) (c .if5 .taken) (omega (arith, n .if4 .left))
+
+shared-slice-read-wide-3 : tie.Need-shared-slice-read-wide-3
+shared-slice-read-wide-3 c = search needs
+
+wide-requires-3 : tie.Need-wide-requires-3
+wide-requires-3 c κs = search needs
+
+returns-6 : tie.Need-returns-6
+returns-6 c = search needs
+
+returns-7 : tie.Need-returns-7
+returns-7 c = search needs
+
+returns-8 : tie.Need-returns-8
+returns-8 c = search needs
+
+mul-t14 : tie.Need-mul-t14
+mul-t14 c = search needs
+
+add-t15 : tie.Need-add-t15
+add-t15 c = search needs
+
+returns-9 : tie.Need-returns-9
+returns-9 c =
+    let n = c .before .before .before .before .before .before .before .before in
+    let a = c .before .before .before .before .before .before .wide2 .ensures in
+    pack-head-two _ _ (n .before .before .before .wide .ensures .0) (omega (arith, n .before .before .if2 .left)) (omega (arith, n .before .if3 .left, n .before .before .before .before .before .if1 .left)) _ _ (a .0) (c .before .before .before .wide3 .ensures .0) (omega (arith, c .before .before .before .before .before .if5 .left, c .before .if7 .left)) (a .1) (omega (arith, c .before .before .if6 .left)) (omega (arith, c .if8 .left, n .if4 .left))
+
+pub short-pack-head-spec : {M : Type 1} → statement M
+short-pack-head-spec =
+    tie.close
+    (tie.spec
+    returns
+    shared-slice-read-wide
+    wide-requires
+    returns-2
+    sub-if3
+    returns-3
+    returns-4
+    shared-slice-read-wide-2
+    wide-requires-2
+    returns-5
+    shared-slice-read-wide-3
+    wide-requires-3
+    returns-6
+    returns-7
+    returns-8
+    mul-t14
+    add-t15
+    returns-9)

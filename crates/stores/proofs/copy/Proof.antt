@@ -1,61 +1,53 @@
--- `stores::copy` meets its contract.
-use Prim.Native.Nat.{_-_}
-use mathlib.Core.Path.{refl}
-use native.Mathlib.Omega.{arith}
-use lib.ListN.{length}
-use Rattle.stores.proofs.Stores.{CopyLeft, copy-start, copy-step, copy-done}
+-- `stores::copy` meets its contract: one run of bytes after another.
+use borrow.Author.Needs.{needs}
+use Rattle.stores.proofs.Stores.{copy-start, copy-run, copy-rest}
 use Rattle.stores.proofs.copy.Statement.{statement}
 use Rattle.stores.proofs.copy.Tie as tie
 
-abbrev Inv-loop : tie.InvT-loop
-Inv-loop out₀ at s i₀ out i = CopyLeft out₀ at s out i
+copy-one-requires : tie.Need-copy-one-requires
+copy-one-requires c κs = search needs
 
-abbrev μ-loop : tie.MeasureT-loop
-μ-loop out₀ at s i₀ out i = length s - i
+copy-two-requires : tie.Need-copy-two-requires
+copy-two-requires c κs = search needs
 
-loop-holds : tie.Need-loop-holds Inv-loop μ-loop
-loop-holds c = copy-start _ _ _
+copy-four-requires : tie.Need-copy-four-requires
+copy-four-requires c κs = search needs
 
-shared-slice-read-out : tie.Need-shared-slice-read-out Inv-loop μ-loop
-shared-slice-read-out c = omega arith
+add-copy-long : tie.Need-add-copy-long
+add-copy-long c = search needs
 
-add-out : tie.Need-add-out Inv-loop μ-loop
-add-out c = omega arith
+sub-copy-long : tie.Need-sub-copy-long
+sub-copy-long c = search needs
 
-slice-write-out : tie.Need-slice-write-out Inv-loop μ-loop
-slice-write-out c = omega arith
+part-copy-long-start : tie.Need-part-copy-long-start
+part-copy-long-start c = search needs
 
-add-i : tie.Need-add-i Inv-loop μ-loop
-add-i c = omega arith
+part-copy-long-end : tie.Need-part-copy-long-end
+part-copy-long-end c = search needs
 
-loop-less : tie.Need-loop-less Inv-loop μ-loop
-loop-less c = omega arith
+copy-long-requires : tie.Need-copy-long-requires
+copy-long-requires c κs = search needs
 
-loop-again : tie.Need-loop-again Inv-loop μ-loop
-loop-again c = copy-step _ _ _ _ _ (c .before .before .loop .inv) (omega arith)
+same-length : tie.Need-same-length
+same-length c = search needs
 
-add-result : tie.Need-add-result Inv-loop μ-loop
-add-result c = omega arith
-
-same-length : tie.Need-same-length Inv-loop μ-loop
-same-length c = omega arith
-
-returns : tie.Need-returns Inv-loop μ-loop
-returns c = (refl, copy-done _ _ _ _ _ (c .before .loop .inv) (omega arith))
+returns : tie.Need-returns
+returns c =
+    let a = c .before .before .before .before .before .before .before .before .before .before .before .before .before .before .before .copy-one .ensures in
+    let b = c .before .before .before .before .before .before .before .before .before .before .before .copy-two .ensures in
+    copy-rest (copy-run (copy-run (copy-run (copy-start _ _ _) a) b) (c .before .before .before .before .before .before .before .copy-four .ensures)) (c .before .before .copy-long .ensures)
 
 pub copy-spec : {M : Type 1} → statement M
 copy-spec =
     tie.close
     (tie.spec
-    Inv-loop
-    μ-loop
-    loop-holds
-    shared-slice-read-out
-    add-out
-    slice-write-out
-    add-i
-    loop-less
-    loop-again
-    add-result
+    copy-one-requires
+    copy-two-requires
+    copy-four-requires
+    add-copy-long
+    sub-copy-long
+    part-copy-long-start
+    part-copy-long-end
+    copy-long-requires
     same-length
     returns)

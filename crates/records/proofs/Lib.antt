@@ -3,6 +3,7 @@ pub mod Opens
 pub mod Parts
 pub mod Runs
 pub mod PartTurns
+pub mod Glances
 pub mod TargetTurns
 pub mod Sheeting
 pub mod Sizings

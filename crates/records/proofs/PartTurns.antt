@@ -34,13 +34,10 @@ use Rattle.walks.proofs.Series.{after-not}
 use Rattle.walks.proofs.ItemTurns.{level-is}
 use Rattle.walks.proofs.Turns.{Reads, within-of, turn-bad, turn-more}
 use Rattle.records.specs.Meet.{partPiece, moreAt, partStep, weightAt, recordsWalk, targetsWalk}
+use Rattle.records.specs.Going.{RecordsGoing}
 use Rattle.records.proofs.Parts.{part-fault, ValueStood, value-stood, SeriesStood, series-stood}
 use Rattle.walks.proofs.Maps.{walked-good, walked-bad}
 use Rattle.records.proofs.Runs.{targets-used, slim-targets, slim-series}
-
-abbrev pub RecordsGoing : Bool → Form → List ℕ → ℕ → Sizes → Bool → ℕ → ℕ → Type 0
-RecordsGoing b f s p a m top low =
-    Going (peek true false b) (moreAt (levelOf b)) (weightAt (levelOf b)) (λ x. eqb (tagOfPart x) (markTag (levelOf b))) tagOfPart (partStep (levelOf b) f) (recordsWalk (levelOf b) f s) s p a m top low
 
 pub records-start : (b : Bool) (f : Form) (s : List ℕ) → RecordsGoing b f s 0 noSizes false 0 18446744073709551615
 unfolding recordsWalk

@@ -138,16 +138,12 @@ pub fn item_records(table: &[u64], s: &[u8], set: bool, alone: bool) -> Walked
     requires { ⌜ (now table ≡ itemTable) × (length (now s) ≤ 65536) ⌝ }
     ensures { λ r. ⌜ (r ≡ recordsWalk (levelOf set) (formOf alone) (now (s .entry))) × Within r (length (now (s .entry))) ⌝ }
 {
-    let mut p: usize = 0;
-    let mut sum = Sizes {
-        sheet: 0,
-        rows: 0,
-        normal: 0,
-        inner: 0,
-    };
-    let mut mark = false;
-    let mut top: u64 = 0;
-    let mut low: u64 = 18446744073709551615;
+    let q = quick::start(table, s, set, alone);
+    let mut p = q.at;
+    let mut sum = q.sizes;
+    let mut mark = q.mark;
+    let mut top = q.top;
+    let mut low = q.low;
     while p < s.len() {
         if !goes_on(s, p, set) {
             return Walked::Good { sizes: sum, mark };
@@ -248,4 +244,5 @@ pub enum Sheeted {
     },
 }
 
+pub mod quick; // quick.rt: the quick way over a target
 pub mod whole; // whole.rt: the whole sheet

@@ -14,8 +14,9 @@ use Rattle.format.specs.Table.{isAlone}
 use Rattle.items.specs.Meet.{formOf}
 use Rattle.walks.specs.Meet.{plusSizes}
 use Rattle.walks.proofs.Turns.{within-more, turn-done, turn-over}
+use Rattle.records.specs.Going.{RecordsGoing}
 use Rattle.walks.proofs.ItemTurns.{depth, series-deep}
-use Rattle.records.proofs.PartTurns.{PartAt, RecordsGoing, records-start, piece-fault, PartTold, item-small, item-told, series-room, lent-small, series-told, part-bad, bad-within, part-room, good-small, part-more}
+use Rattle.records.proofs.PartTurns.{PartAt, piece-fault, PartTold, item-small, item-told, series-room, lent-small, series-told, part-bad, bad-within, part-room, good-small, part-more}
 use Rattle.records.proofs.TargetTurns.{TargetAt, TargetsGoing, targets-start, head-fault, target-room, vals-within, vals-fault, next-room, vals-small, no-location, target-small, target-more}
 use Rattle.records.proofs.TargetTurns as target-turns
 use Rattle.records.proofs.item_records.Reads as item-records
@@ -27,6 +28,7 @@ use Rattle.records.proofs.+item_records+target_records.Lts-target_recor
 use Rattle.coding.proofs.widths.oid_width.Reads as oid-width-reads
 use Rattle.heads.proofs.records.is_mark.Reads as is-mark-reads
 use Rattle.records.proofs.goes_on.Reads as goes-on-reads
+use Rattle.records.proofs.quick.start.Reads as start-reads
 use Rattle.walks.proofs.later.Reads as later-reads
 use Rattle.records.proofs.part_at.Reads as part-at-reads
 use Rattle.walks.proofs.series_of.Reads as series-of-reads
@@ -79,7 +81,7 @@ target-records-below t =
 
 -- what is known of the callees, the other walk's at a smaller measure
 abbrev item-claims : ℕ → item-records-lts.Claims
-item-claims t = (goes-on-reads.Asked, goes-on-reads.Learnt, part-at-reads.Asked, part-at-reads.Learnt, stop-reads.Asked, stop-reads.Learnt, is-series-reads.Asked, is-series-reads.Learnt, target-records-below t, target-records.Post, series-of-reads.Asked, series-of-reads.Learnt, one-item-reads.Asked, one-item-reads.Learnt, later-reads.Asked, later-reads.Learnt, plus-reads.Asked, plus-reads.Learnt, either-reads.Asked, either-reads.Learnt, larger-reads.Asked, larger-reads.Learnt, smaller-reads.Asked, smaller-reads.Learnt)
+item-claims t = (start-reads.Asked, start-reads.Learnt, goes-on-reads.Asked, goes-on-reads.Learnt, part-at-reads.Asked, part-at-reads.Learnt, stop-reads.Asked, stop-reads.Learnt, is-series-reads.Asked, is-series-reads.Learnt, target-records-below t, target-records.Post, series-of-reads.Asked, series-of-reads.Learnt, one-item-reads.Asked, one-item-reads.Learnt, later-reads.Asked, later-reads.Learnt, plus-reads.Asked, plus-reads.Learnt, either-reads.Asked, either-reads.Learnt, larger-reads.Asked, larger-reads.Learnt, smaller-reads.Asked, smaller-reads.Learnt)
 
 abbrev target-claims : ℕ → target-records-lts.Claims
 target-claims t = (is-mark-reads.Asked, is-mark-reads.Learnt, target-at-reads.Asked, target-at-reads.Learnt, stop-reads.Asked, stop-reads.Learnt, item-records-below t, item-records.Post, later-reads.Asked, later-reads.Learnt, either-reads.Asked, either-reads.Learnt, oid-width-reads.Asked, oid-width-reads.Learnt, pack-sizes-reads.Asked, pack-sizes-reads.Learnt, plus-reads.Asked, plus-reads.Learnt, larger-reads.Asked, larger-reads.Learnt, smaller-reads.Asked, smaller-reads.Learnt)
@@ -92,7 +94,7 @@ item-records-μ-loop table s set alone p₀ sum₀ mark₀ top₀ low₀ p sum m
 
 -- a record, where it was read
 part-here : (t : ℕ) (a : item-records-lts.After-a (item-claims t) (item-records-at t) item-records.Post item-records-Inv-loop item-records-μ-loop)
-    → PartAt (a .before .before .before .before .before .before .before .before .before .args .set) (formOf (a .before .before .before .before .before .before .before .before .before .args .alone)) (a .before .before .before .before .before .before .before .before .before .args .s .now) (a .before .before .before .before .before .before .loop .p) (a .before .before .before .before .before .before .loop .sum) (a .before .before .before .before .before .before .loop .mark) (a .before .before .before .before .before .before .loop .top) (a .before .before .before .before .before .before .loop .low) (a .a .given .0 .0) (a .a .given .0 .1 .0) (a .a .given .0 .1 .1 .0) (a .a .given .0 .1 .1 .1 .0)
+    → PartAt (a .before .before .before .before .before .before .before .before .before .before .before .args .set) (formOf (a .before .before .before .before .before .before .before .before .before .before .before .args .alone)) (a .before .before .before .before .before .before .before .before .before .before .before .args .s .now) (a .before .before .before .before .before .before .loop .p) (a .before .before .before .before .before .before .loop .sum) (a .before .before .before .before .before .before .loop .mark) (a .before .before .before .before .before .before .loop .top) (a .before .before .before .before .before .before .loop .low) (a .a .given .0 .0) (a .a .given .0 .1 .0) (a .a .given .0 .1 .1 .0) (a .a .given .0 .1 .1 .1 .0)
 part-here t a = record {
   going = a .before .before .before .before .before .before .loop .inv;
   here = a .before .before .before .before .before .loop-test .taken;
@@ -100,8 +102,8 @@ part-here t a = record {
   it = a .before .before .part-at .result;
   told = a .before .before .part-at .ensures;
   whole = a .a .given .1;
-  bytes = λ i. a .before .before .before .before .before .before .before .shared-slice-known2 .given i .fits;
-  most = a .before .before .before .before .before .before .before .before .before .pre .1 .1;
+  bytes = λ i. a .before .before .before .before .before .before .before .before .before .shared-slice-known2 .given i .fits;
+  most = a .before .before .before .before .before .before .before .before .before .before .before .pre .1 .1;
 }
 
 -- what it says, whichever way it was walked
@@ -113,8 +115,11 @@ part-told-at t j =
     (λ x. item-told (part-here t a) (j .before .is-series .ensures) (x .0 .left) (x .2 ∙ x .1 .ensures))
     (j .if2 .came)
 
+item-records-start-requires : (t : ℕ) → item-records-lts.Need-start-requires (item-claims t) (item-records-at t) item-records.Post item-records-Inv-loop item-records-μ-loop
+item-records-start-requires t c κs = c .before .before .pre .1
+
 item-records-loop-holds : (t : ℕ) → item-records-lts.Need-loop-holds (item-claims t) (item-records-at t) item-records.Post item-records-Inv-loop item-records-μ-loop
-item-records-loop-holds t c = records-start _ _ _
+item-records-loop-holds t c = c .before .start .ensures
 
 item-records-goes-on-requires : (t : ℕ) → item-records-lts.Need-goes-on-requires (item-claims t) (item-records-at t) item-records.Post item-records-Inv-loop item-records-μ-loop
 item-records-goes-on-requires t c κs = search needs
@@ -123,7 +128,7 @@ item-records-returns : (t : ℕ) → item-records-lts.Need-returns (item-claims 
 item-records-returns t c = turn-over (c .before .before .before .loop .inv) (c .before .before .loop-test .taken) (sym (c .before .goes-on .ensures) ∙ not-true _ (c .if1 .taken))
 
 item-records-part-at-requires : (t : ℕ) → item-records-lts.Need-part-at-requires (item-claims t) (item-records-at t) item-records.Post item-records-Inv-loop item-records-μ-loop
-item-records-part-at-requires t c κs = (c .before .before .before .before .before .before .pre .1 .0, omega (arith, c .before .before .loop-test .taken))
+item-records-part-at-requires t c κs = (c .before .before .before .before .before .before .before .before .pre .1 .0, omega (arith, c .before .before .loop-test .taken))
 
 item-records-enum-known-a : (t : ℕ) → item-records-lts.Need-enum-known-a (item-claims t) (item-records-at t) item-records.Post item-records-Inv-loop item-records-μ-loop
 item-records-enum-known-a t c = search needs
@@ -143,28 +148,28 @@ item-records-is-series-requires t c κs = search needs
 item-records-add-target-records : (t : ℕ) → item-records-lts.Need-add-target-records (item-claims t) (item-records-at t) item-records.Post item-records-Inv-loop item-records-μ-loop
 item-records-add-target-records t c =
     let a = c .before .before .before in
-    omega (arith, series-room (part-here t a) (c .before .is-series .ensures) (c .if2 .taken), a .before .before .before .before .before .before .before .before .before .pre .1 .1)
+    omega (arith, series-room (part-here t a) (c .before .is-series .ensures) (c .if2 .taken), a .before .before .before .before .before .before .before .before .before .before .before .pre .1 .1)
 
 item-records-sub-target-records : (t : ℕ) → item-records-lts.Need-sub-target-records (item-claims t) (item-records-at t) item-records.Post item-records-Inv-loop item-records-μ-loop
 item-records-sub-target-records t c =
     let a = c .before .before .before in
-    omega (arith, series-room (part-here t a) (c .before .is-series .ensures) (c .if2 .taken), a .before .before .before .before .before .before .before .before .before .pre .1 .1)
+    omega (arith, series-room (part-here t a) (c .before .is-series .ensures) (c .if2 .taken), a .before .before .before .before .before .before .before .before .before .before .before .pre .1 .1)
 
 item-records-part-target-records-start : (t : ℕ) → item-records-lts.Need-part-target-records-start (item-claims t) (item-records-at t) item-records.Post item-records-Inv-loop item-records-μ-loop
 item-records-part-target-records-start t c =
     let a = c .before .before .before in
-    omega (arith, series-room (part-here t a) (c .before .is-series .ensures) (c .if2 .taken), a .before .before .before .before .before .before .before .before .before .pre .1 .1)
+    omega (arith, series-room (part-here t a) (c .before .is-series .ensures) (c .if2 .taken), a .before .before .before .before .before .before .before .before .before .before .before .pre .1 .1)
 
 item-records-part-target-records-end : (t : ℕ) → item-records-lts.Need-part-target-records-end (item-claims t) (item-records-at t) item-records.Post item-records-Inv-loop item-records-μ-loop
 item-records-part-target-records-end t c =
     let a = c .before .before .before in
-    omega (arith, series-room (part-here t a) (c .before .is-series .ensures) (c .if2 .taken), a .before .before .before .before .before .before .before .before .before .pre .1 .1)
+    omega (arith, series-room (part-here t a) (c .before .is-series .ensures) (c .if2 .taken), a .before .before .before .before .before .before .before .before .before .before .before .pre .1 .1)
 
 item-records-target-records-requires : (t : ℕ) → item-records-lts.Need-target-records-requires (item-claims t) (item-records-at t) item-records.Post item-records-Inv-loop item-records-μ-loop
 item-records-target-records-requires t c κs =
     let a = c .before .before .before .before in (
-      omega (arith, series-deep (a .before .before .before .before .before .before .before .before .before .args .set) (a .a .given .0 .0) (c .before .before .is-series .ensures) (c .before .if2 .taken), a .before .before .before .before .before .before .before .before .before .pre .0),
-      (a .before .before .before .before .before .before .before .before .before .pre .1 .0, lent-small (part-here t a) (c .before .before .is-series .ensures) (c .before .if2 .taken)),
+      omega (arith, series-deep (a .before .before .before .before .before .before .before .before .before .before .before .args .set) (a .a .given .0 .0) (c .before .before .is-series .ensures) (c .before .if2 .taken), a .before .before .before .before .before .before .before .before .before .before .before .pre .0),
+      (a .before .before .before .before .before .before .before .before .before .before .before .pre .1 .0, lent-small (part-here t a) (c .before .before .is-series .ensures) (c .before .if2 .taken)),
     )
 
 item-records-series-of-requires : (t : ℕ) → item-records-lts.Need-series-of-requires (item-claims t) (item-records-at t) item-records.Post item-records-Inv-loop item-records-μ-loop
@@ -210,7 +215,7 @@ item-records-smaller-requires t c κs = search needs
 item-records-add-p : (t : ℕ) → item-records-lts.Need-add-p (item-claims t) (item-records-at t) item-records.Post item-records-Inv-loop item-records-μ-loop
 item-records-add-p t c =
     let a = c .before .before .before .before .before .before .before .before .before .before .before in
-    omega (arith, part-room (part-here t a) (part-told-at t (c .before .before .before .before .before .before .before .before)) (c .before .before .before .before .before .before .w .given .1) .0, a .before .before .before .before .before .before .before .before .before .pre .1 .1)
+    omega (arith, part-room (part-here t a) (part-told-at t (c .before .before .before .before .before .before .before .before)) (c .before .before .before .before .before .before .w .given .1) .0, a .before .before .before .before .before .before .before .before .before .before .before .pre .1 .1)
 
 item-records-loop-less : (t : ℕ) → item-records-lts.Need-loop-less (item-claims t) (item-records-at t) item-records.Post item-records-Inv-loop item-records-μ-loop
 item-records-loop-less t c =
@@ -367,7 +372,7 @@ pub +item-records+target-records-spec : {M : Type 1} → statement M
 +item-records+target-records-spec =
     close μ-item-records μ-target-records
     (λ t. item-records-lts.spec (item-claims t) (item-records-at t) item-records.Post item-records-Inv-loop item-records-μ-loop
-    (item-records-loop-holds t) (item-records-goes-on-requires t) (item-records-returns t) (item-records-part-at-requires t)
+    (item-records-start-requires t) (item-records-loop-holds t) (item-records-goes-on-requires t) (item-records-returns t) (item-records-part-at-requires t)
     (item-records-enum-known-a t) (item-records-enum-told t) (item-records-stop-requires t) (item-records-returns-2 t)
     (item-records-is-series-requires t) (item-records-add-target-records t) (item-records-sub-target-records t) (item-records-part-target-records-start t)
     (item-records-part-target-records-end t) (item-records-target-records-requires t) (item-records-series-of-requires t) (item-records-one-item-requires t)

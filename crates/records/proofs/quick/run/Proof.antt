@@ -1,0 +1,83 @@
+-- `records::quick::run` meets its contract: each turn is a turn of the walk.
+use Prim.Native.Nat.{_-_, _*_, _≤_, _<_}
+use mathlib.Core.Bool.{false}
+use native.Mathlib.Omega.{arith}
+use lib.ListN.{length}
+use borrow.Author.Needs.{needs}
+use Rattle.items.specs.Meet.{formOf}
+use Rattle.records.specs.Going.{RecordsGoing, Glanced}
+use Rattle.records.proofs.PartTurns.{records-start}
+use Rattle.records.proofs.Glances.{quickSizes, glance-room, glance-more}
+use Rattle.records.proofs.quick.run.Statement.{statement}
+use Rattle.records.proofs.quick.run.Tie as tie
+
+abbrev Inv-loop : tie.InvT-loop
+Inv-loop table s alone p₀ count₀ mark₀ top₀ low₀ tag₀ n₀ p count mark top low tag n = RecordsGoing false (formOf alone) s p (quickSizes count p) mark top low × (4 * count ≤ p) × (0 < n → Glanced (formOf alone) s p top tag n)
+
+abbrev μ-loop : tie.MeasureT-loop
+μ-loop table s alone p₀ count₀ mark₀ top₀ low₀ tag₀ n₀ p count mark top low tag n = length s - p
+
+glance-requires : tie.Need-glance-requires Inv-loop μ-loop
+glance-requires c κs = (c .before .before .pre .0, omega arith)
+
+loop-holds : tie.Need-loop-holds Inv-loop μ-loop
+loop-holds c = (records-start _ _ _, omega arith, c .glance .ensures)
+
+is-location-requires : tie.Need-is-location-requires Inv-loop μ-loop
+is-location-requires c κs = search needs
+
+either-requires : tie.Need-either-requires Inv-loop μ-loop
+either-requires c κs = search needs
+
+smaller-requires : tie.Need-smaller-requires Inv-loop μ-loop
+smaller-requires c κs = search needs
+
+add-count : tie.Need-add-count Inv-loop μ-loop
+add-count c = omega (arith, c .before .before .before .before .loop .inv .1, glance-room (c .before .before .before .before .loop .inv .2 (c .before .before .before .loop-test .taken)), c .before .before .before .before .before .before .before .before .pre .1)
+
+add-p : tie.Need-add-p Inv-loop μ-loop
+add-p c = omega (arith, c .before .before .before .before .loop .inv .1, glance-room (c .before .before .before .before .loop .inv .2 (c .before .before .before .loop-test .taken)), c .before .before .before .before .before .before .before .before .pre .1)
+
+add-p-2 : tie.Need-add-p-2 Inv-loop μ-loop
+add-p-2 c = omega (arith, c .before .before .before .before .loop .inv .1, glance-room (c .before .before .before .before .loop .inv .2 (c .before .before .before .loop-test .taken)), c .before .before .before .before .before .before .before .before .pre .1)
+
+glance-requires-2 : tie.Need-glance-requires-2 Inv-loop μ-loop
+glance-requires-2 c κs = (c .before .before .before .before .before .before .before .before .pre .0, glance-room (c .before .before .before .before .loop .inv .2 (c .before .before .before .loop-test .taken)))
+
+loop-less : tie.Need-loop-less Inv-loop μ-loop
+loop-less c = omega (arith, glance-room (c .before .before .before .before .before .loop .inv .2 (c .before .before .before .before .loop-test .taken)), c .before .before .before .before .loop-test .taken)
+
+loop-again : tie.Need-loop-again Inv-loop μ-loop
+loop-again c =
+    let g = c .before .before .before .before .before .loop .inv .2 (c .before .before .before .before .loop-test .taken) in
+    (glance-more g (c .before .before .before .before .before .loop .inv .0) (c .before .before .before .before .before .loop .inv .1) (λ i. c .before .before .before .before .before .before .before .shared-slice-known2 .given i .fits) (c .before .before .before .before .before .before .before .before .before .pre .1) (c .before .before .before .is-location .ensures) (c .before .before .either .ensures) (c .before .smaller .ensures), omega (arith, c .before .before .before .before .before .loop .inv .1), c .glance2 .ensures)
+
+mul-t16 : tie.Need-mul-t16 Inv-loop μ-loop
+mul-t16 c = omega (arith, c .before .loop .inv .1, c .before .loop .inv .0 .to, c .before .before .before .before .before .pre .1)
+
+sub-t17 : tie.Need-sub-t17 Inv-loop μ-loop
+sub-t17 c = omega (arith, c .before .loop .inv .1)
+
+returns : tie.Need-returns Inv-loop μ-loop
+returns c = c .before .loop .inv .0
+
+pub run-spec : {M : Type 1} → statement M
+run-spec =
+    tie.close
+    (tie.spec
+    Inv-loop
+    μ-loop
+    glance-requires
+    loop-holds
+    is-location-requires
+    either-requires
+    smaller-requires
+    add-count
+    add-p
+    add-p-2
+    glance-requires-2
+    loop-less
+    loop-again
+    mul-t16
+    sub-t17
+    returns)

@@ -1,12 +1,16 @@
 -- Laws of `sets`, numbers stored from an index on. Only `sets-start` asks that they fit.
 use Prim.Native.Nat.{ℕ, zero, suc, _+_, _-_, _/_, _%_, _≤_, _<_}
 use mathlib.Core.Path.{_≡_, refl, _∙_, ap, sym}
+use mathlib.Core.Bool.{Bool, true, false}
+use mathlib.Core.Logic.{_⊎_, inl, inr, ⊎-elim}
 use mathlib.Core.List.{List, [], _∷_, _++_, append-nil}
 use native.Mathlib.Nat.{add-suc, add-zero, zero-add, le-refl, le-add-right}
 use native.Mathlib.Numerals.{add-one}
 use native.Mathlib.Omega.{arith}
 use lib.ListN.{length, take, drop, set, getD, take-append-drop, length-append, length-drop, length-set, drop-of-length-le}
 use lib.Seq.{sets, sets-eq, set-comm, take-set-le, drop-set-add, drop-cons, drop-drop, take-all, length-sets, length-take-le}
+use lib.Dec.{ltb}
+use borrow.Author.Tests.{ltb-true, ltb-false}
 use borrow.Rule.Slice.PartMut.{putMid}
 use Rattle.format.specs.Coding.{digits, fixed}
 use Rattle.format.proofs.coding.Digits.{length-fixed}
@@ -24,6 +28,36 @@ sets-start l vs h = sets-eq vs l 0 (omega arith) ∙ ap (λ k. vs ++ drop k l) (
 pub sets-behind : (l : List ℕ) (i : ℕ) (xs : List ℕ) (j b : ℕ) → i + length xs ≤ j → set (sets l i xs) j b ≡ sets (set l j b) i xs
 sets-behind l i [] j b h = refl
 sets-behind l i (x ∷ xs) j b h = sets-behind (set l i x) (suc i) xs j b (omega arith) ∙ ap (λ r. sets r (suc i) xs) (set-comm l i j x b (λ e. omega arith))
+
+-- a run in front of another, stored after it
+pub sets-swap : (l : List ℕ) (i : ℕ) (xs : List ℕ) (j : ℕ) (ys : List ℕ) → i + length xs ≤ j → sets (sets l j ys) i xs ≡ sets (sets l i xs) j ys
+sets-swap l i xs j [] h = refl
+sets-swap l i xs j (y ∷ ys) h = sets-swap (set l j y) i xs (suc j) ys (omega arith) ∙ ap (λ r. sets r (suc j) ys) (sym (sets-behind l i xs j y h))
+
+-- a run stored over another leaves nothing of it
+set-again : (l : List ℕ) (i x y : ℕ) → set (set l i x) i y ≡ set l i y
+set-again [] i x y = refl
+set-again (z ∷ l) zero x y = refl
+set-again (z ∷ l) (suc i) x y = ap (λ r. z ∷ r) (set-again l i x y)
+
+at-or-above : (i j : ℕ) → j ≤ i → (i ≡ j) ⊎ (j < i)
+at-or-above i j g = go (ltb j i) refl
+  where
+    go : (b : Bool) → ltb j i ≡ b → (i ≡ j) ⊎ (j < i)
+    go true e = inr (ltb-true j i e)
+    go false e = inl (omega (arith, ltb-false j i e))
+
+set-under : (l : List ℕ) (i x j : ℕ) (ys : List ℕ) → j ≤ i → i < j + length ys → sets (set l i x) j ys ≡ sets l j ys
+set-under l i x j [] g h = absurd (omega arith)
+set-under l i x j (y ∷ ys) g h =
+    ⊎-elim
+    (λ e. ap (λ r. sets r (suc j) ys) (ap (λ k. set (set l k x) j y) e ∙ set-again l j x y))
+    (λ n. ap (λ r. sets r (suc j) ys) (set-comm l i j x y (λ e. omega arith)) ∙ set-under (set l j y) i x (suc j) ys (omega arith) (omega arith))
+    (at-or-above i j g)
+
+pub sets-under : (l : List ℕ) (i : ℕ) (xs : List ℕ) (j : ℕ) (ys : List ℕ) → j ≤ i → i + length xs ≤ j + length ys → sets (sets l i xs) j ys ≡ sets l j ys
+sets-under l i [] j ys g h = refl
+sets-under l i (x ∷ xs) j ys g h = sets-under (set l i x) (suc i) xs j ys (omega arith) (omega arith) ∙ set-under l i x j ys g (omega arith)
 
 -- the last of a run first, the others in front of it later
 pub sets-snoc : (l : List ℕ) (i : ℕ) (xs : List ℕ) (x : ℕ) {k : ℕ} → length xs ≡ k → sets l i (xs ++ (x ∷ [])) ≡ sets (set l (i + k) x) i xs

@@ -35,13 +35,13 @@ pub record Writing {X S : Type 0} (more : List ℕ → Bool) (emits : S → List
 
 -- a run that has more to read reads a thing, and goes on
 skip-here : {X : Type 0} (more : List ℕ → Bool) (key : X → ℕ) (step : Step X) (seen s : List ℕ) (rs : Got (List X)) → 0 < length s → more s ≡ true → skip more key step seen 0 s ≡ ok rs
-    → (r : Got X) × (step seen s ≡ ok r) × (qs : Got (List X)) × (rs .val ≡ r .val ∷ qs .val) × (0 < r .used → skip more key step (key (r .val) ∷ seen) 0 (drop (r .used) s) ≡ ok qs)
+    → (r : Got X) × (step seen s ≡ ok r) × (qs : Got (List X)) × (rs .val ≡ r .val ∷ qs .val) × (rs .used ≡ r .used + qs .used) × (0 < r .used → skip more key step (key (r .val) ∷ seen) 0 (drop (r .used) s) ≡ ok qs)
 unfolding skip
 skip-here more key step seen [] rs h m e = absurd (omega arith)
 skip-here more key step seen (b ∷ s) rs h m e =
     bind-then _ _ _ (rw (m, skip) at e) λ r er e₁.
     after-then _ _ _ _ e₁ λ qs eq e₂.
-    (r, er, qs, ap (λ x. x .val) (sym (ok-inj _ _ e₂)), λ u. rw (drop-pred (r .used) b s u, ← skip-drop more key step (λ _. []) (key (r .val) ∷ seen) (r .used - 1) s) eq)
+    (r, er, qs, ap (λ x. x .val) (sym (ok-inj _ _ e₂)), ap (λ x. x .used) (sym (ok-inj _ _ e₂)), λ u. rw (drop-pred (r .used) b s u, ← skip-drop more key step (λ _. []) (key (r .val) ∷ seen) (r .used - 1) s) eq)
 
 -- one where no more of its kind stands is over
 skip-over : {X : Type 0} (more : List ℕ → Bool) (key : X → ℕ) (step : Step X) (seen s : List ℕ) → more s ≡ false → skip more key step seen 0 s ≡ ok (got [] 0)
@@ -70,7 +70,14 @@ module _ {X S : Type 0} {emit : S → X → List ℕ} {next : S → X → S} {em
         let n : emits σ (g .things .val) ≡ [] = ap (emits σ) t ∙ law .none σ in
         (omega (arith, g .sum, ap length n), sym (g .rest ∙ ap (sets out k) n))
 
-    -- the end: of the bytes, or where no more of its kind stands
+    -- the end: of the bytes, or where no more of its kind stands; nothing is left to read there
+    pub none-left : length s ≤ p → g .things .used ≡ 0
+    unfolding skip
+    none-left h = let e : skip more key step (g .seen) 0 (drop p s) ≡ ok (got [] 0) = rw (drop-of-length-le s {i = p} h) in ap (λ x. x .used) (ok-inj _ _ (sym (g .reads) ∙ e))
+
+    pub none-over : more (drop p s) ≡ false → g .things .used ≡ 0
+    none-over m = ap (λ x. x .used) (ok-inj _ _ (sym (g .reads) ∙ skip-over more key step (g .seen) (drop p s) m))
+
     pub writing-done : length s ≤ p → (k ≡ length whole) × (out ≡ sets out₀ 0 whole)
     unfolding skip
     writing-done h = ended (rw (drop-of-length-le s {i = p} h))
@@ -84,12 +91,13 @@ module _ {X S : Type 0} {emit : S → X → List ℕ} {next : S → X → S} {em
       pub read : step (g .seen) (drop p s) ≡ ok it
       pub after-it : Got (List X)
       pub first : g .things .val ≡ it .val ∷ after-it .val
+      pub passes : g .things .used ≡ it .used + after-it .used
       pub goes : 0 < it .used → skip more key step (key (it .val) ∷ g .seen) 0 (drop (it .used) (drop p s)) ≡ ok after-it
 
     pub next-here : p < length s → more (drop p s) ≡ true → Next
     next-here h m =
-        let (r, er, qs, eq, go) = skip-here more key step (g .seen) (drop p s) (g .things) (rw length-drop (omega arith)) m (g .reads) in
-        record { it = r; read = er; after-it = qs; first = eq; goes = go }
+        let (r, er, qs, eq, eu, go) = skip-here more key step (g .seen) (drop p s) (g .things) (rw length-drop (omega arith)) m (g .reads) in
+        record { it = r; read = er; after-it = qs; first = eq; passes = eu; goes = go }
 
     module _ (n : Next) where
       split : emits σ (g .things .val) ≡ emit σ (n .it .val) ++ emits (next σ (n .it .val)) (n .after-it .val)
@@ -101,10 +109,11 @@ module _ {X S : Type 0} {emit : S → X → List ℕ} {next : S → X → S} {em
       pub next-room : length whole ≤ length out₀ → k + length (emit σ (n .it .val)) ≤ length out
       next-room h = omega (arith, long, g .sum, g .same)
 
-      pub writing-more : 0 < n .it .used → p + n .it .used ≤ length s → {out′ : List ℕ} → out′ ≡ sets out k (emit σ (n .it .val))
+      -- with how many bytes it has still to read
+      pub writing-passes : 0 < n .it .used → p + n .it .used ≤ length s → {out′ : List ℕ} → out′ ≡ sets out k (emit σ (n .it .val))
           → {σ′ : S} → σ′ ≡ next σ (n .it .val) → {p′ : ℕ} → p′ ≡ p + n .it .used → {k′ : ℕ} → k′ ≡ k + length (emit σ (n .it .val))
-          → Writing more emits key step whole s out₀ out′ σ′ p′ k′
-      writing-more u l {out′ = out′} eo es ep ek =
+          → (w : Writing more emits key step whole s out₀ out′ σ′ p′ k′) × (w .things .used ≡ n .after-it .used)
+      writing-passes u l {out′ = out′} eo es ep ek =
           rw (es, ep, ek) (record {
             seen = key (n .it .val) ∷ g .seen;
             things = n .after-it;
@@ -114,4 +123,9 @@ module _ {X S : Type 0} {emit : S → X → List ℕ} {next : S → X → S} {em
             sum = omega (arith, long, g .sum);
             rest = g .rest ∙ ap (sets out k) split ∙ sets-append out k (emit σ (n .it .val)) (emits (next σ (n .it .val)) (n .after-it .val))
                 ∙ ap (λ x. sets x (k + length (emit σ (n .it .val))) (emits (next σ (n .it .val)) (n .after-it .val))) (sym eo);
-          })
+          }, refl)
+
+      pub writing-more : 0 < n .it .used → p + n .it .used ≤ length s → {out′ : List ℕ} → out′ ≡ sets out k (emit σ (n .it .val))
+          → {σ′ : S} → σ′ ≡ next σ (n .it .val) → {p′ : ℕ} → p′ ≡ p + n .it .used → {k′ : ℕ} → k′ ≡ k + length (emit σ (n .it .val))
+          → Writing more emits key step whole s out₀ out′ σ′ p′ k′
+      writing-more u l eo es ep ek = writing-passes u l eo es ep ek .0

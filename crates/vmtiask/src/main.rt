@@ -10,9 +10,23 @@ struct Turn {
     more: bool,
 }
 
-// The last line, on a frame that is no question.
-fn ends(out: &mut [u8; 4096], at: usize, why: &[u8]) -> Turn {
-    let to = text::word(out, at, why);
+// Why a frame is no question.
+const CUT_OFF: u64 = 1;
+
+const TOO_LONG: u64 = 2;
+
+const UNKNOWN: u64 = 3;
+
+// The last line then.
+fn ends(out: &mut [u8; 4096], at: usize, why: u64) -> Turn {
+    let mut to = at;
+    if why == CUT_OFF {
+        to = text::word(out, to, b"cut off\n");
+    } else if why == TOO_LONG {
+        to = text::word(out, to, b"too long\n");
+    } else {
+        to = text::word(out, to, b"unknown kind\n");
+    }
     Turn {
         at: to,
         more: false,
@@ -22,6 +36,39 @@ fn ends(out: &mut [u8; 4096], at: usize, why: &[u8]) -> Turn {
 // Fills what is lent from standard input, if that has so much left.
 fn is_filled(part: &mut [u8]) -> bool {
     io::read_full(0, part) == part.len()
+}
+
+// How many bytes of a packet were read, or why none: 0 if they were.
+struct Got {
+    why: u64,
+    size: usize,
+}
+
+// A packet, after its length (4), into the room that is lent.
+fn packet_in(room: &mut [u8]) -> Got
+    ensures { λ r. ⌜ r .size ≤ length (now (room .exit)) ⌝ }
+{
+    let mut head = [0u8; 4];
+    if !is_filled(&mut head) {
+        return Got {
+            why: CUT_OFF,
+            size: 0,
+        };
+    }
+    let size = coding::number_of(&head, 4) as usize;
+    if room.len() < size {
+        return Got {
+            why: TOO_LONG,
+            size: 0,
+        };
+    }
+    if is_filled(&mut room[..size]) {
+        return Got { why: 0, size };
+    }
+    Got {
+        why: CUT_OFF,
+        size: 0,
+    }
 }
 
 // The first numbers, four to a line.
@@ -83,23 +130,21 @@ fn located(
     printed(out, to, table, 0)
 }
 
-// Locate: form (1), room (2), length (4), packet.
+// Locate: form (1), room (2), packet.
 fn locate_asked(out: &mut [u8; 4096], at: usize, packet: &mut [u8], table: &mut [u64]) -> Turn {
-    let mut head = [0u8; 7];
+    let mut head = [0u8; 3];
     if !is_filled(&mut head) {
-        return ends(out, at, b"cut off\n");
+        return ends(out, at, CUT_OFF);
     }
     let room = coding::number_of(&head[1..], 2) as usize;
-    let size = coding::number_of(&head[3..], 4) as usize;
     if table.len() / 4 < room {
-        return ends(out, at, b"too long\n");
+        return ends(out, at, TOO_LONG);
     }
-    if packet.len() < size {
-        return ends(out, at, b"too long\n");
+    let p = packet_in(packet);
+    if p.why != 0 {
+        return ends(out, at, p.why);
     }
-    if !is_filled(&mut packet[..size]) {
-        return ends(out, at, b"cut off\n");
-    }
+    let size = p.size;
     let end = 4 * room;
     let to = located(out, at, &packet[..size], head[0] != 0, &mut table[..end]);
     Turn { at: to, more: true }
@@ -111,7 +156,7 @@ fn shown<'a>(
     at: usize,
     reviewer: &'a [u8],
     detector: &'a [u8],
-    head: [u8; 26],
+    head: [u8; 18],
 ) -> usize {
     let alone = head[0] != 0;
     let set = head[1] == 0;
@@ -130,27 +175,23 @@ fn shown<'a>(
     text::hex(out, to, v)
 }
 
-// Show: form (1), level (1), target (8), tag (8), two lengths (4), the reviewer's packet, the detector's.
+// Show: form (1), level (1), target (8), tag (8), the reviewer's packet, the detector's.
 fn show_asked(out: &mut [u8; 4096], at: usize, reviewer: &mut [u8], detector: &mut [u8]) -> Turn {
-    let mut head = [0u8; 26];
+    let mut head = [0u8; 18];
     if !is_filled(&mut head) {
-        return ends(out, at, b"cut off\n");
+        return ends(out, at, CUT_OFF);
     }
-    let r = coding::number_of(&head[18..], 4) as usize;
-    let d = coding::number_of(&head[22..], 4) as usize;
-    if reviewer.len() < r {
-        return ends(out, at, b"too long\n");
+    let r = packet_in(reviewer);
+    if r.why != 0 {
+        return ends(out, at, r.why);
     }
-    if detector.len() < d {
-        return ends(out, at, b"too long\n");
+    let d = packet_in(detector);
+    if d.why != 0 {
+        return ends(out, at, d.why);
     }
-    if !is_filled(&mut reviewer[..r]) {
-        return ends(out, at, b"cut off\n");
-    }
-    if !is_filled(&mut detector[..d]) {
-        return ends(out, at, b"cut off\n");
-    }
-    let to = shown(out, at, &reviewer[..r], &detector[..d], head);
+    let n = r.size;
+    let m = d.size;
+    let to = shown(out, at, &reviewer[..n], &detector[..m], head);
     Turn { at: to, more: true }
 }
 
@@ -169,7 +210,7 @@ fn question(out: &mut [u8; 4096], at: usize) -> Turn {
         let mut second = [0u8; 16384];
         return show_asked(out, at, &mut first, &mut second);
     }
-    ends(out, at, b"unknown kind\n")
+    ends(out, at, UNKNOWN)
 }
 
 // A proved loop has to end, and nothing says that the input does: it counts its turns down from a number that no run uses up.

@@ -11,9 +11,6 @@ slice-aggregate-is-filled c = search needs
 is-filled-requires : tie.Need-is-filled-requires
 is-filled-requires c κs = search needs
 
-slice-aggregate-ends : tie.Need-slice-aggregate-ends
-slice-aggregate-ends c = search needs
-
 ends-requires : tie.Need-ends-requires
 ends-requires c κs = search needs
 
@@ -32,56 +29,23 @@ part-number-of-end c = search needs
 number-of-requires : tie.Need-number-of-requires
 number-of-requires c κs = search needs
 
-sub-number-of-2 : tie.Need-sub-number-of-2
-sub-number-of-2 c = search needs
-
-part-number-of-start-2 : tie.Need-part-number-of-start-2
-part-number-of-start-2 c = search needs
-
-part-number-of-end-2 : tie.Need-part-number-of-end-2
-part-number-of-end-2 c = search needs
-
-number-of-requires-2 : tie.Need-number-of-requires-2
-number-of-requires-2 c κs = search needs
-
-slice-aggregate-ends-2 : tie.Need-slice-aggregate-ends-2
-slice-aggregate-ends-2 c = search needs
-
 ends-requires-2 : tie.Need-ends-requires-2
 ends-requires-2 c κs = search needs
 
 returns-2 : tie.Need-returns-2
 returns-2 c = search needs
 
-slice-aggregate-ends-3 : tie.Need-slice-aggregate-ends-3
-slice-aggregate-ends-3 c = search needs
+packet-in-requires : tie.Need-packet-in-requires
+packet-in-requires c κs = search needs
 
 ends-requires-3 : tie.Need-ends-requires-3
 ends-requires-3 c κs = search needs
 
-returns-3 : tie.Need-returns-3
-returns-3 c = search needs
-
-slice-relend-prefix-is-filled : tie.Need-slice-relend-prefix-is-filled
-slice-relend-prefix-is-filled c = search needs
-
-slice-aggregate-is-filled-2 : tie.Need-slice-aggregate-is-filled-2
-slice-aggregate-is-filled-2 c = sym (length-take-le _ _ (search needs))
-
-is-filled-requires-2 : tie.Need-is-filled-requires-2
-is-filled-requires-2 c κs = search needs
-
-slice-aggregate-ends-4 : tie.Need-slice-aggregate-ends-4
-slice-aggregate-ends-4 c = search needs
-
-ends-requires-4 : tie.Need-ends-requires-4
-ends-requires-4 c κs = search needs
-
 same-length : tie.Need-same-length
 same-length c = search needs
 
-returns-4 : tie.Need-returns-4
-returns-4 c = search needs
+returns-3 : tie.Need-returns-3
+returns-3 c = search needs
 
 mul-end : tie.Need-mul-end
 mul-end c = search needs
@@ -110,8 +74,8 @@ same-length-2 c = search needs
 same-length-3 : tie.Need-same-length-3
 same-length-3 c = search needs
 
-returns-5 : tie.Need-returns-5
-returns-5 c = search needs
+returns-4 : tie.Need-returns-4
+returns-4 c = search needs
 
 pub locate-asked-spec : {M : Type 1} → statement M
 locate-asked-spec =
@@ -119,30 +83,18 @@ locate-asked-spec =
     (tie.spec
     slice-aggregate-is-filled
     is-filled-requires
-    slice-aggregate-ends
     ends-requires
     returns
     sub-number-of
     part-number-of-start
     part-number-of-end
     number-of-requires
-    sub-number-of-2
-    part-number-of-start-2
-    part-number-of-end-2
-    number-of-requires-2
-    slice-aggregate-ends-2
     ends-requires-2
     returns-2
-    slice-aggregate-ends-3
+    packet-in-requires
     ends-requires-3
-    returns-3
-    slice-relend-prefix-is-filled
-    slice-aggregate-is-filled-2
-    is-filled-requires-2
-    slice-aggregate-ends-4
-    ends-requires-4
     same-length
-    returns-4
+    returns-3
     mul-end
     slice-reshare-prefix-located
     slice-aggregate-located
@@ -152,4 +104,4 @@ locate-asked-spec =
     located-requires
     same-length-2
     same-length-3
-    returns-5)
+    returns-4)

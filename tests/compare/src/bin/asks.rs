@@ -52,9 +52,13 @@ impl Asked {
     fn locate(&mut self, case: &PacketCase, room: usize, index: usize) {
         self.questions.extend([b'L', form(case.form, index)]);
         self.questions.extend((room as u16).to_be_bytes());
-        self.questions.extend((case.bytes.len() as u32).to_be_bytes());
-        self.questions.extend(&case.bytes);
+        self.packet(&case.bytes);
         self.located(case, room);
+    }
+
+    fn packet(&mut self, packet: &[u8]) {
+        self.questions.extend((packet.len() as u32).to_be_bytes());
+        self.questions.extend(packet);
     }
 
     fn located(&mut self, case: &PacketCase, room: usize) {
@@ -83,11 +87,8 @@ impl Asked {
         self.questions.extend([b'S', form(case.form, index), level]);
         self.questions.extend(target.to_be_bytes());
         self.questions.extend(case.tag.to_be_bytes());
-        for packet in [&case.reviewer, &case.detector] {
-            self.questions.extend((packet.len() as u32).to_be_bytes());
-        }
-        self.questions.extend(&case.reviewer);
-        self.questions.extend(&case.detector);
+        self.packet(&case.reviewer);
+        self.packet(&case.detector);
         let shown = second::show(case.form, &case.reviewer, &case.detector, case.level, case.tag);
         self.shown(&shown, shown.part(&case.reviewer, &case.detector));
     }
@@ -127,8 +128,8 @@ fn form(form: Form, index: usize) -> u8 {
 fn chosen_packets() -> Vec<PacketCase> {
     let mut list = compare::examples();
     let embedded = list.iter().filter(|case| case.form == Form::Embedded).cloned();
-    let swapped: Vec<PacketCase> = embedded.map(|case| PacketCase { form: Form::Standalone, ..case }).collect();
-    list.extend(swapped);
+    let swapped = embedded.map(|case| PacketCase { form: Form::Standalone, ..case });
+    list = list.iter().cloned().chain(swapped).collect();
     list.extend(named().into_iter().map(|one| PacketCase { form: one.form, bytes: one.packet }));
     list.extend(sizes(Form::Embedded).chain(sizes(Form::Standalone)));
     list

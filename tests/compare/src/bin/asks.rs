@@ -124,9 +124,16 @@ fn form(form: Form, index: usize) -> u8 {
     }
 }
 
+/// The examples, and a target of the greatest id with tag 19.
+fn examples() -> Vec<PacketCase> {
+    let pack = [&[0x65, 13, 12][..], &[0xFF; 8], &[0x7F, 19, 1, 5]].concat();
+    let last = PacketCase { form: Form::Embedded, bytes: pack };
+    compare::examples().into_iter().chain([last]).collect()
+}
+
 /// The examples in both forms, the named ones, and sizes around the limits.
 fn chosen_packets() -> Vec<PacketCase> {
-    let mut list = compare::examples();
+    let mut list = examples();
     let embedded = list.iter().filter(|case| case.form == Form::Embedded).cloned();
     let swapped = embedded.map(|case| PacketCase { form: Form::Standalone, ..case });
     list = list.iter().cloned().chain(swapped).collect();
@@ -146,7 +153,7 @@ fn sizes(form: Form) -> impl Iterator<Item = PacketCase> {
 /// Each example and each size beside A or H and the other way round, under
 /// every name.
 fn chosen_shows() -> Vec<ShowCase> {
-    let mut packets = compare::examples();
+    let mut packets = examples();
     let a = packets[0].bytes.clone();
     packets.extend(sizes(Form::Embedded).chain(sizes(Form::Standalone)));
     let mut list = Vec::new();

@@ -2,18 +2,20 @@
 use mathlib.Core.Path.{_≡_, refl, sym, ap, _∙_}
 use Prim.Native.Nat.{ℕ, zero, suc, _+_, _/_, _%_, _^_, _≤_, _<_}
 use native.Mathlib.Omega.{arith}
+use native.Mathlib.Nat.{mod-lt}
 use mathlib.Core.Bool.{Bool, true, false, not, _&&_, _||_}
 use mathlib.Core.List.{List, [], _∷_}
 use mathlib.Core.Logic.{_⊎_, inl, inr}
 use lib.ListN.{length, getD}
-use lib.Dec.{ltb, eqb}
-use borrow.Author.Tests.{ltb-true, lt-ltb, le-ltb, eqb-true, eqb-false, ne-eqb}
+use lib.Dec.{ltb, leb, eqb, lit<}
+use borrow.Author.Tests.{ltb-true, lt-ltb, le-ltb, le-leb, eqb-true, eqb-false, ne-eqb}
 use Rattle.format.specs.Answer.{Ans, ok, need}
 use Rattle.format.specs.Coding.{bytesNumber}
+use Rattle.format.specs.Lists.{has}
 use Rattle.format.specs.Table.{Form, embedded, standalone, isAlone, Level, set, pack, isSet, Kind, bytes, num, pixel, Rule, rules, find, ruleOf, mayStand, sized, notPixel, isNumber, valued, strip, short}
 use Rattle.format.proofs.words.Answers.{no-bool, and-both}
-use Rattle.items.specs.Meet.{levelOf, itemTable, offsets, zeros}
-use Rattle.items.specs.Quick.{bit, glanced, Quick}
+use Rattle.items.specs.Meet.{levelOf, formOf, itemTable, offsets, zeros}
+use Rattle.items.specs.Quick.{bit, quickTags, rowsFrom, glanced, Quick}
 use Rattle.items.proofs.Tests.{need-so, zeros-some}
 
 -- ---- for each number below k
@@ -180,13 +182,49 @@ module _ (l : Level) (tag n first : ℕ) (small : tag < most l) (g : glanced (ro
     shortest = λ v e b. glanced-value v e b .1;
   }
 
--- as the code has it: of a level that is this one, from its row
-pub quick-from : (k l : Level) → k ≡ l → (f : Form) (tag n first row : ℕ) → row ≡ rowAt l tag → tag < most l
-    → {x : Bool} → x ≡ mayStand k f tag false → x ≡ true → {r : Bool} → r ≡ glanced row n first → r ≡ true → Quick k f tag n first
-quick-from k l e f tag n first row er small ex x eg r =
-    rw e (glanced-quick l tag n first small (ap (λ y. glanced y n first) (sym er) ∙ sym eg ∙ r) f (sym (ap (λ y. mayStand y f tag false) e) ∙ sym ex ∙ x))
+-- ---- the tags that may stand anywhere, by one computed test for each level and form
+
+tags-right : (b a : Bool) → below 24 (λ tag. not (bit (quickTags b a) tag) || (ltb tag (most (levelOf b)) && mayStand (levelOf b) (formOf a) tag false)) ≡ true
+unfolding mayStand has
+tags-right true true = refl
+tags-right true false = refl
+tags-right false true = refl
+tags-right false false = refl
+
+-- x and y are what the code has for the tags and for the first row
+module _ (b a : Bool) (tag : ℕ) (few : tag < 24) {x : ℕ} (ex : x ≡ quickTags b a) (h : x / 2 ^ tag % 2 ≡ 0 → ⊥) {y : ℕ} (ey : y ≡ rowsFrom b) where
+  tag-right : (ltb tag (most (levelOf b)) ≡ true) × (mayStand (levelOf b) (formOf a) tag false ≡ true)
+  tag-right =
+      and-both (ltb tag (most (levelOf b))) _
+      (implied _ _ (below-at 24 (λ tag. not (bit (quickTags b a) tag) || (ltb tag (most (levelOf b)) && mayStand (levelOf b) (formOf a) tag false)) (tags-right b a) tag few)
+      (ap (λ z. bit z tag) (sym ex) ∙ ap not (ne-eqb (x / 2 ^ tag % 2) 0 h)))
+
+  tag-small : tag < most (levelOf b)
+  tag-small = ltb-true tag _ (tag-right .0)
+
+  pub row-in : y + tag < 37
+  row-in = rw ey (go b tag-small)
+    where
+      go : (b : Bool) → tag < most (levelOf b) → rowsFrom b + tag < 37
+      go true h = omega arith
+      go false h = omega arith
+
+  pub quick-from : (table : List ℕ) → table ≡ itemTable → (n first : ℕ) {r : Bool} → r ≡ glanced (getD table (y + tag) 0) n first → r ≡ true → Quick (levelOf b) (formOf a) tag n first
+  quick-from table et n first eg r =
+      glanced-quick (levelOf b) tag n first tag-small (ap (λ z. glanced z n first) (row-is b ∙ sym (rw (et, ey))) ∙ sym eg ∙ r) (formOf a) (tag-right .1)
+    where
+      row-is : (b : Bool) → rowAt (levelOf b) tag ≡ getD itemTable (rowsFrom b + tag) 0
+      row-is true = ap (λ i. getD itemTable i 0) (omega arith)
+      row-is false = refl
 
 -- ---- the code's tests, one after the other
+
+-- a bit is at most a byte: it is not set, or the byte is not 0
+bit-leb : (x b : ℕ) → x < 2 → leb x b ≡ (not (not (eqb x 0)) || not (eqb b 0))
+bit-leb zero b h = le-leb 0 b (omega arith)
+bit-leb (suc zero) zero h = refl
+bit-leb (suc zero) (suc b) h = le-leb 1 (suc b) (omega arith) ∙ rw (ne-eqb (suc b) 0 (λ e. omega arith))
+bit-leb (suc (suc x)) b h = absurd (omega arith)
 
 module _ (row n first : ℕ) where
   pub fits-long : 31 < n → false ≡ glanced row n first
@@ -199,10 +237,6 @@ module _ (row n first : ℕ) where
     fits-not e = rw (lt-ltb n 32 few, e)
 
     module _ (have : row / 2 ^ (32 + n) % 2 ≡ 0 → ⊥) where
-      pub fits-bytes : row / 2 ^ 17 % 2 ≡ 0 → true ≡ glanced row n first
+      pub fits-so : leb (row / 2 ^ 17 % 2) first ≡ glanced row n first
       unfolding glanced
-      fits-bytes e = rw (lt-ltb n 32 few, ne-eqb (row / 2 ^ (32 + n) % 2) 0 have, e)
-
-      pub fits-number : (row / 2 ^ 17 % 2 ≡ 0 → ⊥) → not (eqb first 0) ≡ glanced row n first
-      unfolding glanced
-      fits-number e = rw (lt-ltb n 32 few, ne-eqb (row / 2 ^ (32 + n) % 2) 0 have, ne-eqb (row / 2 ^ 17 % 2) 0 e)
+      fits-so = rw (lt-ltb n 32 few, ne-eqb (row / 2 ^ (32 + n) % 2) 0 have) (bit-leb (row / 2 ^ 17 % 2) first (mod-lt (row / 2 ^ 17) (lit< tt)))

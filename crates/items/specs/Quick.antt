@@ -12,6 +12,16 @@ use Rattle.format.specs.Table.{Form, Level, isSet, ruleOf, mayStand, valued, sh
 abbrev pub bit : ℕ → ℕ → Bool
 bit row k = not (eqb (row / 2 ^ k % 2) 0)
 
+-- the tags that may stand wherever an item may, bit by bit, and where the rows of a level begin: for the set or a pack, alone or not
+abbrev pub quickTags : Bool → Bool → ℕ
+quickTags true alone = 8188
+quickTags false true = 16651262
+quickTags false false = 16777214
+
+abbrev pub rowsFrom : Bool → ℕ
+rowsFrom true = 0
+rowsFrom false = 13
+
 unfoldable pub glanced : ℕ → ℕ → ℕ → Bool
 glanced row n first = ltb n 32 && (bit row (32 + n) && (not (bit row 17) || not (eqb first 0)))
 

@@ -4,7 +4,7 @@ ghost use Prim.Native.Nat.{_+_, _/_, _%_, _^_, _<_};
 ghost use mathlib.Core.Bool.{true};
 ghost use lib.Dec.{eqb};
 ghost use Rattle.items.specs.Meet.{formOf, levelOf, itemTable};
-ghost use Rattle.items.specs.Quick.{Quick, glanced};
+ghost use Rattle.items.specs.Quick.{Quick, glanced, quickTags, rowsFrom};
 
 // Whether a row's bits have this length; bit 17 is set in the kinds of a number, whose first byte may not be 0.
 fn fits(row: u64, n: u64, first: u8) -> bool
@@ -16,10 +16,27 @@ fn fits(row: u64, n: u64, first: u8) -> bool
     if (row >> (32 + n)) % 2 == 0 {
         return false;
     }
-    if (row >> 17) % 2 == 0 {
-        return true;
+    (row >> 17) % 2 <= (first as u64)
+}
+
+// The tags that may stand wherever an item may: 2 to 12 in the set; in a pack 1 to 23, in a standalone packet without the six offsets.
+fn tags(set: bool, alone: bool) -> u64
+    ensures { λ r. ⌜ r ≡ quickTags set alone ⌝ }
+{
+    if set {
+        return 0x1ffc;
     }
-    first != 0
+    if alone {
+        return 0xfe13fe;
+    }
+    0xfffffe
+}
+
+// Where the rows of the set or of a pack begin.
+fn rows_from(set: bool) -> usize
+    ensures { λ r. ⌜ r ≡ rowsFrom set ⌝ }
+{
+    if set { 0 } else { 13 }
 }
 
 // Whether an item with this tag, whose value has n bytes and begins with this one, meets the rules for one item wherever it may begin,
@@ -28,17 +45,12 @@ pub fn is_quick(table: &[u64], set: bool, alone: bool, tag: u64, n: u64, first: 
     requires { ⌜ now table ≡ itemTable ⌝ }
     ensures { λ r. ⌜ (r ≡ true → Quick (levelOf set) (formOf alone) tag n first) ⌝ }
 {
-    if super::stands(set, alone, tag, false) {
-        if set {
-            if tag < 13 {
-                return fits(table[tag as usize], n, first);
-            }
-            return false;
-        }
-        if tag < 24 {
-            return fits(table[13 + (tag as usize)], n, first);
-        }
+    if 23 < tag {
         return false;
     }
-    false
+    if (tags(set, alone) >> tag) % 2 == 0 {
+        return false;
+    }
+    let at = rows_from(set) + (tag as usize);
+    fits(table[at], n, first)
 }

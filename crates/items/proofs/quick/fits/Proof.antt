@@ -1,7 +1,7 @@
 -- `items::quick::fits` meets its contract.
 use borrow.Author.Needs.{needs}
 use native.Mathlib.Omega.{arith}
-use Rattle.items.proofs.Glances.{fits-long, fits-not, fits-bytes, fits-number}
+use Rattle.items.proofs.Glances.{fits-long, fits-not, fits-so}
 use Rattle.items.proofs.quick.fits.Statement.{statement}
 use Rattle.items.proofs.quick.fits.Tie as tie
 
@@ -18,10 +18,7 @@ returns-2 : tie.Need-returns-2
 returns-2 c = fits-not _ _ _ (omega arith) (c .if2 .taken)
 
 returns-3 : tie.Need-returns-3
-returns-3 c = fits-bytes _ _ _ (omega arith) (c .before .if2 .left) (c .if3 .taken)
-
-returns-4 : tie.Need-returns-4
-returns-4 c = fits-number _ _ _ (omega arith) (c .before .if2 .left) (c .if3 .left)
+returns-3 c = fits-so _ _ _ (omega arith) (c .if2 .left)
 
 pub fits-spec : {M : Type 1} → statement M
-fits-spec = tie.close (tie.spec returns add-if2 shr-if2 returns-2 returns-3 returns-4)
+fits-spec = tie.close (tie.spec returns add-if2 shr-if2 returns-2 returns-3)

@@ -150,8 +150,8 @@ heads-more look (j ∷ js) s p k u (v, q, y, x, h) e z =
     (v, q, y, omega arith, rw b at (heads-more look js (drop v s) (p - v) k u h (rw (drop-drop (p - v) v s, a) e) z))
 
 module _ (look : List ℕ → Got ℕ) (s : List ℕ) where
-  -- 2^64 - 1 is the greatest number that the code has for a key
-  pub past-none : Past look s 0 0 18446744073709551615 []
+  -- where nothing was seen, nothing is below any key
+  pub past-none : {low : ℕ} → Past look s 0 0 low []
   unfolding has
   past-none = record { keys = []; heads = refl; same = λ k. refl; under = λ k h. refl; over = λ k h. refl; first = refl }
 

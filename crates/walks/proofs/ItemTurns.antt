@@ -32,7 +32,7 @@ use Rattle.walks.proofs.Walks.{few-more, going-start}
 use Rattle.walks.proofs.Levels.{Stood, stood, step-fault, read-peek, plain-step, plain-weight, plain-few, series-bad, series-good}
 use Rattle.walks.proofs.Turns.{Reads, within-of, within-more, turn-bad, turn-more}
 
-pub level-start : (b : Bool) (f : Form) (s : List ℕ) → LevelGoing b f s 0 noSizes false 0 18446744073709551615
+pub level-start : (b : Bool) (f : Form) (s : List ℕ) {low : ℕ} → LevelGoing b f s 0 noSizes false 0 low
 unfolding levelWalk
 level-start b f s = going-start _ _ _ _ _ _ _ s refl
 

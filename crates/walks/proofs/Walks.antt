@@ -76,7 +76,7 @@ module _ {X : Type 0} (weight : X → Sizes) (mark : X → Bool) (key : X → �
   resume-more a m p u x (refused n q) = ap (Bad n) (sym (add-assoc p u q))
 
   module _ (look : List ℕ → Got ℕ) (more : List ℕ → Bool) (whole : Walked) (s : List ℕ) where
-    pub going-start : whole ≡ walkedOf weight mark (run more key step s) → Going look more weight mark key step whole s 0 noSizes false 0 18446744073709551615
+    pub going-start : {low : ℕ} → whole ≡ walkedOf weight mark (run more key step s) → Going look more weight mark key step whole s 0 noSizes false 0 low
     unfolding run
     going-start e = record {
       seen = [];

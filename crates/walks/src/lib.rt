@@ -222,10 +222,17 @@ pub fn is_series(set: bool, tag: u64) -> bool
     if set { tag == 101 } else { false }
 }
 
+// The tag that marks a level: the set's checksum, a pack's location.
+fn mark_tag(set: bool) -> u64
+    ensures { λ r. ⌜ r ≡ markTag (levelOf set) ⌝ }
+{
+    if set { 1 } else { 17 }
+}
+
 fn is_mark(set: bool, tag: u64) -> bool
     ensures { λ r. ⌜ r ≡ eqb tag (markTag (levelOf set)) ⌝ }
 {
-    if set { tag == 1 } else { tag == 17 }
+    tag == mark_tag(set)
 }
 
 // An item that is no series.
@@ -335,7 +342,12 @@ pub fn pack_walk(table: &[u64], s: &[u8], alone: bool) -> Walked
         let all = q.sizes;
         let w = if q.at == items.len() {
             Walked::Good {
-                sizes: all,
+                sizes: Sizes {
+                    sheet: all.sheet,
+                    rows: all.rows,
+                    normal: all.normal,
+                    inner: all.inner,
+                },
                 mark: q.mark,
             }
         } else {

@@ -2,7 +2,7 @@
 // left to the item walk.
 ghost use mathlib.Core.Path.{_≡_};
 ghost use Prim.Native.Nat.{_≤_, _<_};
-ghost use lib.ListN.{length};
+ghost use lib.ListN.{length, getD};
 ghost use Rattle.items.specs.Meet.{formOf, itemTable};
 ghost use Rattle.walks.specs.Going.{LevelGoing, Glance};
 use super::Sizes;
@@ -43,6 +43,16 @@ pub struct Quick {
     pub low: u64,
 }
 
+// The first tag, which is the lowest where tags rise.
+fn first_tag(s: &[u8]) -> u64
+    ensures { λ r. ⌜ (0 < length (now (s .entry)) → r ≡ getD (now (s .entry)) 0 0) ⌝ }
+{
+    if s.len() == 0 {
+        return 0;
+    }
+    coding::wide(s[0])
+}
+
 pub fn run(table: &[u64], s: &[u8], set: bool, alone: bool) -> Quick
     requires { ⌜ (now table ≡ itemTable) × (length (now s) ≤ 8192) ⌝ }
     ensures { λ r. ⌜ LevelGoing set (formOf alone) (now (s .entry)) (r .at) (r .sizes) (r .mark) (r .top) (r .low) ⌝ }
@@ -51,12 +61,11 @@ pub fn run(table: &[u64], s: &[u8], set: bool, alone: bool) -> Quick
     let mut count: usize = 0;
     let mut mark = false;
     let mut top: u64 = 0;
-    let mut low: u64 = 18446744073709551615;
+    let low = first_tag(s);
     let mut n = glance(table, s, 0, set, alone, 0);
     while 0 < n {
         let tag = coding::wide(s[p]);
         mark = super::either(mark, super::is_mark(set, tag));
-        low = super::smaller(low, tag);
         top = tag;
         count += 1;
         p = p + 2 + n;

@@ -1,12 +1,13 @@
 -- `walks::is_mark` meets its contract.
+use borrow.Author.Needs.{needs}
 use Rattle.walks.proofs.is_mark.Statement.{statement}
 use Rattle.walks.proofs.is_mark.Tie as tie
 
-returns : tie.Need-returns
-returns c = rw (c .if1 .taken)
+mark-tag-requires : tie.Need-mark-tag-requires
+mark-tag-requires c κs = search needs
 
-returns-2 : tie.Need-returns-2
-returns-2 c = rw (c .if1 .left)
+returns : tie.Need-returns
+returns c = rw (c .mark-tag .ensures)
 
 pub is-mark-spec : {M : Type 1} → statement M
-is-mark-spec = tie.close (tie.spec returns returns-2)
+is-mark-spec = tie.close (tie.spec mark-tag-requires returns)

@@ -2,16 +2,20 @@
 use mathlib.Core.Path.{_≡_, refl, sym, ap, _∙_}
 use Prim.Native.Nat.{ℕ, _+_, _≤_}
 use native.Mathlib.Omega.{arith}
+use mathlib.Core.Bool.{Bool, true, false}
 use mathlib.Core.List.{List, [], _∷_, _++_, append-assoc, map}
 use lib.ListN.{length, length-append}
+use lib.Dec.{ltb}
+use borrow.Author.Tests.{ltb-true, ltb-false}
 use Rattle.format.specs.Answer.{Ans, ok, refused, Got}
 use Rattle.format.specs.Coding.{lenWidth, lenBytes, oidBytes}
 use Rattle.format.specs.Lists.{flatAll}
 use Rattle.format.specs.Table.{pack}
 use Rattle.format.specs.Packet.{flatItem, packBody, flatPack, flatEntry}
-use Rattle.format.specs.Sheet.{Val, Target, Part, one, targets}
+use Rattle.format.specs.Sheet.{Val, Part, one, targets}
 use Rattle.format.specs.Calls.{itemOf, packWith, packOf, seriesWith, entryOf}
 use Rattle.format.specs.Valid.{All}
+use Rattle.coding.proofs.Counts.{len-one, len-above}
 use Rattle.walks.specs.Meet.{total, weightOfVal}
 use Rattle.walks.specs.Runs.{madeOf}
 use Rattle.walks.proofs.Totals.{body-normal}
@@ -58,11 +62,19 @@ target-normal id vs n e =
     let l : length (oidBytes id ++ flatAll flatItem (map itemOf vs)) ≡ n = body-normal (record { id = id; vals = vs }) 0 ∙ sym e in
     rw (l, same-normal vs) (sym (append-assoc (lenBytes (lenWidth n) n) (oidBytes id) (flatAll partNormal (map one vs))))
 
-pub target-long : (id : ℕ) (vs : List Val) → length (oidBytes id) + total (weightOfVal pack) vs .normal ≤ length (targetNormal (record { id = id; vals = vs }))
-unfolding flatPack packOf packWith
-target-long id vs =
-    let t : Target = record { id = id; vals = vs } in
-    rw length-append (omega (arith, body-normal t (lenWidth (length (packBody (record { width = 0; id = id; items = map itemOf vs }))))))
+-- a length has a byte at least
+pub len-some : (n : ℕ) → 1 ≤ lenWidth n
+len-some n = go (ltb n 128) refl
+  where
+    go : (b : Bool) → ltb n 128 ≡ b → 1 ≤ lenWidth n
+    go true e = omega (arith, len-one n (ltb-true n 128 e))
+    go false e = omega (arith, len-above n (ltb-false n 128 e) 0 (omega arith) (omega (arith, ltb-false n 128 e)))
+
+pub vals-normal : (vs : List Val) → length (flatAll partNormal (map one vs)) ≡ total (weightOfVal pack) vs .normal
+unfolding packBody
+vals-normal vs =
+    let b = body-normal (record { id = 0; vals = vs }) 0 in
+    omega (arith, b, length-append (oidBytes 0) (flatAll flatItem (map itemOf vs)), ap length (same-normal vs))
 
 -- no series stands in it
 pub no-inner : (n : ℕ) (vs : List Val) → All (InnerPart n) (map one vs)

@@ -1,4 +1,4 @@
--- What a step over a sheet has read: a part, given the key and the bytes that the code saw at its head; a target; and its values by the check's walk.
+-- What a step over a sheet has read: a part, given the key and the bytes that the code saw at its head; and a target.
 use mathlib.Core.Path.{_≡_, refl, sym, ap, _∙_}
 use Prim.Native.Nat.{ℕ, _+_, _-_, _^_, _≤_, _<_}
 use native.Mathlib.Omega.{arith}
@@ -8,7 +8,7 @@ use lib.ListN.{length, take, drop}
 use lib.Dec.{eqb}
 use borrow.Author.Tests.{leb-true, ltb-true}
 use Rattle.format.specs.Answer.{ok, Got, got}
-use Rattle.format.specs.Coding.{Bytes, bytesNumber}
+use Rattle.format.specs.Coding.{bytesNumber}
 use Rattle.format.specs.Table.{Form, pack}
 use Rattle.format.specs.Run.{run}
 use Rattle.format.specs.Sheet.{Val, Target, Part, one, targets, tagOfVal, IT, TS, TI, is, valueAt, targetAt, seriesAt, partAt}
@@ -20,15 +20,11 @@ use Rattle.heads.specs.Meet.{Peeked}
 use Rattle.heads.specs.Records.{peekRecord}
 use Rattle.heads.proofs.Spans.{record-room}
 use Rattle.heads.proofs.SheetRuns.{value-peek, series-peek}
-use Rattle.walks.specs.declared.Sizes.{Sizes}
-use Rattle.walks.specs.declared.Walked.{Walked}
-use Rattle.walks.specs.declared.Walked.the-variants.{Good, Bad}
-use Rattle.walks.specs.Meet.{total, weightOfVal}
-use Rattle.records.specs.Meet.{moreAt, partStep, recordsWalk}
+use Rattle.records.specs.Meet.{moreAt, partStep}
 use Rattle.records.proofs.Values.{field-here}
 use Rattle.records.proofs.Parts.{named-both}
 use Rattle.walks.proofs.Maps.{mapped}
-use Rattle.records.proofs.Runs.{vals-run, vals-good, vals-bad, vals-used}
+use Rattle.records.proofs.Runs.{vals-run}
 use Rattle.packets.specs.Meet.{recordsRun, targetsRun}
 
 -- ---- a part
@@ -143,23 +139,8 @@ target-here f seen u r e =
     bind-then _ _ _ e₄ λ _ _ e₅.
     rw (← ok-inj _ _ e₅) (record { vs = vs; ten = leb-true _ _ ten; low = ltb-true _ _ low; it-is = refl; used-is = refl; runs = evs })
 
--- its values: as parts, and as the check's walk weighs them
+-- its values, as parts
 module _ (f : Form) (s : List ℕ) (vs : Got (List Val)) (r : run (is TI) tagOfVal (valueAt pack f) s ≡ ok vs) where
   pub vals-read : recordsRun pack f s ≡ ok (got (map one (vs .val)) (vs .used))
   unfolding recordsRun
   vals-read = vals-run f s ∙ ap (mapped one) r
-
-  pub walk-fault : {X : Type 0} {y : Walked} → y ≡ recordsWalk pack f s → {n q : ℕ} → y ≡ Bad n q → X
-  walk-fault ey {n = n} {q = q} ty = never n q vs (sym (vals-bad f s n q (sym ty ∙ ey)) ∙ r)
-
-  module _ {y : Walked} (ey : y ≡ recordsWalk pack f s) {z : Sizes} {m : Bool} (ty : y ≡ Good z m) where
-    pub walk-sizes : total (weightOfVal pack) (vs .val) ≡ z
-    walk-sizes =
-        let w = vals-good f s z m (sym ty ∙ ey) in
-        ap (λ (x : Got (List Val)). total (weightOfVal pack) (x .val)) (ok-inj _ _ (sym r ∙ w .ran)) ∙ w .weighs
-
-    -- its bytes in the sheet
-    pub walk-used : Bytes s → (z .sheet ≡ vs .used) × (vs .used ≤ length s)
-    walk-used b =
-        let u = vals-used f s vs b r in
-        (sym (u .0 ∙ ap (λ (a : Sizes). a .sheet) walk-sizes), u .1)

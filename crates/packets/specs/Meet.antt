@@ -20,6 +20,11 @@ recordsRun l f s = run (moreAt l) tagOfPart (partStep l f) s
 unfoldable pub targetsRun : Form → List ℕ → Ans (Got (List Target))
 targetsRun f s = run (is TG) idOfTarget (targetAt f) s
 
+-- how many bytes a run has read
+abbrev pub usedOf : {A : Type 0} → Ans (Got A) → ℕ
+usedOf (ok r) = r .used
+usedOf (refused n p) = 0
+
 -- an entry and a pack of the packet, each length shortest
 abbrev pub partNormal : Part → List ℕ
 partNormal p = flatEntry (entryOf p)

@@ -8,7 +8,7 @@ use lib.ListN.{length, take, drop, getD, length-drop}
 use lib.Seq.{getD-drop, getD-take, length-take-le}
 use lib.Dec.{eqb}
 use Rattle.format.specs.Coding.{Bytes, oidBytes, lenWidth}
-use Rattle.format.specs.Table.{Form, Level, pack, ruleOf}
+use Rattle.format.specs.Table.{Form, pack, ruleOf}
 use Rattle.format.specs.Sheet.{TI, is, field}
 use Rattle.coding.proofs.Rooms.{tail-part}
 use Rattle.coding.proofs.Counts.{len-one, count-start, count-done}
@@ -21,12 +21,12 @@ use Rattle.heads.specs.declared.records.Field.the-variants as fields
 use Rattle.heads.proofs.Heads.{mid-part}
 use Rattle.walks.specs.declared.Piece.the-variants as piece
 use Rattle.walks.specs.declared.Sizes.{Sizes}
-use Rattle.walks.specs.Meet.{sizes, noSizes, itemSizes, plusSizes}
+use Rattle.walks.specs.Meet.{sizes, itemSizes, plusSizes}
 use Rattle.walks.proofs.Walks.{same-sizes}
 use Rattle.records.specs.Meet.{partPiece}
 use Rattle.records.specs.Going.{RecordsGoing, Glanced}
 use Rattle.records.proofs.Values.{value-within, value-whole}
-use Rattle.records.proofs.PartTurns.{PartAt, records-start, item-told, part-more}
+use Rattle.records.proofs.PartTurns.{PartAt, item-told, part-more}
 
 -- the sizes of so many such records in p bytes
 abbrev pub quickSizes : ℕ → ℕ → Sizes

@@ -28,7 +28,6 @@ use Rattle.walks.specs.declared.Sizes.{Sizes}
 use Rattle.walks.specs.declared.Walked.{Walked}
 use Rattle.walks.specs.declared.Walked.the-variants.{Good, Bad}
 use Rattle.walks.specs.Meet.{sizes, noSizes, lengthened, itemSizes, seriesSizes, plusSizes, weightOfTarget, markTag, seriesFrom, stopAt, laterBy, Few, Small, Within}
-use Rattle.walks.specs.Going.{Going}
 use Rattle.walks.proofs.Walks.{few-more, going-start}
 use Rattle.walks.proofs.Series.{after-not}
 use Rattle.walks.proofs.ItemTurns.{level-is}

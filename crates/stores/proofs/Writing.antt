@@ -51,17 +51,24 @@ skip-over more key step seen (b ∷ s) m = rw (m, skip)
 
 module _ {X S : Type 0} {emit : S → X → List ℕ} {next : S → X → S} {emits : S → List X → List ℕ} (law : Emits emit next emits) (more : List ℕ → Bool) (key : X → ℕ) (step : Step X)
     (whole s out₀ : List ℕ) where
-  pub writing-start : (σ : S) (rs : Got (List X)) → run more key step s ≡ ok rs → whole ≡ emits σ (rs .val) → Writing more emits key step whole s out₀ out₀ σ 0 0
+  -- with how many bytes it has to read
+  pub writing-begins : (σ : S) (rs : Got (List X)) → run more key step s ≡ ok rs → whole ≡ emits σ (rs .val) → (w : Writing more emits key step whole s out₀ out₀ σ 0 0) × (w .things .used ≡ rs .used)
   unfolding run
-  writing-start σ rs e w = record {
-    seen = [];
-    things = rs;
-    reads = e;
-    to = omega arith;
-    same = refl;
-    sum = omega (arith, ap length w);
-    rest = ap (sets out₀ 0) w;
-  }
+  writing-begins σ rs e w = (
+    record {
+      seen = [];
+      things = rs;
+      reads = e;
+      to = omega arith;
+      same = refl;
+      sum = omega (arith, ap length w);
+      rest = ap (sets out₀ 0) w;
+    },
+    refl,
+  )
+
+  pub writing-start : (σ : S) (rs : Got (List X)) → run more key step s ≡ ok rs → whole ≡ emits σ (rs .val) → Writing more emits key step whole s out₀ out₀ σ 0 0
+  writing-start σ rs e w = writing-begins σ rs e w .0
 
   module _ {out : List ℕ} {σ : S} {p k : ℕ} (g : Writing more emits key step whole s out₀ out σ p k) where
     ended : skip more key step (g .seen) 0 (drop p s) ≡ ok (got [] 0) → (k ≡ length whole) × (out ≡ sets out₀ 0 whole)
@@ -114,16 +121,19 @@ module _ {X S : Type 0} {emit : S → X → List ℕ} {next : S → X → S} {em
           → {σ′ : S} → σ′ ≡ next σ (n .it .val) → {p′ : ℕ} → p′ ≡ p + n .it .used → {k′ : ℕ} → k′ ≡ k + length (emit σ (n .it .val))
           → (w : Writing more emits key step whole s out₀ out′ σ′ p′ k′) × (w .things .used ≡ n .after-it .used)
       writing-passes u l {out′ = out′} eo es ep ek =
-          rw (es, ep, ek) (record {
-            seen = key (n .it .val) ∷ g .seen;
-            things = n .after-it;
-            reads = rw drop-drop at (n .goes u);
-            to = l;
-            same = ap length eo ∙ length-sets out k (emit σ (n .it .val)) ∙ g .same;
-            sum = omega (arith, long, g .sum);
-            rest = g .rest ∙ ap (sets out k) split ∙ sets-append out k (emit σ (n .it .val)) (emits (next σ (n .it .val)) (n .after-it .val))
-                ∙ ap (λ x. sets x (k + length (emit σ (n .it .val))) (emits (next σ (n .it .val)) (n .after-it .val))) (sym eo);
-          }, refl)
+          rw (es, ep, ek) (
+            record {
+              seen = key (n .it .val) ∷ g .seen;
+              things = n .after-it;
+              reads = rw drop-drop at (n .goes u);
+              to = l;
+              same = ap length eo ∙ length-sets out k (emit σ (n .it .val)) ∙ g .same;
+              sum = omega (arith, long, g .sum);
+              rest = g .rest ∙ ap (sets out k) split ∙ sets-append out k (emit σ (n .it .val)) (emits (next σ (n .it .val)) (n .after-it .val))
+                  ∙ ap (λ x. sets x (k + length (emit σ (n .it .val))) (emits (next σ (n .it .val)) (n .after-it .val))) (sym eo);
+            },
+            refl,
+          )
 
       pub writing-more : 0 < n .it .used → p + n .it .used ≤ length s → {out′ : List ℕ} → out′ ≡ sets out k (emit σ (n .it .val))
           → {σ′ : S} → σ′ ≡ next σ (n .it .val) → {p′ : ℕ} → p′ ≡ p + n .it .used → {k′ : ℕ} → k′ ≡ k + length (emit σ (n .it .val))

@@ -9,7 +9,8 @@ use borrow.Fn.Kinds.{In}
 use borrow.Fn.PlainCycle.{Measures, is, falls, and}
 use Rattle.items.specs.Meet.{formOf}
 use Rattle.walks.proofs.ItemTurns.{depth, series-deep}
-use Rattle.packets.proofs.Turns.{RecordsWriting, records-start, records-done, records-over, RecordAt, record-room, one-room, one-asked, one-more, series-room, head-asked, series-behind, series-asked, series-more, TargetsWriting, targets-start, targets-done, targets-over, TargetAt, target-room, id-asked, vals-small, id-low, no-fault, target-next, body-few, pack-asked, vals-behind, vals-asked, vals-more}
+use Rattle.packets.proofs.Turns.{RecordsWriting, records-start, records-done, records-over, RecordAt, record-room, one-room, one-asked, one-more, series-room, head-asked, series-behind, series-asked, series-more}
+use Rattle.packets.proofs.TargetTurns.{TargetsWriting, targets-start, targets-done, targets-over, TargetAt, target-room, id-asked, id-low, behind, vals-asked, target-next, body-few, pack-asked, short-more, vals-behind, again-asked, again-more}
 use Rattle.packets.proofs.item_packet.Reads as item-packet
 use Rattle.packets.proofs.item_packet.Kinds as item-packet-kinds
 use Rattle.packets.proofs.+item_packet+target_packet.Lts-item_packet as item-packet-lts
@@ -23,7 +24,7 @@ use Rattle.heads.proofs.records.record_next.Reads as record-next-reads
 use Rattle.normals.proofs.put_pack.Reads as put-pack-reads
 use Rattle.normals.proofs.put_series.Reads as put-series-reads
 use Rattle.records.proofs.goes_on.Reads as goes-on-reads
-use Rattle.records.proofs.item_records.Reads as item-records-reads
+use Rattle.packets.proofs.put_vals.Reads as put-vals-reads
 use Rattle.stores.proofs.coded.put_short.Reads as put-short-reads
 use Rattle.walks.proofs.is_series.Reads as is-series-reads
 use Rattle.packets.proofs.+item_packet+target_packet.{statement}
@@ -53,7 +54,7 @@ abbrev item-claims : ℕ → item-packet-lts.Claims
 item-claims t = (goes-on-reads.Asked, goes-on-reads.Learnt, record-next-reads.Asked, record-next-reads.Learnt, is-series-reads.Asked, is-series-reads.Learnt, put-series-reads.Asked, put-series-reads.Learnt, target-packet-below t, target-packet.Post, put-short-reads.Asked, put-short-reads.Learnt)
 
 abbrev target-claims : ℕ → target-packet-lts.Claims
-target-claims t = (is-mark-reads.Asked, is-mark-reads.Learnt, number-of-reads.Asked, number-of-reads.Learnt, item-records-reads.Asked, item-records-reads.Learnt, oid-width-reads.Asked, oid-width-reads.Learnt, put-pack-reads.Asked, put-pack-reads.Learnt, item-packet-below t, item-packet.Post)
+target-claims t = (is-mark-reads.Asked, is-mark-reads.Learnt, number-of-reads.Asked, number-of-reads.Learnt, oid-width-reads.Asked, oid-width-reads.Learnt, put-vals-reads.Asked, put-vals-reads.Learnt, put-pack-reads.Asked, put-pack-reads.Learnt, item-packet-below t, item-packet.Post)
 
 -- ---- the records of a level
 
@@ -217,77 +218,89 @@ target-packet-number-of-requires t c κs = id-asked (target-at t (c .before))
 target-packet-add-from : (t : ℕ) → target-packet-lts.Need-add-from (target-claims t) (target-packet-at t) target-packet.Post target-packet-Inv-loop target-packet-μ-loop
 target-packet-add-from t c = omega (arith, target-room (target-at t (c .before .before)))
 
-target-packet-sub-item-records : (t : ℕ) → target-packet-lts.Need-sub-item-records (target-claims t) (target-packet-at t) target-packet.Post target-packet-Inv-loop target-packet-μ-loop
-target-packet-sub-item-records t c = omega (arith, target-room (target-at t (c .before .before)))
-
-target-packet-part-item-records-start : (t : ℕ) → target-packet-lts.Need-part-item-records-start (target-claims t) (target-packet-at t) target-packet.Post target-packet-Inv-loop target-packet-μ-loop
-target-packet-part-item-records-start t c = omega (arith, target-room (target-at t (c .before .before)))
-
-target-packet-part-item-records-end : (t : ℕ) → target-packet-lts.Need-part-item-records-end (target-claims t) (target-packet-at t) target-packet.Post target-packet-Inv-loop target-packet-μ-loop
-target-packet-part-item-records-end t c = omega (arith, target-room (target-at t (c .before .before)))
-
-target-packet-item-records-requires : (t : ℕ) → target-packet-lts.Need-item-records-requires (target-claims t) (target-packet-at t) target-packet.Post target-packet-Inv-loop target-packet-μ-loop
-target-packet-item-records-requires t c κs = (c .before .before .before .before .before .before .before .before .before .before .pre .1 .0, vals-small (target-at t (c .before .before .before)))
-
-target-packet-enum-known-w : (t : ℕ) → target-packet-lts.Need-enum-known-w (target-claims t) (target-packet-at t) target-packet.Post target-packet-Inv-loop target-packet-μ-loop
-target-packet-enum-known-w t c = search needs
-
-target-packet-enum-told : (t : ℕ) → target-packet-lts.Need-enum-told (target-claims t) (target-packet-at t) target-packet.Post target-packet-Inv-loop target-packet-μ-loop
-target-packet-enum-told t c = search needs
-
-target-packet-same-length-2 : (t : ℕ) → target-packet-lts.Need-same-length-2 (target-claims t) (target-packet-at t) target-packet.Post target-packet-Inv-loop target-packet-μ-loop
-target-packet-same-length-2 t c = c .before .before .before .before .before .before .before .before .before .loop .inv .writes .same
-
-target-packet-returns-2 : (t : ℕ) → target-packet-lts.Need-returns-2 (target-claims t) (target-packet-at t) target-packet.Post target-packet-Inv-loop target-packet-μ-loop
-target-packet-returns-2 t c = no-fault (target-at t (c .before .before .before .before .before .before)) (c .before .before .before .before .number-of .ensures) (c .before .before .item-records .ensures) (c .enum-told .given .1)
-
 target-packet-oid-width-requires : (t : ℕ) → target-packet-lts.Need-oid-width-requires (target-claims t) (target-packet-at t) target-packet.Post target-packet-Inv-loop target-packet-μ-loop
-target-packet-oid-width-requires t c κs = id-low (target-at t (c .before .before .before .before .before .before .before)) (c .before .before .before .before .before .number-of .ensures)
+target-packet-oid-width-requires t c κs = id-low (target-at t (c .before .before)) (c .number-of .ensures)
+
+target-packet-add-at : (t : ℕ) → target-packet-lts.Need-add-at (target-claims t) (target-packet-at t) target-packet.Post target-packet-Inv-loop target-packet-μ-loop
+target-packet-add-at t c = omega (arith, behind (target-at t (c .before .before .before)) (c .before .number-of .ensures) (c .oid-width .ensures))
+
+target-packet-add-at-2 : (t : ℕ) → target-packet-lts.Need-add-at-2 (target-claims t) (target-packet-at t) target-packet.Post target-packet-Inv-loop target-packet-μ-loop
+target-packet-add-at-2 t c = omega (arith, behind (target-at t (c .before .before .before)) (c .before .number-of .ensures) (c .oid-width .ensures))
+
+target-packet-sub-put-vals : (t : ℕ) → target-packet-lts.Need-sub-put-vals (target-claims t) (target-packet-at t) target-packet.Post target-packet-Inv-loop target-packet-μ-loop
+target-packet-sub-put-vals t c = omega (arith, target-room (target-at t (c .before .before .before)))
+
+target-packet-part-put-vals-start : (t : ℕ) → target-packet-lts.Need-part-put-vals-start (target-claims t) (target-packet-at t) target-packet.Post target-packet-Inv-loop target-packet-μ-loop
+target-packet-part-put-vals-start t c = omega (arith, target-room (target-at t (c .before .before .before)))
+
+target-packet-part-put-vals-end : (t : ℕ) → target-packet-lts.Need-part-put-vals-end (target-claims t) (target-packet-at t) target-packet.Post target-packet-Inv-loop target-packet-μ-loop
+target-packet-part-put-vals-end t c = omega (arith, target-room (target-at t (c .before .before .before)))
+
+target-packet-sub-put-vals-2 : (t : ℕ) → target-packet-lts.Need-sub-put-vals-2 (target-claims t) (target-packet-at t) target-packet.Post target-packet-Inv-loop target-packet-μ-loop
+target-packet-sub-put-vals-2 t c = behind (target-at t (c .before .before .before .before)) (c .before .before .number-of .ensures) (c .before .oid-width .ensures) .0
+
+target-packet-part-put-vals-start-2 : (t : ℕ) → target-packet-lts.Need-part-put-vals-start-2 (target-claims t) (target-packet-at t) target-packet.Post target-packet-Inv-loop target-packet-μ-loop
+target-packet-part-put-vals-start-2 t c = behind (target-at t (c .before .before .before .before)) (c .before .before .number-of .ensures) (c .before .oid-width .ensures) .0
+
+target-packet-part-put-vals-end-2 : (t : ℕ) → target-packet-lts.Need-part-put-vals-end-2 (target-claims t) (target-packet-at t) target-packet.Post target-packet-Inv-loop target-packet-μ-loop
+target-packet-part-put-vals-end-2 t c = search needs
+
+target-packet-put-vals-requires : (t : ℕ) → target-packet-lts.Need-put-vals-requires (target-claims t) (target-packet-at t) target-packet.Post target-packet-Inv-loop target-packet-μ-loop
+target-packet-put-vals-requires t c κs = vals-asked (target-at t (c .before .before .before .before .before)) (c .before .before .before .number-of .ensures) (c .before .before .oid-width .ensures)
+
+target-packet-add-next : (t : ℕ) → target-packet-lts.Need-add-next (target-claims t) (target-packet-at t) target-packet.Post target-packet-Inv-loop target-packet-μ-loop
+target-packet-add-next t c = omega (arith, target-next (target-at t (c .before .before .before .before .before .before .before .before .before)) (c .before .before .before .before .before .before .before .number-of .ensures) (c .before .before .before .before .before .before .oid-width .ensures) (c .before .before .before .put-vals .ensures))
 
 target-packet-add-body : (t : ℕ) → target-packet-lts.Need-add-body (target-claims t) (target-packet-at t) target-packet.Post target-packet-Inv-loop target-packet-μ-loop
-target-packet-add-body t c = omega (arith, body-few (target-at t (c .before .before .before .before .before .before .before .before .before)) (c .before .before .before .before .before .before .before .number-of .ensures) (c .before .before .before .before .before .item-records .ensures) (c .before .before .before .w .given .1) (c .before .oid-width .ensures))
+target-packet-add-body t c = omega (arith, body-few (target-at t (c .before .before .before .before .before .before .before .before .before .before)) (c .before .before .before .before .before .before .before .before .number-of .ensures) (c .before .before .before .before .before .before .before .oid-width .ensures) (c .before .before .before .before .put-vals .ensures))
 
 target-packet-put-pack-requires : (t : ℕ) → target-packet-lts.Need-put-pack-requires (target-claims t) (target-packet-at t) target-packet.Post target-packet-Inv-loop target-packet-μ-loop
-target-packet-put-pack-requires t c κs = pack-asked (target-at t (c .before .before .before .before .before .before .before .before .before .before)) (c .before .before .before .before .before .before .before .before .number-of .ensures) (c .before .before .before .before .before .before .item-records .ensures) (c .before .before .before .before .w .given .1) (c .before .before .oid-width .ensures)
+target-packet-put-pack-requires t c κs = pack-asked (target-at t (c .before .before .before .before .before .before .before .before .before .before .before)) (c .before .before .before .before .before .before .before .before .before .number-of .ensures) (c .before .before .before .before .before .before .before .before .oid-width .ensures) (c .before .before .before .before .before .put-vals .ensures)
+
+target-packet-add-k : (t : ℕ) → target-packet-lts.Need-add-k (target-claims t) (target-packet-at t) target-packet.Post target-packet-Inv-loop target-packet-μ-loop
+target-packet-add-k t c = omega (arith, short-more (target-at t (c .before .before .before .before .before .before .before .before .before .before .before .before .before .before .before .before)) (c .before .before .before .before .before .before .before .before .before .before .before .before .before .before .number-of .ensures) (c .before .before .before .before .before .before .before .before .before .before .before .before .before .oid-width .ensures) (c .before .before .before .before .before .before .before .before .before .before .put-vals .ensures) (c .before .before .before .before .put-pack .ensures) (c .before .if2 .taken) .writes .sum, c .before .before .before .before .before .before .before .before .before .before .before .before .before .before .before .before .before .before .before .before .before .before .before .pre .1 .1 .3)
 
 target-packet-sub-item-packet : (t : ℕ) → target-packet-lts.Need-sub-item-packet (target-claims t) (target-packet-at t) target-packet.Post target-packet-Inv-loop target-packet-μ-loop
-target-packet-sub-item-packet t c = omega (arith, target-room (target-at t (c .before .before .before .before .before .before .before .before .before .before .before .before .before)))
+target-packet-sub-item-packet t c = omega (arith, target-room (target-at t (c .before .before .before .before .before .before .before .before .before .before .before .before .before .before .before)))
 
 target-packet-part-item-packet-start : (t : ℕ) → target-packet-lts.Need-part-item-packet-start (target-claims t) (target-packet-at t) target-packet.Post target-packet-Inv-loop target-packet-μ-loop
-target-packet-part-item-packet-start t c = omega (arith, target-room (target-at t (c .before .before .before .before .before .before .before .before .before .before .before .before .before)))
+target-packet-part-item-packet-start t c = omega (arith, target-room (target-at t (c .before .before .before .before .before .before .before .before .before .before .before .before .before .before .before)))
 
 target-packet-part-item-packet-end : (t : ℕ) → target-packet-lts.Need-part-item-packet-end (target-claims t) (target-packet-at t) target-packet.Post target-packet-Inv-loop target-packet-μ-loop
-target-packet-part-item-packet-end t c = omega (arith, target-room (target-at t (c .before .before .before .before .before .before .before .before .before .before .before .before .before)))
+target-packet-part-item-packet-end t c = omega (arith, target-room (target-at t (c .before .before .before .before .before .before .before .before .before .before .before .before .before .before .before)))
 
 target-packet-sub-item-packet-2 : (t : ℕ) → target-packet-lts.Need-sub-item-packet-2 (target-claims t) (target-packet-at t) target-packet.Post target-packet-Inv-loop target-packet-μ-loop
-target-packet-sub-item-packet-2 t c = vals-behind (target-at t (c .before .before .before .before .before .before .before .before .before .before .before .before .before .before)) (c .before .before .before .before .before .before .before .before .before .before .before .before .number-of .ensures) (c .before .before .before .before .before .before .before .before .before .before .item-records .ensures) (c .before .before .before .before .before .before .before .before .w .given .1) (c .before .before .before .before .before .before .oid-width .ensures) (c .before .before .before .put-pack .ensures)
+target-packet-sub-item-packet-2 t c = vals-behind (target-at t (c .before .before .before .before .before .before .before .before .before .before .before .before .before .before .before .before)) (c .before .before .before .before .before .before .before .before .before .before .before .before .before .before .number-of .ensures) (c .before .before .before .before .before .before .before .before .before .before .before .before .before .oid-width .ensures) (c .before .before .before .before .before .before .before .before .before .before .put-vals .ensures) (c .before .before .before .before .put-pack .ensures)
 
 target-packet-part-item-packet-start-2 : (t : ℕ) → target-packet-lts.Need-part-item-packet-start-2 (target-claims t) (target-packet-at t) target-packet.Post target-packet-Inv-loop target-packet-μ-loop
-target-packet-part-item-packet-start-2 t c = vals-behind (target-at t (c .before .before .before .before .before .before .before .before .before .before .before .before .before .before)) (c .before .before .before .before .before .before .before .before .before .before .before .before .number-of .ensures) (c .before .before .before .before .before .before .before .before .before .before .item-records .ensures) (c .before .before .before .before .before .before .before .before .w .given .1) (c .before .before .before .before .before .before .oid-width .ensures) (c .before .before .before .put-pack .ensures)
+target-packet-part-item-packet-start-2 t c = vals-behind (target-at t (c .before .before .before .before .before .before .before .before .before .before .before .before .before .before .before .before)) (c .before .before .before .before .before .before .before .before .before .before .before .before .before .before .number-of .ensures) (c .before .before .before .before .before .before .before .before .before .before .before .before .before .oid-width .ensures) (c .before .before .before .before .before .before .before .before .before .before .put-vals .ensures) (c .before .before .before .before .put-pack .ensures)
 
 target-packet-part-item-packet-end-2 : (t : ℕ) → target-packet-lts.Need-part-item-packet-end-2 (target-claims t) (target-packet-at t) target-packet.Post target-packet-Inv-loop target-packet-μ-loop
 target-packet-part-item-packet-end-2 t c = search needs
 
 target-packet-item-packet-requires : (t : ℕ) → target-packet-lts.Need-item-packet-requires (target-claims t) (target-packet-at t) target-packet.Post target-packet-Inv-loop target-packet-μ-loop
-target-packet-item-packet-requires t c κs = (omega (arith, c .before .before .before .before .before .before .before .before .before .before .before .before .before .before .before .before .before .before .before .before .before .before .pre .0), (c .before .before .before .before .before .before .before .before .before .before .before .before .before .before .before .before .before .before .before .before .before .before .pre .1 .0, vals-asked (target-at t (c .before .before .before .before .before .before .before .before .before .before .before .before .before .before .before)) (c .before .before .before .before .before .before .before .before .before .before .before .before .before .number-of .ensures) (c .before .before .before .before .before .before .before .before .before .before .before .item-records .ensures) (c .before .before .before .before .before .before .before .before .before .w .given .1) (c .before .before .before .before .before .before .before .oid-width .ensures) (c .before .before .before .before .put-pack .ensures)))
+target-packet-item-packet-requires t c κs = (omega (arith, c .before .before .before .before .before .before .before .before .before .before .before .before .before .before .before .before .before .before .before .before .before .before .before .before .pre .0), (c .before .before .before .before .before .before .before .before .before .before .before .before .before .before .before .before .before .before .before .before .before .before .before .before .pre .1 .0, again-asked (target-at t (c .before .before .before .before .before .before .before .before .before .before .before .before .before .before .before .before .before)) (c .before .before .before .before .before .before .before .before .before .before .before .before .before .before .before .number-of .ensures) (c .before .before .before .before .before .before .before .before .before .before .before .before .before .before .oid-width .ensures) (c .before .before .before .before .before .before .before .before .before .before .before .put-vals .ensures) (c .before .before .before .before .before .put-pack .ensures)))
 
-target-packet-add-k : (t : ℕ) → target-packet-lts.Need-add-k (target-claims t) (target-packet-at t) target-packet.Post target-packet-Inv-loop target-packet-μ-loop
-target-packet-add-k t c = omega (arith, vals-more (target-at t (c .before .before .before .before .before .before .before .before .before .before .before .before .before .before .before .before .before .before)) (c .before .before .before .before .before .before .before .before .before .before .before .before .before .before .before .before .number-of .ensures) (c .before .before .before .before .before .before .before .before .before .before .before .before .before .before .item-records .ensures) (c .before .before .before .before .before .before .before .before .before .before .before .before .w .given .1) (c .before .before .before .before .before .before .before .before .before .before .oid-width .ensures) (c .before .before .before .before .before .before .before .put-pack .ensures) (c .before .before .item-packet .ensures) .writes .sum, c .before .before .before .before .before .before .before .before .before .before .before .before .before .before .before .before .before .before .before .before .before .before .before .before .before .pre .1 .1 .3)
-
-target-packet-add-p : (t : ℕ) → target-packet-lts.Need-add-p (target-claims t) (target-packet-at t) target-packet.Post target-packet-Inv-loop target-packet-μ-loop
-target-packet-add-p t c = omega (arith, target-next (target-at t (c .before .before .before .before .before .before .before .before .before .before .before .before .before .before .before .before .before .before .before)) (c .before .before .before .before .before .before .before .before .before .before .before .before .before .before .before .before .before .number-of .ensures) (c .before .before .before .before .before .before .before .before .before .before .before .before .before .before .before .item-records .ensures) (c .before .before .before .before .before .before .before .before .before .before .before .before .before .w .given .1))
+target-packet-add-k-2 : (t : ℕ) → target-packet-lts.Need-add-k-2 (target-claims t) (target-packet-at t) target-packet.Post target-packet-Inv-loop target-packet-μ-loop
+target-packet-add-k-2 t c = omega (arith, again-more (target-at t (c .before .before .before .before .before .before .before .before .before .before .before .before .before .before .before .before .before .before .before .before)) (c .before .before .before .before .before .before .before .before .before .before .before .before .before .before .before .before .before .before .number-of .ensures) (c .before .before .before .before .before .before .before .before .before .before .before .before .before .before .before .before .before .oid-width .ensures) (c .before .before .before .before .before .before .before .before .before .before .before .before .before .before .put-vals .ensures) (c .before .before .before .before .before .before .before .before .put-pack .ensures) (c .before .before .item-packet .ensures) .writes .sum, c .before .before .before .before .before .before .before .before .before .before .before .before .before .before .before .before .before .before .before .before .before .before .before .before .before .before .before .pre .1 .1 .3)
 
 target-packet-loop-less : (t : ℕ) → target-packet-lts.Need-loop-less (target-claims t) (target-packet-at t) target-packet.Post target-packet-Inv-loop target-packet-μ-loop
-target-packet-loop-less t c = omega (arith, target-next (target-at t (c .before .before .before .before .before .before .before .before .before .before .before .before .before .before .before .before .before .before .before)) (c .before .before .before .before .before .before .before .before .before .before .before .before .before .before .before .before .before .number-of .ensures) (c .before .before .before .before .before .before .before .before .before .before .before .before .before .before .before .item-records .ensures) (c .before .before .before .before .before .before .before .before .before .before .before .before .before .w .given .1))
+target-packet-loop-less t c = omega (arith, target-next (target-at t (c .before .before .before .before .before .before .before .before .before .before .before .before .before .before .before .before)) (c .before .before .before .before .before .before .before .before .before .before .before .before .before .before .number-of .ensures) (c .before .before .before .before .before .before .before .before .before .before .before .before .before .oid-width .ensures) (c .before .before .before .before .before .before .before .before .before .before .put-vals .ensures))
 
 target-packet-loop-again : (t : ℕ) → target-packet-lts.Need-loop-again (target-claims t) (target-packet-at t) target-packet.Post target-packet-Inv-loop target-packet-μ-loop
-target-packet-loop-again t c = vals-more (target-at t (c .before .before .before .before .before .before .before .before .before .before .before .before .before .before .before .before .before .before .before)) (c .before .before .before .before .before .before .before .before .before .before .before .before .before .before .before .before .before .number-of .ensures) (c .before .before .before .before .before .before .before .before .before .before .before .before .before .before .before .item-records .ensures) (c .before .before .before .before .before .before .before .before .before .before .before .before .before .w .given .1) (c .before .before .before .before .before .before .before .before .before .before .before .oid-width .ensures) (c .before .before .before .before .before .before .before .before .put-pack .ensures) (c .before .before .before .item-packet .ensures)
+target-packet-loop-again t c = short-more (target-at t (c .before .before .before .before .before .before .before .before .before .before .before .before .before .before .before .before)) (c .before .before .before .before .before .before .before .before .before .before .before .before .before .before .number-of .ensures) (c .before .before .before .before .before .before .before .before .before .before .before .before .before .oid-width .ensures) (c .before .before .before .before .before .before .before .before .before .before .put-vals .ensures) (c .before .before .before .before .put-pack .ensures) (c .before .if2 .taken)
 
-target-packet-same-length-3 : (t : ℕ) → target-packet-lts.Need-same-length-3 (target-claims t) (target-packet-at t) target-packet.Post target-packet-Inv-loop target-packet-μ-loop
-target-packet-same-length-3 t c = c .before .loop .inv .writes .same
+target-packet-loop-less-2 : (t : ℕ) → target-packet-lts.Need-loop-less-2 (target-claims t) (target-packet-at t) target-packet.Post target-packet-Inv-loop target-packet-μ-loop
+target-packet-loop-less-2 t c = omega (arith, target-next (target-at t (c .before .before .before .before .before .before .before .before .before .before .before .before .before .before .before .before .before .before .before .before)) (c .before .before .before .before .before .before .before .before .before .before .before .before .before .before .before .before .before .before .number-of .ensures) (c .before .before .before .before .before .before .before .before .before .before .before .before .before .before .before .before .before .oid-width .ensures) (c .before .before .before .before .before .before .before .before .before .before .before .before .before .before .put-vals .ensures))
 
-target-packet-returns-3 : (t : ℕ) → target-packet-lts.Need-returns-3 (target-claims t) (target-packet-at t) target-packet.Post target-packet-Inv-loop target-packet-μ-loop
-target-packet-returns-3 t c = targets-done (c .before .loop .inv) (c .loop-test .left)
+target-packet-loop-again-2 : (t : ℕ) → target-packet-lts.Need-loop-again-2 (target-claims t) (target-packet-at t) target-packet.Post target-packet-Inv-loop target-packet-μ-loop
+target-packet-loop-again-2 t c = again-more (target-at t (c .before .before .before .before .before .before .before .before .before .before .before .before .before .before .before .before .before .before .before .before)) (c .before .before .before .before .before .before .before .before .before .before .before .before .before .before .before .before .before .before .number-of .ensures) (c .before .before .before .before .before .before .before .before .before .before .before .before .before .before .before .before .before .oid-width .ensures) (c .before .before .before .before .before .before .before .before .before .before .before .before .before .before .put-vals .ensures) (c .before .before .before .before .before .before .before .before .put-pack .ensures) (c .before .before .item-packet .ensures)
+
+target-packet-same-length-2 : (t : ℕ) → target-packet-lts.Need-same-length-2 (target-claims t) (target-packet-at t) target-packet.Post target-packet-Inv-loop target-packet-μ-loop
+target-packet-same-length-2 t c = c .before .loop .inv .writes .same
+
+target-packet-returns-2 : (t : ℕ) → target-packet-lts.Need-returns-2 (target-claims t) (target-packet-at t) target-packet.Post target-packet-Inv-loop target-packet-μ-loop
+target-packet-returns-2 t c = targets-done (c .before .loop .inv) (c .loop-test .left)
 
 pub +item-packet+target-packet-spec : {M : Type 1} → statement M
 +item-packet+target-packet-spec =
@@ -304,10 +317,11 @@ pub +item-packet+target-packet-spec : {M : Type 1} → statement M
     (λ t. target-packet-lts.spec (target-claims t) (target-packet-at t) target-packet.Post target-packet-Inv-loop target-packet-μ-loop
     (target-packet-loop-holds t) (target-packet-is-mark-requires t) (target-packet-same-length t) (target-packet-returns t)
     (target-packet-add-number-of t) (target-packet-sub-number-of t) (target-packet-part-number-of-start t) (target-packet-part-number-of-end t)
-    (target-packet-number-of-requires t) (target-packet-add-from t) (target-packet-sub-item-records t) (target-packet-part-item-records-start t)
-    (target-packet-part-item-records-end t) (target-packet-item-records-requires t) (target-packet-enum-known-w t) (target-packet-enum-told t)
-    (target-packet-same-length-2 t) (target-packet-returns-2 t) (target-packet-oid-width-requires t) (target-packet-add-body t)
-    (target-packet-put-pack-requires t) (target-packet-sub-item-packet t) (target-packet-part-item-packet-start t) (target-packet-part-item-packet-end t)
-    (target-packet-sub-item-packet-2 t) (target-packet-part-item-packet-start-2 t) (target-packet-part-item-packet-end-2 t) (target-packet-item-packet-requires t)
-    (target-packet-add-k t) (target-packet-add-p t) (target-packet-loop-less t) (target-packet-loop-again t)
-    (target-packet-same-length-3 t) (target-packet-returns-3 t))
+    (target-packet-number-of-requires t) (target-packet-add-from t) (target-packet-oid-width-requires t) (target-packet-add-at t)
+    (target-packet-add-at-2 t) (target-packet-sub-put-vals t) (target-packet-part-put-vals-start t) (target-packet-part-put-vals-end t)
+    (target-packet-sub-put-vals-2 t) (target-packet-part-put-vals-start-2 t) (target-packet-part-put-vals-end-2 t) (target-packet-put-vals-requires t)
+    (target-packet-add-next t) (target-packet-add-body t) (target-packet-put-pack-requires t) (target-packet-add-k t)
+    (target-packet-sub-item-packet t) (target-packet-part-item-packet-start t) (target-packet-part-item-packet-end t) (target-packet-sub-item-packet-2 t)
+    (target-packet-part-item-packet-start-2 t) (target-packet-part-item-packet-end-2 t) (target-packet-item-packet-requires t) (target-packet-add-k-2 t)
+    (target-packet-loop-less t) (target-packet-loop-again t) (target-packet-loop-less-2 t) (target-packet-loop-again-2 t)
+    (target-packet-same-length-2 t) (target-packet-returns-2 t))

@@ -1,0 +1,209 @@
+-- What a turn over the targets stores: the items behind a head of the usual size, and then the head; or the items once more, behind a longer one.
+use mathlib.Core.Path.{_≡_, refl, sym, ap, _∙_}
+use Prim.Native.Nat.{ℕ, _+_, _-_, _^_, _≤_, _<_}
+use native.Mathlib.Omega.{arith}
+use mathlib.Core.Bool.{true, false}
+use mathlib.Core.List.{List, _++_, map}
+use lib.ListN.{length, take, drop, length-append, length-drop}
+use lib.Seq.{sets, drop-drop, length-sets}
+use borrow.Rule.Slice.PartMut.{putMid}
+use Rattle.format.specs.Answer.{ok, got}
+use Rattle.format.specs.Coding.{Bytes, bytesNumber, lenWidth, lenBytes, oidBytes}
+use Rattle.format.specs.Lists.{flatAll}
+use Rattle.format.specs.Table.{Form, pack}
+use Rattle.format.specs.Sheet.{one, idOfTarget, TG, is, targetAt}
+use Rattle.format.proofs.words.Bytes.{bytes-drop}
+use Rattle.format.proofs.coding.Lengths.{length-len}
+use Rattle.coding.proofs.Counts.{len-one}
+use Rattle.coding.proofs.Rooms.{tail-part}
+use Rattle.walks.specs.Meet.{total, weightOfVal}
+use Rattle.walks.specs.Runs.{Ran, madeOf}
+use Rattle.records.proofs.Runs.{vals-used}
+use Rattle.stores.proofs.Puts.{Puts, Parted, head-room, head-behind, rest-room, rest-put}
+use Rattle.stores.proofs.Stores.{sets-append, sets-swap, sets-under, tail-length, tail-stored}
+use Rattle.stores.proofs.Writing.{each, Writing, writing-start, writing-done, writing-over, Next, next-here, next-room, writing-more, long}
+use Rattle.stores.proofs.Entries.{ran, ran-ok}
+use Rattle.normals.specs.Meet.{packFront}
+use Rattle.packets.specs.Meet.{usedOf, recordsRun, targetsRun, targetNormal, partNormal, recordsNormal, targetsNormal}
+use Rattle.packets.proofs.Steps.{TargetHere, target-here, vals-read}
+use Rattle.packets.proofs.Forms.{target-normal, len-some, vals-normal, no-inner}
+use Rattle.packets.proofs.Turns.{RecordsAsked}
+
+abbrev pub TargetsAsked : Form → List ℕ → ℕ → Type 0
+TargetsAsked f s n = (length s ≤ 65536) × Ran (targetsRun f s) × (length (targetsNormal f s) ≤ n) × (length (targetsNormal f s) ≤ 8192)
+
+pub record TargetsWriting (f : Form) (s out₀ out : List ℕ) (p k : ℕ) : Type 0 where
+  pub writes : Writing (is TG) (λ (_ : Unit {0}). flatAll targetNormal) idOfTarget (targetAt f) (targetsNormal f s) s out₀ out tt p k
+
+module _ {f : Form} {s out₀ : List ℕ} where
+  pub targets-start : TargetsAsked f s (length out₀) → TargetsWriting f s out₀ out₀ 0 0
+  unfolding targetsRun
+  targets-start a =
+      let (rs, e) = ran (targetsRun f s) (a .1) in
+      record { writes = writing-start (each targetNormal) (is TG) idOfTarget (targetAt f) _ s out₀ tt rs e (ap (madeOf (flatAll targetNormal)) e) }
+
+  module _ {out : List ℕ} {p k : ℕ} (g : TargetsWriting f s out₀ out p k) where
+    pub targets-done : length s ≤ p → (k ≡ length (targetsNormal f s)) × (out ≡ sets out₀ 0 (targetsNormal f s))
+    targets-done h = writing-done (each targetNormal) _ _ _ _ _ _ (g .writes) h
+
+    pub targets-over : is TG (drop p s) ≡ false → (k ≡ length (targetsNormal f s)) × (out ≡ sets out₀ 0 (targetsNormal f s))
+    targets-over m = writing-over (each targetNormal) _ _ _ _ _ _ (g .writes) m
+
+-- a `TG` stands at p
+pub record TargetAt (f : Form) (s out₀ out : List ℕ) (p k : ℕ) : Type 0 where
+  pub going : TargetsWriting f s out₀ out p k
+  pub here : p < length s
+  pub more : is TG (drop p s) ≡ true
+  pub bytes : Bytes s
+  pub asked : TargetsAsked f s (length out₀)
+
+module _ {f : Form} {s out₀ out : List ℕ} {p k : ℕ} (i : TargetAt f s out₀ out p k) where
+  target : Next (each targetNormal) _ _ _ _ _ _ (i .going .writes)
+  target = next-here (each targetNormal) _ _ _ _ _ _ (i .going .writes) (i .here) (i .more)
+
+  stands : TargetHere f (drop p s) (target .it)
+  stands = target-here f (i .going .writes .seen) (drop p s) (target .it) (target .read)
+
+  pub target-room : (p + 10 ≤ length s) × (length s ≤ 65536)
+  target-room = (omega (arith, stands .ten, length-drop p s), i .asked .0)
+
+  -- its id and its values, as they are lent
+  abbrev idLent : List ℕ
+  idLent = take (length s - (p + 2)) (drop (p + 2) s)
+
+  id-lent-is : idLent ≡ drop 2 (drop p s)
+  id-lent-is = tail-part (p + 2) s ∙ sym (drop-drop 2 p s)
+
+  pub id-asked : (8 ≤ 8) × (8 ≤ length idLent)
+  id-asked = (omega arith, omega (arith, ap length id-lent-is, length-drop 2 (drop p s), stands .ten))
+
+  abbrev valsLent : List ℕ
+  valsLent = take (length s - (p + 10)) (drop (p + 10) s)
+
+  vals-lent-is : valsLent ≡ drop 10 (drop p s)
+  vals-lent-is = tail-part (p + 10) s ∙ sym (drop-drop 10 p s)
+
+  pub vals-small : length valsLent ≤ 65536
+  vals-small = omega (arith, ap length vals-lent-is, length-drop 10 (drop p s), length-drop p s, i .asked .0)
+
+  abbrev written : List ℕ
+  written = targetNormal (target .it .val)
+
+  module _ {id : ℕ} (ei : id ≡ bytesNumber (take 8 idLent)) where
+    id-is : bytesNumber (take 8 (drop 2 (drop p s))) ≡ id
+    id-is = sym (ei ∙ ap (λ u. bytesNumber (take 8 u)) id-lent-is)
+
+    pub id-low : id < 2 ^ 63
+    id-low = rw id-is at (stands .low)
+
+    vals-run-is : recordsRun pack f valsLent ≡ ok (got (map one (stands .vs .val)) (stands .vs .used))
+    vals-run-is = ap (recordsRun pack f) vals-lent-is ∙ vals-read f (drop 10 (drop p s)) (stands .vs) (stands .runs)
+
+    abbrev normal : List ℕ
+    normal = recordsNormal pack f valsLent
+
+    normal-long : length normal ≡ total (weightOfVal pack) (stands .vs .val) .normal
+    normal-long = ap (λ x. length (madeOf (flatAll partNormal) x)) vals-run-is ∙ vals-normal (stands .vs .val)
+
+    vals-within : stands .vs .used ≤ length (drop 10 (drop p s))
+    vals-within = vals-used f (drop 10 (drop p s)) (stands .vs) (bytes-drop 10 (drop p s) (bytes-drop p s (i .bytes))) (stands .runs) .1
+
+    written-few : length written ≤ 8192
+    written-few = omega (arith, long (each targetNormal) _ _ _ _ _ _ (i .going .writes) target, i .going .writes .sum, i .asked .3)
+
+    -- w is how many bytes its id takes
+    module _ {w : ℕ} (ew : (w ≡ length (oidBytes id)) × (w ≤ 9)) where
+      abbrev body : ℕ
+      body = w + length normal
+
+      written-is : written ≡ targetNormal (record { id = id; vals = stands .vs .val })
+      written-is = ap targetNormal (stands .it-is) ∙ ap (λ j. targetNormal (record { id = j; vals = stands .vs .val })) id-is
+
+      parts : Parted out k written (packFront body id) normal
+      parts = record {
+        is = written-is ∙ target-normal id (stands .vs .val) body (omega (arith, ew .0, normal-long)) ∙ ap (λ x. packFront body id ++ madeOf (flatAll partNormal) x) (sym vals-run-is);
+        fits = next-room (each targetNormal) _ _ _ _ _ _ (i .going .writes) target (i .asked .2);
+      }
+
+      front-long : length (packFront body id) ≡ lenWidth body + w
+      unfolding packFront
+      front-long = length-append (lenBytes (lenWidth body) body) (oidBytes id) ∙ omega (arith, length-len (lenWidth body) body, ew .0)
+
+      whole-long : length written ≡ length (packFront body id) + length normal
+      whole-long = ap length (parts .is) ∙ length-append (packFront body id) normal
+
+      -- behind the head that most have
+      pub behind : (k + 1 + w ≤ length out) × (k + 1 + w + length normal ≤ length out)
+      behind =
+          let one : 1 ≤ lenWidth body = len-some body in
+          (omega (arith, parts .fits, whole-long, front-long, one), omega (arith, parts .fits, whole-long, front-long, one))
+
+      pub vals-asked : RecordsAsked 0 false f valsLent (length (take (length out - (k + 1 + w)) (drop (k + 1 + w) out)))
+      vals-asked = (
+        vals-small,
+        ran-ok (recordsRun pack f valsLent) vals-run-is,
+        omega arith,
+        rw vals-run-is (no-inner 0 (stands .vs .val)),
+        rw tail-length (omega (arith, behind .1)),
+        omega (arith, whole-long, written-few),
+      )
+
+      -- the items are stored there, n bytes of u
+      module _ {u n : ℕ} {o : List ℕ} (ed : (u ≡ usedOf (recordsRun pack f valsLent)) × (n ≡ length normal) × (o ≡ sets (take (length out - (k + 1 + w)) (drop (k + 1 + w) out)) 0 normal)) where
+        abbrev out₁ : List ℕ
+        out₁ = putMid (k + 1 + w) (length out - (k + 1 + w)) out o
+
+        early : out₁ ≡ sets out (k + 1 + w) normal
+        early = tail-stored out (k + 1 + w) o normal (ed .2)
+
+        early-long : length out₁ ≡ length out
+        early-long = ap length early ∙ length-sets out (k + 1 + w) normal
+
+        used-is : u ≡ stands .vs .used
+        used-is = ed .0 ∙ ap usedOf vals-run-is
+
+        pub target-next : (p + 10 + u ≤ length s) × (length s ≤ 65536)
+        target-next = (omega (arith, used-is, vals-within, length-drop 10 (drop p s), length-drop p s, stands .ten), i .asked .0)
+
+        pub body-few : w + n ≤ 65536
+        body-few = omega (arith, ed .1, whole-long, front-long, written-few)
+
+        pub pack-asked : (w + n ≤ 65536) × (id < 2 ^ 63) × (k + length (packFront (w + n) id) ≤ length out₁)
+        pack-asked = (body-few, id-low, rw (ed .1, early-long) (head-room parts))
+
+        -- and then the head
+        module _ {m : ℕ} {out₂ : List ℕ} (em : Puts out₁ k (packFront (w + n) id) m out₂) where
+          headed : Puts out₁ k (packFront body id) m out₂
+          headed = rw (ed .1) at em
+
+          turned : {k′ : ℕ} {out′ : List ℕ} → Puts out k written k′ out′ → TargetsWriting f s out₀ out′ (p + 10 + u) k′
+          turned e = record {
+            writes = writing-more (each targetNormal) _ _ _ _ _ _ (i .going .writes) target (omega (arith, stands .used-is)) (omega (arith, stands .used-is, used-is, target-next)) (e .1) refl
+                (omega (arith, stands .used-is, used-is)) (e .0);
+          }
+
+          pub short-more : w + n < 128 → TargetsWriting f s out₀ out₂ (p + 10 + u) (m + n)
+          short-more h =
+              let one : 1 ≡ lenWidth body = len-one body (omega (arith, ed .1)) in
+              let at : k + 1 + w ≡ k + length (packFront body id) = omega (arith, one, front-long) in
+              turned (
+                omega (arith, headed .0, ed .1, whole-long),
+                headed .1 ∙ ap (λ x. sets x k (packFront body id)) early ∙ sets-swap out k (packFront body id) (k + 1 + w) normal (omega (arith, at))
+                    ∙ ap (λ j. sets (sets out k (packFront body id)) j normal) at ∙ sym (sets-append out k (packFront body id) normal) ∙ ap (sets out k) (sym (parts .is)),
+              )
+
+          again : Parted out₁ k written (packFront body id) normal
+          again = record { is = parts .is; fits = omega (arith, parts .fits, early-long) }
+
+          pub vals-behind : m ≤ length out₂
+          vals-behind = head-behind again headed
+
+          pub again-asked : RecordsAsked 0 false f valsLent (length (take (length out₂ - m) (drop m out₂)))
+          again-asked = let a = vals-asked in (a .0, a .1, a .2, a .3, rest-room again headed, a .5)
+
+          pub again-more : {r : ℕ} {o₂ : List ℕ} → (r ≡ length normal) × (o₂ ≡ sets (take (length out₂ - m) (drop m out₂)) 0 normal)
+              → TargetsWriting f s out₀ (putMid m (length out₂ - m) out₂ o₂) (p + 10 + u) (m + r)
+          again-more q =
+              let e = rest-put again headed q in
+              let one : 1 ≤ lenWidth body = len-some body in
+              turned (e .0, e .1 ∙ ap (λ x. sets x k written) early ∙ sets-under out (k + 1 + w) normal k written (omega arith) (omega (arith, whole-long, front-long, one)))

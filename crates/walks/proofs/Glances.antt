@@ -1,12 +1,13 @@
 -- The quick way's turns: an item told at a glance is read as the item walk reads it.
 use mathlib.Core.Path.{_≡_, refl, sym, ap, _∙_}
-use Prim.Native.Nat.{ℕ, _+_, _-_, _*_, _≤_, _<_}
+use Prim.Native.Nat.{ℕ, zero, suc, _+_, _-_, _*_, _≤_, _<_}
 use native.Mathlib.Omega.{arith}
 use mathlib.Core.Bool.{Bool, true, false, not, _&&_, _||_}
 use mathlib.Core.List.{List}
 use lib.ListN.{length, take, drop, getD, length-drop}
 use lib.Seq.{getD-drop, getD-take, length-take-le}
 use lib.Dec.{eqb}
+use borrow.Author.Tests.{ne-eqb}
 use Rattle.format.specs.Coding.{Bytes, oidBytes, lenWidth}
 use Rattle.format.specs.Table.{Form, Level, isSet, isAlone}
 use Rattle.coding.proofs.Counts.{len-one, count-start, count-done}
@@ -19,7 +20,7 @@ use Rattle.heads.proofs.Heads.{mid-part, item-head-short}
 use Rattle.walks.specs.declared.Piece.the-variants as piece
 use Rattle.walks.specs.declared.Sizes.{Sizes}
 use Rattle.walks.specs.Meet.{pieceOf, sizes, itemSizes, plusSizes, markTag}
-use Rattle.walks.specs.Going.{LevelGoing, Glance}
+use Rattle.walks.specs.Going.{LevelGoing, Begun, Glance, Glanced}
 use Rattle.format.specs.Read.{item}
 use Rattle.walks.proofs.Walks.{same-sizes}
 use Rattle.walks.proofs.Pieces.{piece-whole}
@@ -38,17 +39,34 @@ quick-plus l tag n count p z th nh =
     let e : itemSizes l tag n ≡ sizes (6 + n) 1 (length (oidBytes tag) + (lenWidth n + n)) 0 = rw (z, itemSizes) in
     rw e (same-sizes (omega arith) refl (omega (arith, u, w)) refl)
 
+-- what may begin a level, and whatever comes later
+begun-at : (b : Bool) (f : Form) (s : List ℕ) → Begun b f s 0 → (p : ℕ) → Begun b f s p
+begun-at b f s h zero = h
+begun-at b f s h (suc p) = rw (ne-eqb (suc p) 0 (λ e. omega arith)) (any-of (not (isSet (levelOf b))) (not (isAlone f)) (eqb (getD s (suc p) 0) 2))
+  where
+    any-of : (x y z : Bool) → x || y || true || z ≡ true
+    any-of true y z = refl
+    any-of false true z = refl
+    any-of false false z = refl
+
+-- x is what the code says of what begins the level
+pub begun-start : (b : Bool) (f : Form) (s : List ℕ) {tag : ℕ} → tag ≡ getD s 0 0 → {x : Bool} → x ≡ (not (isSet (levelOf b)) || not (isAlone f) || not true || eqb tag 2) → x ≡ true → Begun b f s 0
+begun-start b f s et ex tx = rw et at (sym ex ∙ tx)
+
 -- as the code finds it
-pub glance-from : (b : Bool) (f : Form) (s : List ℕ) (p top : ℕ) {tag n : ℕ} → tag ≡ getD s p 0 → n ≡ getD s (p + 1) 0 → (tag ≤ top → ⊥) → 3 ≤ length s - p → n ≤ length s - p - 2
-    → {x : Bool} → x ≡ (not (isSet (levelOf b)) || not (isAlone f) || not (eqb p 0) || eqb tag 2) → x ≡ true
-    → items.Quick (levelOf b) f tag n (getD s (p + 2) 0) → Glance b f s p top n
-glance-from b f s p top {tag = tag} {n = n} et en above some room ex tx q = record {
-  quick = rw et at q;
-  above = omega arith;
-  size-is = en;
-  room = omega arith;
-  begins = rw et at (sym ex ∙ tx);
-}
+pub glance-from : (b : Bool) (f : Form) (s : List ℕ) (p top : ℕ) {tag n : ℕ} → tag ≡ getD s p 0 → n ≡ getD s (p + 1) 0 → (tag ≤ top → ⊥) → p + 2 + n ≤ length s → Begun b f s 0
+    → items.Quick (levelOf b) f tag n (getD s (p + 2) 0) → Glanced b f s p top (p + 2 + n)
+glance-from b f s p top {tag = tag} {n = n} et en above room h q = (
+  n,
+  refl,
+  record {
+    quick = rw et at q;
+    above = omega arith;
+    size-is = en;
+    room = room;
+    begins = begun-at b f s h p;
+  },
+)
 
 module _ {b : Bool} {f : Form} {s : List ℕ} {p top n : ℕ} (g : Glance b f s p top n) where
   abbrev tag : ℕ
@@ -86,11 +104,8 @@ module _ {b : Bool} {f : Form} {s : List ℕ} {p top n : ℕ} (g : Glance b f s 
       {m = 0} (sym (g .quick .allowed value value-size value-head)) refl
       (sym (ap length (g .quick .shortest value value-size value-head) ∙ value-size))
 
-  pub glance-next : p + 2 + n ≤ length s
-  glance-next = g .room
-
   -- x is the tag as the code read it
-  pub glance-more : {count : ℕ} {mark : Bool} {low : ℕ} → LevelGoing b f s p (quickSizes count p) mark top low → Bytes s → length s ≤ 8192
+  glance-more : {count : ℕ} {mark : Bool} {low : ℕ} → LevelGoing b f s p (quickSizes count p) mark top low → Bytes s → length s ≤ 8192
       → {x : ℕ} → x ≡ tag → {y mark′ : Bool} → y ≡ eqb x (markTag (levelOf b)) → mark′ ≡ (mark || y) → {low′ : ℕ} → (low′ ≤ low) × (low′ ≤ x)
       → LevelGoing b f s (p + 2 + n) (quickSizes (count + 1) (p + 2 + n)) mark′ x low′
   glance-more {count = count} {mark = mark} {low = low} go bytes most ex ey em el =
@@ -106,3 +121,16 @@ module _ {b : Bool} {f : Form} {s : List ℕ} {p top n : ℕ} (g : Glance b f s 
       } in
       entry-more i (item-told i {x = b && eqb tag 101} refl (rw level-is at (g .quick .no-series)) refl) refl (quick-plus (levelOf b) tag n count p (g .quick .no-seal) th nh)
       (em ∙ ap (λ z. mark || z) (ey ∙ ap (λ z. eqb z (markTag (levelOf b))) ex)) (omega (arith, g .above, ex), omega (arith, ex)) (el .0, omega (arith, ex, el .1))
+
+-- an item that ends at next; x is its tag as the code read it
+module _ {b : Bool} {f : Form} {s : List ℕ} {p top next : ℕ} (g : Glanced b f s p top next) where
+  pub glanced-next : (p + 2 < next) × (next ≤ length s)
+  glanced-next = (omega (arith, g .1, g .2 .quick .some), omega (arith, g .1, g .2 .room))
+
+  pub glanced-low : {low : ℕ} → (p < length s → top < getD s p 0 → low ≤ getD s p 0) → {x : ℕ} → x ≡ getD s p 0 → low ≤ x
+  glanced-low h ex = omega (arith, ex, h (omega (arith, glanced-next)) (g .2 .above))
+
+  pub glanced-more : {count : ℕ} {mark : Bool} {low : ℕ} → LevelGoing b f s p (quickSizes count p) mark top low → Bytes s → length s ≤ 8192
+      → {x : ℕ} → x ≡ getD s p 0 → {y mark′ : Bool} → y ≡ eqb x (markTag (levelOf b)) → mark′ ≡ (mark || y) → low ≤ x
+      → LevelGoing b f s next (quickSizes (count + 1) next) mark′ x low
+  glanced-more go bytes most ex ey em el = rw (g .1) (glance-more (g .2) go bytes most ex ey em (omega arith, el))

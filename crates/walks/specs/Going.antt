@@ -36,10 +36,18 @@ abbrev pub LevelGoing : Bool → Form → List ℕ → ℕ → Sizes → Bool �
 LevelGoing b f s p a m top low =
     Going (peek false false b) always (weightOfEntry (levelOf b)) (λ e. eqb (tagOfEntry e) (markTag (levelOf b))) tagOfEntry (stepAt (levelOf b) f) (levelWalk (levelOf b) f s) s p a m top low
 
+-- what stands at p may stand there, if that is where the level begins
+abbrev pub Begun : Bool → Form → List ℕ → ℕ → Type 0
+Begun b f s p = not (isSet (levelOf b)) || not (isAlone f) || not (eqb p 0) || eqb (getD s p 0) 2 ≡ true
+
 -- an item at p that is told at a glance, with a byte each for its tag and its length, and whose tag is above top
 pub record Glance (b : Bool) (f : Form) (s : List ℕ) (p top n : ℕ) : Type 0 where
   pub quick : items.Quick (levelOf b) f (getD s p 0) n (getD s (p + 2) 0)
   pub above : top < getD s p 0
   pub size-is : n ≡ getD s (p + 1) 0
   pub room : p + 2 + n ≤ length s
-  pub begins : not (isSet (levelOf b)) || not (isAlone f) || not (eqb p 0) || eqb (getD s p 0) 2 ≡ true
+  pub begins : Begun b f s p
+
+-- there is one, and it ends at next
+abbrev pub Glanced : Bool → Form → List ℕ → ℕ → ℕ → ℕ → Type 0
+Glanced b f s p top next = (n : ℕ) × (next ≡ p + 2 + n) × Glance b f s p top n

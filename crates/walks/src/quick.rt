@@ -1,19 +1,32 @@
 // The quick way over a level: items told at a glance, with a byte each for tag and length, tags rising, from its start. What stops it is
 // left to the item walk.
 ghost use mathlib.Core.Path.{_≡_};
-ghost use Prim.Native.Nat.{_≤_, _<_};
+ghost use Prim.Native.Nat.{_-_, _≤_, _<_};
 ghost use lib.ListN.{length, getD};
 ghost use Rattle.items.specs.Meet.{formOf, itemTable};
-ghost use Rattle.walks.specs.Going.{LevelGoing, Glance};
+ghost use Rattle.walks.specs.Going.{LevelGoing, Begun, Glanced};
 use super::Sizes;
 
-// How many bytes the value of such an item at p has, its tag above top; 0 where it is no such item.
-fn glance(table: &[u64], s: &[u8], p: usize, set: bool, alone: bool, top: u64) -> usize
-    requires { ⌜ (now table ≡ itemTable) × (p ≤ length (now s)) ⌝ }
-    ensures { λ r. ⌜ (0 < r → Glance set (formOf alone) (now (s .entry)) p top r) ⌝ }
+// How far such an item may begin: two bytes and a value have room there, and what begins the level may.
+fn span(s: &[u8], set: bool, alone: bool) -> usize
+    ensures { λ r. ⌜ (r ≤ length (now (s .entry)) - 2) × (0 < r → Begun set (formOf alone) (now (s .entry)) 0) ⌝ }
 {
-    let left = s.len() - p;
-    if left < 3 {
+    if s.len() < 3 {
+        return 0;
+    }
+    let tag = coding::wide(s[0]);
+    if items::begins(set, alone, tag, true) {
+        return s.len() - 2;
+    }
+    0
+}
+
+// Where such an item at p ends, its tag above top; 0 where it is no such item.
+fn glance(table: &[u64], s: &[u8], p: usize, most: usize, set: bool, alone: bool, top: u64) -> usize
+    requires { ⌜ (now table ≡ itemTable) × (length (now s) ≤ 8192) × (most ≤ length (now s) - 2) × (0 < most → Begun set (formOf alone) (now s) 0) ⌝ }
+    ensures { λ r. ⌜ (0 < r → Glanced set (formOf alone) (now (s .entry)) p top r) ⌝ }
+{
+    if most <= p {
         return 0;
     }
     let tag = coding::wide(s[p]);
@@ -21,15 +34,12 @@ fn glance(table: &[u64], s: &[u8], p: usize, set: bool, alone: bool, top: u64) -
         return 0;
     }
     let n = coding::wide(s[p + 1]);
-    let size = n as usize;
-    if left - 2 < size {
+    let next = p + 2 + (n as usize);
+    if s.len() < next {
         return 0;
     }
-    if items::begins(set, alone, tag, p == 0) {
-        if items::quick::is_quick(table, set, alone, tag, n, s[p + 2]) {
-            return size;
-        }
-        return 0;
+    if items::quick::is_quick(table, set, alone, tag, n, s[p + 2]) {
+        return next;
     }
     0
 }
@@ -57,31 +67,33 @@ pub fn run(table: &[u64], s: &[u8], set: bool, alone: bool) -> Quick
     requires { ⌜ (now table ≡ itemTable) × (length (now s) ≤ 8192) ⌝ }
     ensures { λ r. ⌜ LevelGoing set (formOf alone) (now (s .entry)) (r .at) (r .sizes) (r .mark) (r .top) (r .low) ⌝ }
 {
+    let most = span(s, set, alone);
+    let low = first_tag(s);
     let mut p: usize = 0;
     let mut count: usize = 0;
     let mut mark = false;
     let mut top: u64 = 0;
-    let low = first_tag(s);
-    let mut n = glance(table, s, 0, set, alone, 0);
-    while 0 < n {
+    loop {
+        let next = glance(table, s, p, most, set, alone, top);
+        if next == 0 {
+            let sizes = Sizes {
+                sheet: 4 * count + p,
+                rows: count,
+                normal: p,
+                inner: 0,
+            };
+            return Quick {
+                at: p,
+                sizes,
+                mark,
+                top,
+                low,
+            };
+        }
         let tag = coding::wide(s[p]);
         mark = super::either(mark, super::is_mark(set, tag));
         top = tag;
         count += 1;
-        p = p + 2 + n;
-        n = glance(table, s, p, set, alone, tag);
-    }
-    let sizes = Sizes {
-        sheet: 4 * count + p,
-        rows: count,
-        normal: p,
-        inner: 0,
-    };
-    Quick {
-        at: p,
-        sizes,
-        mark,
-        top,
-        low,
+        p = next;
     }
 }

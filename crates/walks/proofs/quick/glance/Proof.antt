@@ -5,9 +5,6 @@ use Rattle.walks.proofs.Glances.{glance-from}
 use Rattle.walks.proofs.quick.glance.Statement.{statement}
 use Rattle.walks.proofs.quick.glance.Tie as tie
 
-sub-left : tie.Need-sub-left
-sub-left c = search needs
-
 returns : tie.Need-returns
 returns c = λ h. absurd (omega arith)
 
@@ -29,14 +26,14 @@ shared-slice-read-wide-2 c = search needs
 wide-requires-2 : tie.Need-wide-requires-2
 wide-requires-2 c κs = search needs
 
-sub-if3 : tie.Need-sub-if3
-sub-if3 c = search needs
+add-next : tie.Need-add-next
+add-next c = search needs
+
+add-next-2 : tie.Need-add-next-2
+add-next-2 c = search needs
 
 returns-3 : tie.Need-returns-3
 returns-3 c = λ h. absurd (omega arith)
-
-begins-requires : tie.Need-begins-requires
-begins-requires c κs = search needs
 
 add-is-quick : tie.Need-add-is-quick
 add-is-quick c = search needs
@@ -48,19 +45,17 @@ is-quick-requires : tie.Need-is-quick-requires
 is-quick-requires c κs = search needs
 
 returns-4 : tie.Need-returns-4
-returns-4 c = λ h. glance-from _ _ _ _ _ (c .before .before .before .before .before .before .before .before .before .wide .ensures .0) (c .before .before .before .before .before .before .wide2 .ensures .0) (λ l. omega (arith, c .before .before .before .before .before .before .before .before .if2 .left, l)) (omega (arith, c .before .before .before .before .before .before .before .before .before .before .before .if1 .left)) (omega (arith, c .before .before .before .before .before .if3 .left)) (c .before .before .before .before .begins .ensures) (c .before .before .before .if4 .taken) (c .before .is-quick .ensures (c .if5 .taken))
+returns-4 c =
+    let i = c .before .before .before .before .before .before .before .before .before .if1 .left in
+    λ h. glance-from _ _ _ _ _ (c .before .before .before .before .before .before .before .wide .ensures .0) (c .before .before .before .before .wide2 .ensures .0) (λ l. omega (arith, c .before .before .before .before .before .before .if2 .left, l)) (omega (arith, c .before .before .before .if3 .left)) (c .before .before .before .before .before .before .before .before .before .before .before .before .pre .3 (omega (arith, i))) (c .before .is-quick .ensures (c .if4 .taken))
 
 returns-5 : tie.Need-returns-5
 returns-5 c = λ h. absurd (omega arith)
-
-returns-6 : tie.Need-returns-6
-returns-6 c = λ h. absurd (omega arith)
 
 pub glance-spec : {M : Type 1} → statement M
 glance-spec =
     tie.close
     (tie.spec
-    sub-left
     returns
     shared-slice-read-wide
     wide-requires
@@ -68,12 +63,11 @@ glance-spec =
     add-wide
     shared-slice-read-wide-2
     wide-requires-2
-    sub-if3
+    add-next
+    add-next-2
     returns-3
-    begins-requires
     add-is-quick
     shared-slice-read-is-quick
     is-quick-requires
     returns-4
-    returns-5
-    returns-6)
+    returns-5)

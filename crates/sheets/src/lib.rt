@@ -41,8 +41,7 @@ fn put_plain(table: &[u64], out: &mut [u8], at: usize, set: bool, tag: u64, v: &
             return at;
         }
     }
-    let rule = items::rule_of(table, set, tag);
-    let n = items::short_size(rule, v);
+    let n = stores::coded::short_of(table, set, tag, v);
     put_item(out, at, set, tag, &v[v.len() - n..])
 }
 

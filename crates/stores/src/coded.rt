@@ -4,8 +4,10 @@ ghost use Prim.Native.Nat.{_+_, _%_, _^_, _≤_, _<_};
 ghost use lib.ListN.{length};
 ghost use lib.Seq.{sets};
 ghost use Rattle.format.specs.Coding.{lenWidth, lenBytes, oidBytes};
+ghost use Rattle.format.specs.Table.{ruleOf, short};
 ghost use Rattle.format.specs.Packet.{flatItem};
 ghost use Rattle.format.specs.Calls.{itemOf};
+ghost use Rattle.items.specs.Meet.{levelOf, itemTable};
 
 // The shortest length n; where it ends.
 pub fn put_len(out: &mut [u8], at: usize, n: usize) -> usize
@@ -54,6 +56,18 @@ pub fn put_oid(out: &mut [u8], at: usize, n: u64) -> usize
         m = coding::widths::above7(m);
     }
     at + k
+}
+
+// How many bytes the value of a tag has in its shortest form: all, where the first is not 0, whatever the table says.
+pub fn short_of(table: &[u64], set: bool, tag: u64, v: &[u8]) -> usize
+    requires { ⌜ (now table ≡ itemTable) × (0 < length (now v)) ⌝ }
+    ensures { λ r. ⌜ r ≡ length (short (ruleOf (levelOf set) tag) (now (v .entry))) ⌝ }
+{
+    if v[0] != 0 {
+        return v.len();
+    }
+    let rule = items::rule_of(table, set, tag);
+    items::short_size(rule, v)
 }
 
 // An item under its shortest length; where it ends.

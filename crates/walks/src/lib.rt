@@ -340,6 +340,7 @@ pub fn pack_walk(table: &[u64], s: &[u8], alone: bool) -> Walked
         let items = &s[from..next];
         let q = quick::run(table, items, false, alone);
         let all = q.sizes;
+        // field by field: a copy of the whole would wait for what was just stored
         let w = if q.at == items.len() {
             Walked::Good {
                 sizes: Sizes {

@@ -92,7 +92,7 @@ pub fn pack_normal(table: &[u64], s: &[u8], alone: bool, out: &mut [u8]) -> usiz
     let mut p: usize = 0;
     let mut k: usize = 0;
     while p < s.len() {
-        let h = heads::pack_head(&s[p..]);
+        let h = heads::quick_pack_head(&s[p..]);
         let Head::Whole {
             key,
             used,

@@ -48,7 +48,7 @@ pub fn pack_rows(s: &[u8], at: usize, alone: bool, out: &mut [u64]) -> usize
     let mut k: usize = 0;
     let mut n: u64 = 1;
     while p < s.len() {
-        let h = heads::pack_head(&s[p..]);
+        let h = heads::quick_pack_head(&s[p..]);
         let Head::Whole {
             key: _,
             used,

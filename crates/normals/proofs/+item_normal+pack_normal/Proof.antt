@@ -19,7 +19,7 @@ use Rattle.normals.proofs.pack_normal.Reads as pack-normal
 use Rattle.normals.proofs.pack_normal.Kinds as pack-normal-kinds
 use Rattle.normals.proofs.+item_normal+pack_normal.Lts-pack_normal as pack-normal-lts
 use Rattle.heads.proofs.item_head.Reads as item-head-reads
-use Rattle.heads.proofs.pack_head.Reads as pack-head-reads
+use Rattle.heads.proofs.quick_pack_head.Reads as quick-pack-head-reads
 use Rattle.normals.proofs.put_normal.Reads as put-normal-reads
 use Rattle.normals.proofs.put_pack.Reads as put-pack-reads
 use Rattle.normals.proofs.put_series.Reads as put-series-reads
@@ -53,7 +53,7 @@ abbrev item-claims : ℕ → item-normal-lts.Claims
 item-claims t = (item-head-reads.Asked, item-head-reads.Learnt, is-series-reads.Asked, is-series-reads.Learnt, put-series-reads.Asked, put-series-reads.Learnt, pack-normal-below t, pack-normal.Post, put-normal-reads.Asked, put-normal-reads.Learnt)
 
 abbrev pack-claims : ℕ → pack-normal-lts.Claims
-pack-claims t = (pack-head-reads.Asked, pack-head-reads.Learnt, item-walk-reads.Asked, item-walk-reads.Learnt, put-pack-reads.Asked, put-pack-reads.Learnt, copy-reads.Asked, copy-reads.Learnt, item-normal-below t, item-normal.Post)
+pack-claims t = (quick-pack-head-reads.Asked, quick-pack-head-reads.Learnt, item-walk-reads.Asked, item-walk-reads.Learnt, put-pack-reads.Asked, put-pack-reads.Learnt, copy-reads.Asked, copy-reads.Learnt, item-normal-below t, item-normal.Post)
 
 -- ---- the item walk
 
@@ -193,7 +193,7 @@ pack-at t a = record {
   going = a .before .before .before .before .before .loop .inv;
   here = a .before .before .before .before .loop-test .taken;
   head = _;
-  reads = a .before .before .pack-head .ensures;
+  reads = a .before .before .quick-pack-head .ensures;
   whole = a .h .given .1;
   bytes = λ i. a .before .before .before .before .before .before .before .shared-slice-known2 .given i .fits;
   most = a .before .before .before .before .before .before .before .before .before .pre .1 .1 .0;
@@ -203,17 +203,17 @@ pack-at t a = record {
 pack-normal-loop-holds : (t : ℕ) → pack-normal-lts.Need-loop-holds (pack-claims t) (pack-normal-at t) pack-normal.Post pack-normal-Inv-loop pack-normal-μ-loop
 pack-normal-loop-holds t c = series-start (each packNormal) _ tt _ _ (c .before .before .before .pre .1 .1 .1)
 
-pack-normal-sub-pack-head : (t : ℕ) → pack-normal-lts.Need-sub-pack-head (pack-claims t) (pack-normal-at t) pack-normal.Post pack-normal-Inv-loop pack-normal-μ-loop
-pack-normal-sub-pack-head t c = search needs
+pack-normal-sub-quick-pack-head : (t : ℕ) → pack-normal-lts.Need-sub-quick-pack-head (pack-claims t) (pack-normal-at t) pack-normal.Post pack-normal-Inv-loop pack-normal-μ-loop
+pack-normal-sub-quick-pack-head t c = search needs
 
-pack-normal-part-pack-head-start : (t : ℕ) → pack-normal-lts.Need-part-pack-head-start (pack-claims t) (pack-normal-at t) pack-normal.Post pack-normal-Inv-loop pack-normal-μ-loop
-pack-normal-part-pack-head-start t c = search needs
+pack-normal-part-quick-pack-head-start : (t : ℕ) → pack-normal-lts.Need-part-quick-pack-head-start (pack-claims t) (pack-normal-at t) pack-normal.Post pack-normal-Inv-loop pack-normal-μ-loop
+pack-normal-part-quick-pack-head-start t c = search needs
 
-pack-normal-part-pack-head-end : (t : ℕ) → pack-normal-lts.Need-part-pack-head-end (pack-claims t) (pack-normal-at t) pack-normal.Post pack-normal-Inv-loop pack-normal-μ-loop
-pack-normal-part-pack-head-end t c = search needs
+pack-normal-part-quick-pack-head-end : (t : ℕ) → pack-normal-lts.Need-part-quick-pack-head-end (pack-claims t) (pack-normal-at t) pack-normal.Post pack-normal-Inv-loop pack-normal-μ-loop
+pack-normal-part-quick-pack-head-end t c = search needs
 
-pack-normal-pack-head-requires : (t : ℕ) → pack-normal-lts.Need-pack-head-requires (pack-claims t) (pack-normal-at t) pack-normal.Post pack-normal-Inv-loop pack-normal-μ-loop
-pack-normal-pack-head-requires t c κs = search needs
+pack-normal-quick-pack-head-requires : (t : ℕ) → pack-normal-lts.Need-quick-pack-head-requires (pack-claims t) (pack-normal-at t) pack-normal.Post pack-normal-Inv-loop pack-normal-μ-loop
+pack-normal-quick-pack-head-requires t c κs = search needs
 
 pack-normal-enum-known-h : (t : ℕ) → pack-normal-lts.Need-enum-known-h (pack-claims t) (pack-normal-at t) pack-normal.Post pack-normal-Inv-loop pack-normal-μ-loop
 pack-normal-enum-known-h t c = search needs
@@ -225,7 +225,7 @@ pack-normal-same-length : (t : ℕ) → pack-normal-lts.Need-same-length (pack-c
 pack-normal-same-length t c = c .before .before .before .before .before .loop .inv .writes .same
 
 pack-normal-returns : (t : ℕ) → pack-normal-lts.Need-returns (pack-claims t) (pack-normal-at t) pack-normal.Post pack-normal-Inv-loop pack-normal-μ-loop
-pack-normal-returns t c = pack-fault (c .before .before .before .before .before .loop .inv) (c .before .before .before .before .loop-test .taken) (c .before .before .pack-head .ensures) (c .enum-told .given .1)
+pack-normal-returns t c = pack-fault (c .before .before .before .before .before .loop .inv) (c .before .before .before .before .loop-test .taken) (c .before .before .quick-pack-head .ensures) (c .enum-told .given .1)
 
 pack-normal-add-from : (t : ℕ) → pack-normal-lts.Need-add-from (pack-claims t) (pack-normal-at t) pack-normal.Post pack-normal-Inv-loop pack-normal-μ-loop
 pack-normal-add-from t c = omega (arith, pack-room (pack-at t (c .before)))
@@ -336,8 +336,8 @@ pub +item-normal+pack-normal-spec : {M : Type 1} → statement M
     (item-normal-part-put-normal-end t) (item-normal-put-normal-requires t) (item-normal-loop-less t) (item-normal-loop-again t)
     (item-normal-loop-less-2 t) (item-normal-loop-again-2 t) (item-normal-same-length-2 t) (item-normal-returns-2 t))
     (λ t. pack-normal-lts.spec (pack-claims t) (pack-normal-at t) pack-normal.Post pack-normal-Inv-loop pack-normal-μ-loop
-    (pack-normal-loop-holds t) (pack-normal-sub-pack-head t) (pack-normal-part-pack-head-start t) (pack-normal-part-pack-head-end t)
-    (pack-normal-pack-head-requires t) (pack-normal-enum-known-h t) (pack-normal-enum-told t) (pack-normal-same-length t)
+    (pack-normal-loop-holds t) (pack-normal-sub-quick-pack-head t) (pack-normal-part-quick-pack-head-start t) (pack-normal-part-quick-pack-head-end t)
+    (pack-normal-quick-pack-head-requires t) (pack-normal-enum-known-h t) (pack-normal-enum-told t) (pack-normal-same-length t)
     (pack-normal-returns t) (pack-normal-add-from t) (pack-normal-add-from-2 t) (pack-normal-add-next t)
     (pack-normal-add-next-2 t) (pack-normal-sub-item-walk t) (pack-normal-part-item-walk-start t) (pack-normal-part-item-walk-end t)
     (pack-normal-item-walk-requires t) (pack-normal-enum-known-w t) (pack-normal-enum-told-2 t) (pack-normal-same-length-2 t)

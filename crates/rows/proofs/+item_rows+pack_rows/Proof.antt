@@ -19,7 +19,7 @@ use Rattle.rows.proofs.pack_rows.Reads as pack-rows
 use Rattle.rows.proofs.pack_rows.Kinds as pack-rows-kinds
 use Rattle.rows.proofs.+item_rows+pack_rows.Lts-pack_rows as pack-rows-lts
 use Rattle.heads.proofs.item_head.Reads as item-head-reads
-use Rattle.heads.proofs.pack_head.Reads as pack-head-reads
+use Rattle.heads.proofs.quick_pack_head.Reads as quick-pack-head-reads
 use Rattle.stores.proofs.put_row.Reads as put-row-reads
 use Rattle.walks.proofs.is_series.Reads as is-series-reads
 use Rattle.rows.proofs.+item_rows+pack_rows.{statement}
@@ -49,7 +49,7 @@ abbrev item-claims : ℕ → item-rows-lts.Claims
 item-claims t = (item-head-reads.Asked, item-head-reads.Learnt, put-row-reads.Asked, put-row-reads.Learnt, is-series-reads.Asked, is-series-reads.Learnt, pack-rows-below t, pack-rows.Post)
 
 abbrev pack-claims : ℕ → pack-rows-lts.Claims
-pack-claims t = (pack-head-reads.Asked, pack-head-reads.Learnt, put-row-reads.Asked, put-row-reads.Learnt, item-rows-below t, item-rows.Post)
+pack-claims t = (quick-pack-head-reads.Asked, quick-pack-head-reads.Learnt, put-row-reads.Asked, put-row-reads.Learnt, item-rows-below t, item-rows.Post)
 
 -- ---- the items of a level
 
@@ -198,7 +198,7 @@ pack-here t a = record {
     going = a .before .before .before .before .before .loop .inv .going;
     here = a .before .before .before .before .loop-test .taken;
     head = _;
-    reads = a .before .before .pack-head .ensures;
+    reads = a .before .before .quick-pack-head .ensures;
     whole = a .h .given .1;
     bytes = λ i. a .before .before .before .before .before .before .before .shared-slice-known .given i .fits;
     most = omega (arith, a .before .before .before .before .before .before .before .before .pre .1 .0);
@@ -220,17 +220,17 @@ row-end t d = pack-end (pack-here t (d .before .before .before)) (d .put-row .en
 pack-rows-loop-holds : (t : ℕ) → pack-rows-lts.Need-loop-holds (pack-claims t) (pack-rows-at t) pack-rows.Post pack-rows-Inv-loop pack-rows-μ-loop
 pack-rows-loop-holds t c = series-rows _ _ _ _ (c .before .before .pre .1 .1)
 
-pack-rows-sub-pack-head : (t : ℕ) → pack-rows-lts.Need-sub-pack-head (pack-claims t) (pack-rows-at t) pack-rows.Post pack-rows-Inv-loop pack-rows-μ-loop
-pack-rows-sub-pack-head t c = search needs
+pack-rows-sub-quick-pack-head : (t : ℕ) → pack-rows-lts.Need-sub-quick-pack-head (pack-claims t) (pack-rows-at t) pack-rows.Post pack-rows-Inv-loop pack-rows-μ-loop
+pack-rows-sub-quick-pack-head t c = search needs
 
-pack-rows-part-pack-head-start : (t : ℕ) → pack-rows-lts.Need-part-pack-head-start (pack-claims t) (pack-rows-at t) pack-rows.Post pack-rows-Inv-loop pack-rows-μ-loop
-pack-rows-part-pack-head-start t c = search needs
+pack-rows-part-quick-pack-head-start : (t : ℕ) → pack-rows-lts.Need-part-quick-pack-head-start (pack-claims t) (pack-rows-at t) pack-rows.Post pack-rows-Inv-loop pack-rows-μ-loop
+pack-rows-part-quick-pack-head-start t c = search needs
 
-pack-rows-part-pack-head-end : (t : ℕ) → pack-rows-lts.Need-part-pack-head-end (pack-claims t) (pack-rows-at t) pack-rows.Post pack-rows-Inv-loop pack-rows-μ-loop
-pack-rows-part-pack-head-end t c = search needs
+pack-rows-part-quick-pack-head-end : (t : ℕ) → pack-rows-lts.Need-part-quick-pack-head-end (pack-claims t) (pack-rows-at t) pack-rows.Post pack-rows-Inv-loop pack-rows-μ-loop
+pack-rows-part-quick-pack-head-end t c = search needs
 
-pack-rows-pack-head-requires : (t : ℕ) → pack-rows-lts.Need-pack-head-requires (pack-claims t) (pack-rows-at t) pack-rows.Post pack-rows-Inv-loop pack-rows-μ-loop
-pack-rows-pack-head-requires t c κs = search needs
+pack-rows-quick-pack-head-requires : (t : ℕ) → pack-rows-lts.Need-quick-pack-head-requires (pack-claims t) (pack-rows-at t) pack-rows.Post pack-rows-Inv-loop pack-rows-μ-loop
+pack-rows-quick-pack-head-requires t c κs = search needs
 
 pack-rows-enum-known-h : (t : ℕ) → pack-rows-lts.Need-enum-known-h (pack-claims t) (pack-rows-at t) pack-rows.Post pack-rows-Inv-loop pack-rows-μ-loop
 pack-rows-enum-known-h t c = search needs
@@ -242,7 +242,7 @@ pack-rows-same-length : (t : ℕ) → pack-rows-lts.Need-same-length (pack-claim
 pack-rows-same-length t c = c .before .before .before .before .before .loop .inv .going .writes .same
 
 pack-rows-returns : (t : ℕ) → pack-rows-lts.Need-returns (pack-claims t) (pack-rows-at t) pack-rows.Post pack-rows-Inv-loop pack-rows-μ-loop
-pack-rows-returns t c = pack-fault (c .before .before .before .before .before .loop .inv .going) (c .before .before .before .before .loop-test .taken) (c .before .before .pack-head .ensures) (c .enum-told .given .1)
+pack-rows-returns t c = pack-fault (c .before .before .before .before .before .loop .inv .going) (c .before .before .before .before .loop-test .taken) (c .before .before .quick-pack-head .ensures) (c .enum-told .given .1)
 
 pack-rows-add-from : (t : ℕ) → pack-rows-lts.Need-add-from (pack-claims t) (pack-rows-at t) pack-rows.Post pack-rows-Inv-loop pack-rows-μ-loop
 pack-rows-add-from t c = omega (arith, pack-fit t (c .before))
@@ -319,6 +319,6 @@ pub +item-rows+pack-rows-spec : {M : Type 1} → statement M
     (item-rows-add-put-row t) (item-rows-put-row-requires t) (item-rows-is-series-requires t) (item-rows-sub-pack-rows t) (item-rows-part-pack-rows-start t) (item-rows-part-pack-rows-end t) (item-rows-add-pack-rows t) (item-rows-mul-pack-rows t) (item-rows-sub-pack-rows-2 t) (item-rows-part-pack-rows-start-2 t) (item-rows-part-pack-rows-end-2 t) (item-rows-pack-rows-requires t)
     (item-rows-add-k t) (item-rows-loop-less t) (item-rows-loop-again t) (item-rows-loop-less-2 t) (item-rows-loop-again-2 t) (item-rows-same-length-2 t) (item-rows-returns-2 t))
     (λ t. pack-rows-lts.spec (pack-claims t) (pack-rows-at t) pack-rows.Post pack-rows-Inv-loop pack-rows-μ-loop
-    (pack-rows-loop-holds t) (pack-rows-sub-pack-head t) (pack-rows-part-pack-head-start t) (pack-rows-part-pack-head-end t) (pack-rows-pack-head-requires t) (pack-rows-enum-known-h t) (pack-rows-enum-told t) (pack-rows-same-length t) (pack-rows-returns t) (pack-rows-add-from t) (pack-rows-add-from-2 t) (pack-rows-add-next t)
+    (pack-rows-loop-holds t) (pack-rows-sub-quick-pack-head t) (pack-rows-part-quick-pack-head-start t) (pack-rows-part-quick-pack-head-end t) (pack-rows-quick-pack-head-requires t) (pack-rows-enum-known-h t) (pack-rows-enum-told t) (pack-rows-same-length t) (pack-rows-returns t) (pack-rows-add-from t) (pack-rows-add-from-2 t) (pack-rows-add-next t)
     (pack-rows-add-next-2 t) (pack-rows-add-put-row t) (pack-rows-add-put-row-2 t) (pack-rows-put-row-requires t) (pack-rows-sub-item-rows t) (pack-rows-part-item-rows-start t) (pack-rows-part-item-rows-end t) (pack-rows-add-item-rows t) (pack-rows-mul-item-rows t) (pack-rows-sub-item-rows-2 t) (pack-rows-part-item-rows-start-2 t) (pack-rows-part-item-rows-end-2 t)
     (pack-rows-item-rows-requires t) (pack-rows-add-k t) (pack-rows-add-n t) (pack-rows-loop-less t) (pack-rows-loop-again t) (pack-rows-same-length-2 t) (pack-rows-returns-2 t))

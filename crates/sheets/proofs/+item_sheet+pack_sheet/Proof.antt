@@ -19,7 +19,7 @@ use Rattle.sheets.proofs.pack_sheet.Reads as pack-sheet
 use Rattle.sheets.proofs.pack_sheet.Kinds as pack-sheet-kinds
 use Rattle.sheets.proofs.+item_sheet+pack_sheet.Lts-pack_sheet as pack-sheet-lts
 use Rattle.heads.proofs.item_head.Reads as item-head-reads
-use Rattle.heads.proofs.pack_head.Reads as pack-head-reads
+use Rattle.heads.proofs.quick_pack_head.Reads as quick-pack-head-reads
 use Rattle.sheets.proofs.put_plain.Reads as put-plain-reads
 use Rattle.sheets.proofs.put_target.Reads as put-target-reads
 use Rattle.stores.proofs.put_number.Reads as put-number-reads
@@ -51,7 +51,7 @@ abbrev item-claims : ℕ → item-sheet-lts.Claims
 item-claims t = (item-head-reads.Asked, item-head-reads.Learnt, is-series-reads.Asked, is-series-reads.Learnt, put-number-reads.Asked, put-number-reads.Learnt, pack-sheet-below t, pack-sheet.Post, put-plain-reads.Asked, put-plain-reads.Learnt)
 
 abbrev pack-claims : ℕ → pack-sheet-lts.Claims
-pack-claims t = (pack-head-reads.Asked, pack-head-reads.Learnt, put-target-reads.Asked, put-target-reads.Learnt, item-sheet-below t, item-sheet.Post)
+pack-claims t = (quick-pack-head-reads.Asked, quick-pack-head-reads.Learnt, put-target-reads.Asked, put-target-reads.Learnt, item-sheet-below t, item-sheet.Post)
 
 -- ---- the item walk
 
@@ -188,7 +188,7 @@ pack-at t a = record {
   going = a .before .before .before .before .before .loop .inv;
   here = a .before .before .before .before .loop-test .taken;
   head = _;
-  reads = a .before .before .pack-head .ensures;
+  reads = a .before .before .quick-pack-head .ensures;
   whole = a .h .given .1;
   bytes = λ i. a .before .before .before .before .before .before .before .shared-slice-known2 .given i .fits;
   most = a .before .before .before .before .before .before .before .before .before .pre .1 .1 .0;
@@ -198,17 +198,17 @@ pack-at t a = record {
 pack-sheet-loop-holds : (t : ℕ) → pack-sheet-lts.Need-loop-holds (pack-claims t) (pack-sheet-at t) pack-sheet.Post pack-sheet-Inv-loop pack-sheet-μ-loop
 pack-sheet-loop-holds t c = series-start (each packSheet) _ tt _ _ (c .before .before .before .pre .1 .1 .1)
 
-pack-sheet-sub-pack-head : (t : ℕ) → pack-sheet-lts.Need-sub-pack-head (pack-claims t) (pack-sheet-at t) pack-sheet.Post pack-sheet-Inv-loop pack-sheet-μ-loop
-pack-sheet-sub-pack-head t c = search needs
+pack-sheet-sub-quick-pack-head : (t : ℕ) → pack-sheet-lts.Need-sub-quick-pack-head (pack-claims t) (pack-sheet-at t) pack-sheet.Post pack-sheet-Inv-loop pack-sheet-μ-loop
+pack-sheet-sub-quick-pack-head t c = search needs
 
-pack-sheet-part-pack-head-start : (t : ℕ) → pack-sheet-lts.Need-part-pack-head-start (pack-claims t) (pack-sheet-at t) pack-sheet.Post pack-sheet-Inv-loop pack-sheet-μ-loop
-pack-sheet-part-pack-head-start t c = search needs
+pack-sheet-part-quick-pack-head-start : (t : ℕ) → pack-sheet-lts.Need-part-quick-pack-head-start (pack-claims t) (pack-sheet-at t) pack-sheet.Post pack-sheet-Inv-loop pack-sheet-μ-loop
+pack-sheet-part-quick-pack-head-start t c = search needs
 
-pack-sheet-part-pack-head-end : (t : ℕ) → pack-sheet-lts.Need-part-pack-head-end (pack-claims t) (pack-sheet-at t) pack-sheet.Post pack-sheet-Inv-loop pack-sheet-μ-loop
-pack-sheet-part-pack-head-end t c = search needs
+pack-sheet-part-quick-pack-head-end : (t : ℕ) → pack-sheet-lts.Need-part-quick-pack-head-end (pack-claims t) (pack-sheet-at t) pack-sheet.Post pack-sheet-Inv-loop pack-sheet-μ-loop
+pack-sheet-part-quick-pack-head-end t c = search needs
 
-pack-sheet-pack-head-requires : (t : ℕ) → pack-sheet-lts.Need-pack-head-requires (pack-claims t) (pack-sheet-at t) pack-sheet.Post pack-sheet-Inv-loop pack-sheet-μ-loop
-pack-sheet-pack-head-requires t c κs = search needs
+pack-sheet-quick-pack-head-requires : (t : ℕ) → pack-sheet-lts.Need-quick-pack-head-requires (pack-claims t) (pack-sheet-at t) pack-sheet.Post pack-sheet-Inv-loop pack-sheet-μ-loop
+pack-sheet-quick-pack-head-requires t c κs = search needs
 
 pack-sheet-enum-known-h : (t : ℕ) → pack-sheet-lts.Need-enum-known-h (pack-claims t) (pack-sheet-at t) pack-sheet.Post pack-sheet-Inv-loop pack-sheet-μ-loop
 pack-sheet-enum-known-h t c = search needs
@@ -220,7 +220,7 @@ pack-sheet-same-length : (t : ℕ) → pack-sheet-lts.Need-same-length (pack-cla
 pack-sheet-same-length t c = c .before .before .before .before .before .loop .inv .writes .same
 
 pack-sheet-returns : (t : ℕ) → pack-sheet-lts.Need-returns (pack-claims t) (pack-sheet-at t) pack-sheet.Post pack-sheet-Inv-loop pack-sheet-μ-loop
-pack-sheet-returns t c = pack-fault (c .before .before .before .before .before .loop .inv) (c .before .before .before .before .loop-test .taken) (c .before .before .pack-head .ensures) (c .enum-told .given .1)
+pack-sheet-returns t c = pack-fault (c .before .before .before .before .before .loop .inv) (c .before .before .before .before .loop-test .taken) (c .before .before .quick-pack-head .ensures) (c .enum-told .given .1)
 
 pack-sheet-add-from : (t : ℕ) → pack-sheet-lts.Need-add-from (pack-claims t) (pack-sheet-at t) pack-sheet.Post pack-sheet-Inv-loop pack-sheet-μ-loop
 pack-sheet-add-from t c = omega (arith, pack-room (pack-at t (c .before)))
@@ -286,8 +286,8 @@ pub +item-sheet+pack-sheet-spec : {M : Type 1} → statement M
     (item-sheet-part-put-plain-end t) (item-sheet-put-plain-requires t) (item-sheet-loop-less t) (item-sheet-loop-again t)
     (item-sheet-loop-less-2 t) (item-sheet-loop-again-2 t) (item-sheet-same-length-2 t) (item-sheet-returns-2 t))
     (λ t. pack-sheet-lts.spec (pack-claims t) (pack-sheet-at t) pack-sheet.Post pack-sheet-Inv-loop pack-sheet-μ-loop
-    (pack-sheet-loop-holds t) (pack-sheet-sub-pack-head t) (pack-sheet-part-pack-head-start t) (pack-sheet-part-pack-head-end t)
-    (pack-sheet-pack-head-requires t) (pack-sheet-enum-known-h t) (pack-sheet-enum-told t) (pack-sheet-same-length t)
+    (pack-sheet-loop-holds t) (pack-sheet-sub-quick-pack-head t) (pack-sheet-part-quick-pack-head-start t) (pack-sheet-part-quick-pack-head-end t)
+    (pack-sheet-quick-pack-head-requires t) (pack-sheet-enum-known-h t) (pack-sheet-enum-told t) (pack-sheet-same-length t)
     (pack-sheet-returns t) (pack-sheet-add-from t) (pack-sheet-add-from-2 t) (pack-sheet-add-next t)
     (pack-sheet-add-next-2 t) (pack-sheet-put-target-requires t) (pack-sheet-sub-item-sheet t) (pack-sheet-part-item-sheet-start t)
     (pack-sheet-part-item-sheet-end t) (pack-sheet-sub-item-sheet-2 t) (pack-sheet-part-item-sheet-start-2 t) (pack-sheet-part-item-sheet-end-2 t)

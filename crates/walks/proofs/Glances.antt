@@ -127,8 +127,8 @@ module _ {b : Bool} {f : Form} {s : List ℕ} {p top next : ℕ} (g : Glanced b 
   pub glanced-next : (p + 2 < next) × (next ≤ length s)
   glanced-next = (omega (arith, g .1, g .2 .quick .some), omega (arith, g .1, g .2 .room))
 
-  pub glanced-low : {low : ℕ} → (p < length s → top < getD s p 0 → low ≤ getD s p 0) → {x : ℕ} → x ≡ getD s p 0 → low ≤ x
-  glanced-low h ex = omega (arith, ex, h (omega (arith, glanced-next)) (g .2 .above))
+  pub glanced-low : {low : ℕ} → (p < length s → top < getD s p 0 → getD s p 0 < 128 → low ≤ getD s p 0) → {x : ℕ} → x ≡ getD s p 0 → low ≤ x
+  glanced-low h ex = omega (arith, ex, h (omega (arith, glanced-next)) (g .2 .above) (omega (arith, g .2 .quick .small)))
 
   pub glanced-more : {count : ℕ} {mark : Bool} {low : ℕ} → LevelGoing b f s p (quickSizes count p) mark top low → Bytes s → length s ≤ 8192
       → {x : ℕ} → x ≡ getD s p 0 → {y mark′ : Bool} → y ≡ eqb x (markTag (levelOf b)) → mark′ ≡ (mark || y) → low ≤ x

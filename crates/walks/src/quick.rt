@@ -53,14 +53,18 @@ pub struct Quick {
     pub low: u64,
 }
 
-// The first tag, which is the lowest where tags rise.
+// The first tag, which is the lowest where tags rise; above all where it is not in one byte, so that tags that fall are below it.
 fn first_tag(s: &[u8]) -> u64
-    ensures { λ r. ⌜ (0 < length (now (s .entry)) → r ≡ getD (now (s .entry)) 0 0) ⌝ }
+    ensures { λ r. ⌜ (0 < length (now (s .entry)) → getD (now (s .entry)) 0 0 < 128 → r ≡ getD (now (s .entry)) 0 0) ⌝ }
 {
     if s.len() == 0 {
         return 0;
     }
-    coding::wide(s[0])
+    let tag = coding::wide(s[0]);
+    if 127 < tag {
+        return 18446744073709551615;
+    }
+    tag
 }
 
 pub fn run(table: &[u64], s: &[u8], set: bool, alone: bool) -> Quick

@@ -11,7 +11,7 @@ use Rattle.walks.proofs.quick.run.Statement.{statement}
 use Rattle.walks.proofs.quick.run.Tie as tie
 
 abbrev Inv-loop : tie.InvT-loop
-Inv-loop table s set alone most low p₀ count₀ mark₀ top₀ p count mark top = LevelGoing set (formOf alone) s p (quickSizes count p) mark top low × (p < length s → top < getD s p 0 → low ≤ getD s p 0)
+Inv-loop table s set alone most low p₀ count₀ mark₀ top₀ p count mark top = LevelGoing set (formOf alone) s p (quickSizes count p) mark top low × (p < length s → top < getD s p 0 → getD s p 0 < 128 → low ≤ getD s p 0)
 
 abbrev μ-loop : tie.MeasureT-loop
 μ-loop table s set alone most low p₀ count₀ mark₀ top₀ p count mark top = length s - p
@@ -23,7 +23,7 @@ first-tag-requires : tie.Need-first-tag-requires Inv-loop μ-loop
 first-tag-requires c κs = search needs
 
 loop-holds : tie.Need-loop-holds Inv-loop μ-loop
-loop-holds c = (level-start _ _ _, λ h l. omega (arith, c .first-tag .ensures h))
+loop-holds c = (level-start _ _ _, λ h l m. omega (arith, c .first-tag .ensures h m))
 
 glance-requires : tie.Need-glance-requires Inv-loop μ-loop
 glance-requires c κs = (c .before .before .before .before .before .pre .0, c .before .before .before .before .before .pre .1, c .before .before .span .ensures .0, c .before .before .span .ensures .1)
@@ -60,7 +60,7 @@ loop-again c =
     let g = c .before .before .before .before .before .glance .ensures (omega (arith, c .before .before .before .before .if1 .left)) in
     let x = c .before .before .wide .ensures .0 in
     let l = glanced-low g (c .before .before .before .before .before .before .loop .inv .1) x in
-    (glanced-more g (c .before .before .before .before .before .before .loop .inv .0) (λ i. c .before .before .before .before .before .before .before .before .before .shared-slice-known2 .given i .fits) (c .before .before .before .before .before .before .before .before .before .before .before .pre .1) x (c .before .is-mark .ensures) (c .either .ensures) l, λ h m. omega (arith, l, m))
+    (glanced-more g (c .before .before .before .before .before .before .loop .inv .0) (λ i. c .before .before .before .before .before .before .before .before .before .shared-slice-known2 .given i .fits) (c .before .before .before .before .before .before .before .before .before .before .before .pre .1) x (c .before .is-mark .ensures) (c .either .ensures) l, λ h m _. omega (arith, l, m))
 
 pub run-spec : {M : Type 1} → statement M
 run-spec =

@@ -90,7 +90,7 @@
  * call may be made from any thread at any time, and from a signal handler, as
  * long as no one changes the lent bytes while it runs.
  *
- * It takes at most 4,096 bytes of stack, whatever the input (2,376 were seen; a
+ * It takes at most 4,096 bytes of stack, whatever the input (2,264 were seen; a
  * signal stack of MINSIGSTKSZ may have fewer). It ends for every input. Usual
  * packets take microseconds; the time of the worst grows with the square of the
  * count of their items.

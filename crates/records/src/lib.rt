@@ -166,7 +166,7 @@ pub fn item_records(table: &[u64], s: &[u8], set: bool, alone: bool) -> Walked
         let Walked::Good { sizes, mark: m } = w else {
             return walks::later(w, p);
         };
-        sum = walks::plus(sum, sizes);
+        sum = walks::weights::plus(sum, sizes);
         mark = walks::either(mark, m);
         top = walks::larger(top, tag);
         low = walks::smaller(low, tag);
@@ -212,7 +212,10 @@ pub fn target_records(table: &[u64], s: &[u8], alone: bool) -> Walked
             return walks::later(w, from);
         };
         if walks::either(!alone, mark) {
-            sum = walks::plus(sum, walks::pack_sizes(coding::widths::oid_width(id), sizes));
+            sum = walks::weights::plus(
+                sum,
+                walks::weights::pack_sizes(coding::widths::oid_width(id), sizes),
+            );
             top = walks::larger(top, id);
             low = walks::smaller(low, id);
             p = from + sizes.sheet;

@@ -3,7 +3,6 @@ ghost use mathlib.Core.Path.{_≡_};
 ghost use Prim.Native.Nat.{_≤_, _<_};
 ghost use mathlib.Core.Bool.{false};
 ghost use lib.ListN.{length};
-ghost use lib.Dec.{eqb};
 ghost use Rattle.items.specs.Meet.{formOf, itemTable};
 ghost use Rattle.records.specs.Going.{RecordsGoing, Glanced};
 use heads::records::Field;
@@ -46,13 +45,6 @@ fn glance(table: &[u64], s: &[u8], p: usize, alone: bool, top: u64) -> Told
     nothing()
 }
 
-// The tag that a target of a standalone packet must have.
-fn is_location(tag: u64) -> bool
-    ensures { λ r. ⌜ r ≡ eqb tag 17 ⌝ }
-{
-    tag == 17
-}
-
 // Where the walk over a target goes on, and what was walked till there.
 fn run(table: &[u64], s: &[u8], alone: bool) -> Quick
     requires { ⌜ (now table ≡ itemTable) × (length (now s) ≤ 65536) ⌝ }
@@ -67,7 +59,7 @@ fn run(table: &[u64], s: &[u8], alone: bool) -> Quick
     let mut tag = first.tag;
     let mut n = first.size;
     while 0 < n {
-        mark = walks::either(mark, is_location(tag));
+        mark = walks::either(mark, walks::is_mark(false, tag));
         low = walks::smaller(low, tag);
         top = tag;
         count += 1;

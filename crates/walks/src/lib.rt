@@ -9,7 +9,7 @@ ghost use Rattle.format.specs.Table.{isSet, isAlone};
 ghost use Rattle.format.specs.Read.{item, parse};
 ghost use Rattle.items.specs.Meet.{formOf, levelOf, itemTable};
 ghost use Rattle.heads.specs.Meet.{peek, Past};
-ghost use Rattle.walks.specs.Meet.{pieceOf, pieceFault, Small, itemSizes, packSizes, seriesSizes, plusSizes, stopAt, laterBy, seriesFrom, markTag, levelWalk, seriesWalk, Within};
+ghost use Rattle.walks.specs.Meet.{pieceOf, pieceFault, itemSizes, stopAt, laterBy, seriesFrom, markTag, levelWalk, seriesWalk, Within};
 use heads::Head;
 
 // An item that may stand where it does: its tag, where its value begins, its length, and its shortest length; or the refusal's number.
@@ -86,75 +86,12 @@ pub fn piece_fault(h: Head) -> Piece
     }
 }
 
-// ---- sizes
-
 // The bytes in the sheet, the rows, the bytes in normal form, and those of a series' packs.
 pub struct Sizes {
     pub sheet: usize,
     pub rows: usize,
     pub normal: usize,
     pub inner: usize,
-}
-
-// Of an item with n bytes in its shortest form. The set's checksum has a row alone.
-pub fn plain_sizes(set: bool, tag: u64, n: usize) -> Sizes
-    requires { ⌜ (tag ≤ 16383) × (n ≤ 65536) ⌝ }
-    ensures { λ r. ⌜ r ≡ itemSizes (levelOf set) tag n ⌝ }
-{
-    if set {
-        if tag == 1 {
-            return Sizes {
-                sheet: 0,
-                rows: 1,
-                normal: 0,
-                inner: 0,
-            };
-        }
-    }
-    Sizes {
-        sheet: 6 + n,
-        rows: 1,
-        normal: coding::widths::short_total(tag, n),
-        inner: 0,
-    }
-}
-
-// Of a pack whose id takes so many bytes, and of a series, given what they hold.
-pub fn pack_sizes(used: usize, a: Sizes) -> Sizes
-    requires { ⌜ (used ≤ 9) × Small a ⌝ }
-    ensures { λ r. ⌜ r ≡ packSizes used a ⌝ }
-{
-    let body = used + a.normal;
-    Sizes {
-        sheet: 10 + a.sheet,
-        rows: 1 + a.rows,
-        normal: coding::widths::len_width(body) + body,
-        inner: 0,
-    }
-}
-
-pub fn series_sizes(a: Sizes) -> Sizes
-    requires { ⌜ Small a ⌝ }
-    ensures { λ r. ⌜ r ≡ seriesSizes a ⌝ }
-{
-    Sizes {
-        sheet: 2 + a.sheet,
-        rows: 1 + a.rows,
-        normal: 1 + coding::widths::len_width(a.normal) + a.normal,
-        inner: a.normal,
-    }
-}
-
-pub fn plus(a: Sizes, b: Sizes) -> Sizes
-    requires { ⌜ Small a × Small b ⌝ }
-    ensures { λ r. ⌜ r ≡ plusSizes a b ⌝ }
-{
-    Sizes {
-        sheet: a.sheet + b.sheet,
-        rows: a.rows + b.rows,
-        normal: a.normal + b.normal,
-        inner: a.inner + b.inner,
-    }
 }
 
 // ---- walks
@@ -229,7 +166,7 @@ fn mark_tag(set: bool) -> u64
     if set { 1 } else { 17 }
 }
 
-fn is_mark(set: bool, tag: u64) -> bool
+pub fn is_mark(set: bool, tag: u64) -> bool
     ensures { λ r. ⌜ r ≡ eqb tag (markTag (levelOf set)) ⌝ }
 {
     tag == mark_tag(set)
@@ -241,7 +178,7 @@ pub fn one_item(set: bool, tag: u64, n: usize) -> Walked
     ensures { λ r. ⌜ r ≡ Walked.Good (itemSizes (levelOf set) tag n) (eqb tag (markTag (levelOf set))) ⌝ }
 {
     Walked::Good {
-        sizes: plain_sizes(set, tag, n),
+        sizes: weights::plain_sizes(set, tag, n),
         mark: is_mark(set, tag),
     }
 }
@@ -253,7 +190,7 @@ pub fn series_of(w: Walked, k: usize) -> Walked
 {
     match w {
         Walked::Good { sizes, mark: _ } => Walked::Good {
-            sizes: series_sizes(sizes),
+            sizes: weights::series_sizes(sizes),
             mark: false,
         },
         Walked::Bad { number, place } => Walked::Bad {
@@ -295,7 +232,7 @@ pub fn item_walk(table: &[u64], s: &[u8], set: bool, alone: bool) -> Walked
         let Walked::Good { sizes, mark: m } = w else {
             return later(w, p);
         };
-        sum = plus(sum, sizes);
+        sum = weights::plus(sum, sizes);
         mark = either(mark, m);
         top = larger(top, tag);
         low = smaller(low, tag);
@@ -358,7 +295,7 @@ pub fn pack_walk(table: &[u64], s: &[u8], alone: bool) -> Walked
             return later(w, from);
         };
         if either(!alone, mark) {
-            sum = plus(sum, pack_sizes(used, sizes));
+            sum = weights::plus(sum, weights::pack_sizes(used, sizes));
             top = larger(top, key);
             low = smaller(low, key);
             p = next;
@@ -385,3 +322,4 @@ pub enum Checked {
 
 pub mod whole; // whole.rt: the whole packet
 pub mod quick; // quick.rt: the quick way over a level
+pub mod weights; // weights.rt: the sizes of an item, a pack and the series

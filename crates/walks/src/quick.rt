@@ -67,6 +67,7 @@ fn first_tag(s: &[u8]) -> u64
     tag
 }
 
+// The items told at a glance, one after another.
 pub fn run(table: &[u64], s: &[u8], set: bool, alone: bool) -> Quick
     requires { ⌜ (now table ≡ itemTable) × (length (now s) ≤ 8192) ⌝ }
     ensures { λ r. ⌜ LevelGoing set (formOf alone) (now (s .entry)) (r .at) (r .sizes) (r .mark) (r .top) (r .low) ⌝ }

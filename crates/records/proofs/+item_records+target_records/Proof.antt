@@ -37,8 +37,8 @@ use Rattle.walks.proofs.either.Reads as either-reads
 use Rattle.walks.proofs.is_series.Reads as is-series-reads
 use Rattle.walks.proofs.larger.Reads as larger-reads
 use Rattle.walks.proofs.one_item.Reads as one-item-reads
-use Rattle.walks.proofs.pack_sizes.Reads as pack-sizes-reads
-use Rattle.walks.proofs.plus.Reads as plus-reads
+use Rattle.walks.proofs.weights.pack_sizes.Reads as pack-sizes-reads
+use Rattle.walks.proofs.weights.plus.Reads as plus-reads
 use Rattle.walks.proofs.smaller.Reads as smaller-reads
 use Rattle.walks.proofs.stop.Reads as stop-reads
 use Rattle.records.proofs.+item_records+target_records.{statement}

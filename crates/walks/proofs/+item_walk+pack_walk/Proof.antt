@@ -31,8 +31,8 @@ use Rattle.walks.proofs.larger.Reads as larger-reads
 use Rattle.walks.proofs.later.Reads as later-reads
 use Rattle.walks.proofs.one_item.Reads as one-item-reads
 use Rattle.walks.proofs.piece_fault.Reads as piece-fault-reads
-use Rattle.walks.proofs.pack_sizes.Reads as pack-sizes-reads
-use Rattle.walks.proofs.plus.Reads as plus-reads
+use Rattle.walks.proofs.weights.pack_sizes.Reads as pack-sizes-reads
+use Rattle.walks.proofs.weights.plus.Reads as plus-reads
 use Rattle.walks.proofs.quick.run.Reads as run-reads
 use Rattle.walks.proofs.series_of.Reads as series-of-reads
 use Rattle.walks.proofs.smaller.Reads as smaller-reads

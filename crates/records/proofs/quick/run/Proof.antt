@@ -23,8 +23,8 @@ glance-requires c κs = (c .before .before .pre .0, omega arith)
 loop-holds : tie.Need-loop-holds Inv-loop μ-loop
 loop-holds c = (records-start _ _ _, omega arith, c .glance .ensures)
 
-is-location-requires : tie.Need-is-location-requires Inv-loop μ-loop
-is-location-requires c κs = search needs
+is-mark-requires : tie.Need-is-mark-requires Inv-loop μ-loop
+is-mark-requires c κs = search needs
 
 either-requires : tie.Need-either-requires Inv-loop μ-loop
 either-requires c κs = search needs
@@ -50,7 +50,7 @@ loop-less c = omega (arith, glance-room (c .before .before .before .before .befo
 loop-again : tie.Need-loop-again Inv-loop μ-loop
 loop-again c =
     let g = c .before .before .before .before .before .loop .inv .2 (c .before .before .before .before .loop-test .taken) in
-    (glance-more g (c .before .before .before .before .before .loop .inv .0) (c .before .before .before .before .before .loop .inv .1) (λ i. c .before .before .before .before .before .before .before .shared-slice-known2 .given i .fits) (c .before .before .before .before .before .before .before .before .before .pre .1) (c .before .before .before .is-location .ensures) (c .before .before .either .ensures) (c .before .smaller .ensures), omega (arith, c .before .before .before .before .before .loop .inv .1), c .glance2 .ensures)
+    (glance-more g (c .before .before .before .before .before .loop .inv .0) (c .before .before .before .before .before .loop .inv .1) (λ i. c .before .before .before .before .before .before .before .shared-slice-known2 .given i .fits) (c .before .before .before .before .before .before .before .before .before .pre .1) (c .before .before .before .is-mark .ensures) (c .before .before .either .ensures) (c .before .smaller .ensures), omega (arith, c .before .before .before .before .before .loop .inv .1), c .glance2 .ensures)
 
 mul-t16 : tie.Need-mul-t16 Inv-loop μ-loop
 mul-t16 c = omega (arith, c .before .loop .inv .1, c .before .loop .inv .0 .to, c .before .before .before .before .before .pre .1)
@@ -69,7 +69,7 @@ run-spec =
     μ-loop
     glance-requires
     loop-holds
-    is-location-requires
+    is-mark-requires
     either-requires
     smaller-requires
     add-count

@@ -1,12 +1,12 @@
--- `walks::pack_sizes` meets its contract.
+-- `walks::weights::pack_sizes` meets its contract.
 use Prim.Native.Nat.{_+_}
 use native.Mathlib.Omega.{arith}
 use mathlib.Core.Path.{refl}
 use Rattle.coding.proofs.Counts.{len-most}
 use Rattle.walks.proofs.Walks.{same-sizes}
 use borrow.Author.Needs.{needs}
-use Rattle.walks.proofs.pack_sizes.Statement.{statement}
-use Rattle.walks.proofs.pack_sizes.Tie as tie
+use Rattle.walks.proofs.weights.pack_sizes.Statement.{statement}
+use Rattle.walks.proofs.weights.pack_sizes.Tie as tie
 
 add-body : tie.Need-add-body
 add-body c = search needs

@@ -1,10 +1,10 @@
--- `walks::plain_sizes` meets its contract.
+-- `walks::weights::plain_sizes` meets its contract.
 use mathlib.Core.Logic.{⊎-elim}
 use borrow.Author.Tests.{ne-eqb}
 use Rattle.walks.specs.Meet.{itemSizes}
 use borrow.Author.Needs.{needs}
-use Rattle.walks.proofs.plain_sizes.Statement.{statement}
-use Rattle.walks.proofs.plain_sizes.Tie as tie
+use Rattle.walks.proofs.weights.plain_sizes.Statement.{statement}
+use Rattle.walks.proofs.weights.plain_sizes.Tie as tie
 
 returns : tie.Need-returns
 unfolding itemSizes

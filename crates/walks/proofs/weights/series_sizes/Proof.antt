@@ -1,11 +1,11 @@
--- `walks::series_sizes` meets its contract.
+-- `walks::weights::series_sizes` meets its contract.
 use native.Mathlib.Omega.{arith}
 use mathlib.Core.Path.{refl}
 use Rattle.coding.proofs.Counts.{len-most}
 use Rattle.walks.proofs.Walks.{same-sizes}
 use borrow.Author.Needs.{needs}
-use Rattle.walks.proofs.series_sizes.Statement.{statement}
-use Rattle.walks.proofs.series_sizes.Tie as tie
+use Rattle.walks.proofs.weights.series_sizes.Statement.{statement}
+use Rattle.walks.proofs.weights.series_sizes.Tie as tie
 
 add-t2 : tie.Need-add-t2
 add-t2 c = search needs

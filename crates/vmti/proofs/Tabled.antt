@@ -3,11 +3,14 @@ use mathlib.Core.Path.{_≡_, refl, sym, ap, _∙_, subst}
 use Prim.Native.Nat.{ℕ, _*_, _≤_, _<_}
 use native.Mathlib.Omega.{arith}
 use mathlib.Core.List.{List, _++_, map}
-use lib.ListN.{length, drop, length-append}
+use lib.ListN.{length, drop, length-append, length-map}
+use mathlib.Core.Bool.{true, false}
+use lib.Dec.{leb}
 use borrow.Author.Tests.{le-leb, lt-leb, eq-eqb, ne-eqb}
 use Rattle.format.specs.Answer.{Ans, ok, refused}
 use Rattle.format.specs.Coding.{Bytes}
 use Rattle.format.specs.Table.{Form}
+use Rattle.format.specs.Room.{leaves}
 use Rattle.format.specs.Rows.{Row, rowsOf, locate}
 use Rattle.format.proofs.demands.Sizes.{sizes as size-law}
 use Rattle.rows.specs.declared.table.Row as table
@@ -36,16 +39,22 @@ none-filled room x a ns h left =
     }
 
 table-written : (lent : List table.Row) (rs : List Row) → length rs ≤ length lent → leftOf (answerOf 0 (length rs)) (map rowOf rs ++ drop (length rs) lent) ≡ leavesTable lent (ok rs)
-unfolding leavesTable
-table-written lent rs h = rw (le-leb (length rs) (length lent) h, leavesTable)
+unfolding leaves
+table-written lent rs h =
+    let n : length (map rowOf rs) ≡ length rs = length-map rs rowOf in
+    let g : leb (length (map rowOf rs)) (length lent) ≡ true = le-leb (length (map rowOf rs)) (length lent) (omega (arith, n, h)) in
+    sym (rw (g, leaves) (λ i. record { number = 0; place = n i; lent = map rowOf rs ++ drop (n i) lent }))
 
 table-short : (lent : List table.Row) (rs : List Row) → length lent < length rs → leftOf (answerOf 16 (length rs)) lent ≡ leavesTable lent (ok rs)
-unfolding leavesTable
-table-short lent rs h = rw (lt-leb (length rs) (length lent) h, leavesTable)
+unfolding leaves
+table-short lent rs h =
+    let n : length (map rowOf rs) ≡ length rs = length-map rs rowOf in
+    let g : leb (length (map rowOf rs)) (length lent) ≡ false = lt-leb (length (map rowOf rs)) (length lent) (omega (arith, n, h)) in
+    sym (rw (g, leaves) (λ i. record { number = 16; place = n i; lent = lent }))
 
 module _ (room : ℕ) (lent out : List ℕ) (a : Answer) where
   refused-filled : (n p : ℕ) → 1 ≤ n → leftOf a out ≡ leavesRows lent (refused n p) → Filled room (refused n p) a out
-  unfolding leavesRows leavesTable
+  unfolding leavesRows leaves
   refused-filled n p h e =
       let en : a .number ≡ n = ap (λ x. x .number) e in
       none-filled room (refused n p) a out (omega arith) (λ l _. λ i. record { number = e i .number; place = e i .place; lent = l })

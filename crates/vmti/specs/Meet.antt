@@ -9,7 +9,7 @@ use Rattle.format.specs.Answer.{Ans, ok, refused, _>>=_}
 use Rattle.format.specs.Table.{Form}
 use Rattle.format.specs.Packet.{Packet}
 use Rattle.format.specs.Rows.{Row}
-use Rattle.format.specs.Room.{Left}
+use Rattle.format.specs.Room.{Left, leaves}
 use Rattle.items.specs.Meet.{formOf}
 use Rattle.walks.specs.declared.Checked.{Checked}
 use Rattle.walks.specs.declared.Checked.the-variants.{Fine, Wrong}
@@ -65,14 +65,13 @@ holderNamed level id = holderOf (eqb level 0) id
 abbrev pub changeNamed : ℕ → List ℕ → Change
 changeNamed removal v = changeOf (not (eqb removal 0)) v
 
--- rows lie in a lent slice of rows, one by one
-unfoldable pub leavesTable : List table.Row → Ans (List Row) → Left table.Row
-leavesTable lent (refused n p) = record { number = n; place = p; lent = lent }
-leavesTable lent (ok rs) =
-    elim (leb (length rs) (length lent)) [
-      | true ↦ record { number = 0; place = length rs; lent = map rowOf rs ++ drop (length rs) lent }
-      | false ↦ record { number = 16; place = length rs; lent = lent }
-    ]
+-- rows lie in a lent slice of structs, one by one
+abbrev pub tabled : Ans (List Row) → Ans (List table.Row)
+tabled (ok rs) = ok (map rowOf rs)
+tabled (refused n p) = refused n p
+
+abbrev pub leavesTable : List table.Row → Ans (List Row) → Left table.Row
+leavesTable lent x = leaves lent (tabled x)
 
 -- how many rows an answer says to be written
 abbrev pub countOf : Answer → ℕ

@@ -7,7 +7,8 @@ use mathlib.Core.List.{List}
 use lib.ListN.{length, drop, getD}
 use lib.Dec.{eqb}
 use Rattle.format.specs.Answer.{Ans, ok, refused, Got}
-use Rattle.format.specs.Packet.{tagOfEntry}
+use Rattle.format.specs.Packet.{tagOfEntry, idOfPack}
+use Rattle.format.specs.Read.{onePack}
 use Rattle.format.specs.Run.{Step, skip, always}
 use Rattle.format.specs.Table.{Form, isSet, isAlone}
 use Rattle.items.specs.Meet.{levelOf}
@@ -16,7 +17,7 @@ use Rattle.heads.specs.Meet.{peek, Past}
 use Rattle.walks.specs.declared.Sizes.{Sizes}
 use Rattle.walks.specs.declared.Walked.{Walked}
 use Rattle.walks.specs.declared.Walked.the-variants.{Good, Bad}
-use Rattle.walks.specs.Meet.{plusSizes, total, any, weightOfEntry, markTag, stepAt, levelWalk, Few}
+use Rattle.walks.specs.Meet.{plusSizes, total, any, weightOfEntry, weightOfPack, markTag, stepAt, levelWalk, seriesWalk, Few}
 
 -- what was walked so far, and the rest from p
 abbrev pub resume : {X : Type 0} → (X → Sizes) → (X → Bool) → Sizes → Bool → ℕ → Ans (Got (List X)) → Walked
@@ -35,6 +36,10 @@ pub record Going {X : Type 0} (look : List ℕ → Got ℕ) (more : List ℕ →
 abbrev pub LevelGoing : Bool → Form → List ℕ → ℕ → Sizes → Bool → ℕ → ℕ → Type 0
 LevelGoing b f s p a m top low =
     Going (peek false false b) always (weightOfEntry (levelOf b)) (λ e. eqb (tagOfEntry e) (markTag (levelOf b))) tagOfEntry (stepAt (levelOf b) f) (levelWalk (levelOf b) f s) s p a m top low
+
+-- the pack walk of a series
+abbrev pub SeriesGoing : Form → List ℕ → ℕ → Sizes → ℕ → ℕ → Type 0
+SeriesGoing f s p a top low = Going (peek false true false) always weightOfPack (λ p. false) idOfPack (onePack f) (seriesWalk f s) s p a false top low
 
 -- what stands at p may stand there, if that is where the level begins
 abbrev pub Begun : Bool → Form → List ℕ → ℕ → Type 0

@@ -246,15 +246,11 @@ pub fn pack_walk(table: &[u64], s: &[u8], alone: bool) -> Walked
     requires { ⌜ (now table ≡ itemTable) × (length (now s) ≤ 8192) ⌝ }
     ensures { λ r. ⌜ (r ≡ seriesWalk (formOf alone) (now (s .entry))) × Within r (length (now (s .entry))) ⌝ }
 {
-    let mut p: usize = 0;
-    let mut sum = Sizes {
-        sheet: 0,
-        rows: 0,
-        normal: 0,
-        inner: 0,
-    };
-    let mut top: u64 = 0;
-    let mut low: u64 = 18446744073709551615;
+    let q = quick::packs(table, s, alone);
+    let mut p = q.at;
+    let mut sum = q.sizes;
+    let mut top = q.top;
+    let mut low = q.low;
     while p < s.len() {
         let h = heads::quick_pack_head(&s[p..]);
         let Head::Whole {
@@ -274,23 +270,7 @@ pub fn pack_walk(table: &[u64], s: &[u8], alone: bool) -> Walked
         }
         let from = p + width + used;
         let next = p + width + size;
-        let items = &s[from..next];
-        let q = quick::run(table, items, false, alone);
-        let all = q.sizes;
-        // field by field: a copy of the whole would wait for what was just stored
-        let w = if q.at == items.len() {
-            Walked::Good {
-                sizes: Sizes {
-                    sheet: all.sheet,
-                    rows: all.rows,
-                    normal: all.normal,
-                    inner: all.inner,
-                },
-                mark: q.mark,
-            }
-        } else {
-            item_walk(table, items, false, alone)
-        };
+        let w = item_walk(table, &s[from..next], false, alone);
         let Walked::Good { sizes, mark } = w else {
             return later(w, from);
         };

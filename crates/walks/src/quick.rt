@@ -1,11 +1,14 @@
 // The quick way over a level: items told at a glance, with a byte each for tag and length, tags rising, from its start. What stops it is
 // left to the item walk.
 ghost use mathlib.Core.Path.{_≡_};
+ghost use mathlib.Core.Bool.{true};
+ghost use mathlib.Core.Logic.{_⊎_};
 ghost use Prim.Native.Nat.{_-_, _≤_, _<_};
 ghost use lib.ListN.{length, getD};
 ghost use Rattle.items.specs.Meet.{formOf, itemTable};
-ghost use Rattle.walks.specs.Going.{LevelGoing, Begun, Glanced};
+ghost use Rattle.walks.specs.Going.{LevelGoing, SeriesGoing, Begun, Glanced};
 use super::Sizes;
+use heads::Head;
 
 // How far such an item may begin: two bytes and a value have room there, and what begins the level may.
 fn span(s: &[u8], set: bool, alone: bool) -> usize
@@ -100,5 +103,79 @@ pub fn run(table: &[u64], s: &[u8], set: bool, alone: bool) -> Quick
         top = tag;
         count += 1;
         p = next;
+    }
+}
+
+// ---- packs
+
+// Whether an id is told to be new without a look back: no id before p is above top or below low.
+fn is_new(p: usize, top: u64, low: u64, id: u64) -> bool
+    ensures { λ r. ⌜ (r ≡ true → (p ≡ 0) ⊎ (top < id) ⊎ (id < low)) ⌝ }
+{
+    if top < id {
+        return true;
+    }
+    if id < low {
+        return true;
+    }
+    p == 0
+}
+
+// The packs whose ids rise or fall and whose items are all told at a glance, one after another, from a series' start.
+pub fn packs(table: &[u64], s: &[u8], alone: bool) -> Quick
+    requires { ⌜ (now table ≡ itemTable) × (length (now s) ≤ 8192) ⌝ }
+    ensures { λ r. ⌜ SeriesGoing (formOf alone) (now (s .entry)) (r .at) (r .sizes) (r .top) (r .low) ⌝ }
+{
+    let mut p: usize = 0;
+    let mut sum = Sizes {
+        sheet: 0,
+        rows: 0,
+        normal: 0,
+        inner: 0,
+    };
+    let mut top: u64 = 0;
+    let mut low: u64 = 18446744073709551615;
+    while p < s.len() {
+        let h = heads::quick_pack_head(&s[p..]);
+        let Head::Whole {
+            key,
+            used,
+            width,
+            size,
+        } = h
+        else {
+            return stands(p, sum, top, low);
+        };
+        if !is_new(p, top, low, key) {
+            return stands(p, sum, top, low);
+        }
+        let from = p + width + used;
+        let next = p + width + size;
+        let items = &s[from..next];
+        let q = run(table, items, false, alone);
+        if q.at != items.len() {
+            return stands(p, sum, top, low);
+        }
+        if !super::either(!alone, q.mark) {
+            return stands(p, sum, top, low);
+        }
+        sum = super::weights::plus(sum, super::weights::pack_sizes(used, q.sizes));
+        top = super::larger(top, key);
+        low = super::smaller(low, key);
+        p = next;
+    }
+    stands(p, sum, top, low)
+}
+
+// Where the pack walk goes on.
+fn stands(p: usize, sum: Sizes, top: u64, low: u64) -> Quick
+    ensures { λ r. ⌜ (r .at ≡ p) × (r .sizes ≡ sum) × (r .top ≡ top) × (r .low ≡ low) ⌝ }
+{
+    Quick {
+        at: p,
+        sizes: sum,
+        mark: false,
+        top,
+        low,
     }
 }

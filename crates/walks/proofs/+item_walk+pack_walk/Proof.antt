@@ -1,21 +1,19 @@
 -- `walks::item_walk` and `walks::pack_walk` meet their contracts: each turn moves one item or pack from what is to come to what was walked.
 -- In the item walk's answers `a` is where an item was read; in the pack walk's `a` is where a pack's head was, and `e` where its id was found to be new.
-use mathlib.Core.Path.{_≡_, refl, ap, _∙_}
-use mathlib.Core.Bool.{Bool, true, false, not, _||_}
+use mathlib.Core.Path.{refl, ap, _∙_}
 use mathlib.Core.Logic.{⊎-elim}
 use Prim.Native.Nat.{ℕ, _+_, _-_, _≤_, _<_}
 use native.Mathlib.Omega.{arith}
-use lib.ListN.{length, take, drop}
+use lib.ListN.{length}
 use borrow.Author.Needs.{needs}
 use borrow.Fn.Kinds.{In}
 use borrow.Fn.PlainCycle.{Measures, is, falls, and}
-use Rattle.format.specs.Table.{pack, isAlone}
 use Rattle.items.specs.Meet.{formOf}
-use Rattle.walks.specs.Going.{LevelGoing}
-use Rattle.walks.specs.Meet.{plusSizes, levelWalk, Within}
-use Rattle.walks.proofs.Turns.{told-as, turn-done}
+use Rattle.walks.specs.Going.{LevelGoing, SeriesGoing}
+use Rattle.walks.specs.Meet.{plusSizes}
+use Rattle.walks.proofs.Turns.{turn-done}
 use Rattle.walks.proofs.ItemTurns.{ItemAt, depth, series-deep, value-long, item-fault, piece-stood, piece-room, EntryTold, item-told, series-within, series-told, entry-bad, bad-within, good-small, entry-more}
-use Rattle.walks.proofs.PackTurns.{PackAt, SeriesGoing, lent-long, series-start, head-fault, head-stood, head-room, id-again, items-within, items-fault, no-location, items-small, pack-small, pack-more}
+use Rattle.walks.proofs.PackTurns.{PackAt, either-is, lent-long, head-fault, head-stood, head-room, id-again, items-within, items-fault, no-location, items-small, pack-small, pack-more}
 use Rattle.walks.proofs.item_walk.Reads as item-walk
 use Rattle.walks.proofs.item_walk.Kinds as item-walk-kinds
 use Rattle.walks.proofs.+item_walk+pack_walk.Lts-item_walk as item-walk-lts
@@ -33,6 +31,7 @@ use Rattle.walks.proofs.one_item.Reads as one-item-reads
 use Rattle.walks.proofs.piece_fault.Reads as piece-fault-reads
 use Rattle.walks.proofs.weights.pack_sizes.Reads as pack-sizes-reads
 use Rattle.walks.proofs.weights.plus.Reads as plus-reads
+use Rattle.walks.proofs.quick.packs.Reads as packs-reads
 use Rattle.walks.proofs.quick.run.Reads as run-reads
 use Rattle.walks.proofs.series_of.Reads as series-of-reads
 use Rattle.walks.proofs.smaller.Reads as smaller-reads
@@ -66,7 +65,7 @@ abbrev item-claims : ℕ → item-walk-lts.Claims
 item-claims t = (run-reads.Asked, run-reads.Learnt, item-at-reads.Asked, item-at-reads.Learnt, stop-reads.Asked, stop-reads.Learnt, is-series-reads.Asked, is-series-reads.Learnt, pack-walk-below t, pack-walk.Post, series-of-reads.Asked, series-of-reads.Learnt, one-item-reads.Asked, one-item-reads.Learnt, later-reads.Asked, later-reads.Learnt, plus-reads.Asked, plus-reads.Learnt, either-reads.Asked, either-reads.Learnt, larger-reads.Asked, larger-reads.Learnt, smaller-reads.Asked, smaller-reads.Learnt)
 
 abbrev pack-claims : ℕ → pack-walk-lts.Claims
-pack-claims t = (quick-pack-head-reads.Asked, quick-pack-head-reads.Learnt, piece-fault-reads.Asked, piece-fault-reads.Learnt, stop-reads.Asked, stop-reads.Learnt, is-seen-reads.Asked, is-seen-reads.Learnt, run-reads.Asked, run-reads.Learnt, item-walk-below t, item-walk.Post, later-reads.Asked, later-reads.Learnt, either-reads.Asked, either-reads.Learnt, pack-sizes-reads.Asked, pack-sizes-reads.Learnt, plus-reads.Asked, plus-reads.Learnt, larger-reads.Asked, larger-reads.Learnt, smaller-reads.Asked, smaller-reads.Learnt)
+pack-claims t = (packs-reads.Asked, packs-reads.Learnt, quick-pack-head-reads.Asked, quick-pack-head-reads.Learnt, piece-fault-reads.Asked, piece-fault-reads.Learnt, stop-reads.Asked, stop-reads.Learnt, is-seen-reads.Asked, is-seen-reads.Learnt, item-walk-below t, item-walk.Post, later-reads.Asked, later-reads.Learnt, either-reads.Asked, either-reads.Learnt, pack-sizes-reads.Asked, pack-sizes-reads.Learnt, plus-reads.Asked, plus-reads.Learnt, larger-reads.Asked, larger-reads.Learnt, smaller-reads.Asked, smaller-reads.Learnt)
 
 -- ---- the item walk
 
@@ -214,32 +213,27 @@ pack-walk-μ-loop table s alone p₀ sum₀ top₀ low₀ p sum top low = length
 
 -- a pack, where its head was read
 pack-here : (t : ℕ) (a : pack-walk-lts.After-h (pack-claims t) (pack-walk-at t) pack-walk.Post pack-walk-Inv-loop pack-walk-μ-loop)
-    → PackAt (formOf (a .before .before .before .before .before .before .before .before .args .alone)) (a .before .before .before .before .before .before .before .before .args .s .now) (a .before .before .before .before .before .loop .p) (a .before .before .before .before .before .loop .sum) (a .before .before .before .before .before .loop .top) (a .before .before .before .before .before .loop .low) (a .h .given .0 .0) (a .h .given .0 .1 .0) (a .h .given .0 .1 .1 .0) (a .h .given .0 .1 .1 .1 .0)
+    → PackAt (formOf (a .before .before .before .before .before .before .before .before .before .before .args .alone)) (a .before .before .before .before .before .before .before .before .before .before .args .s .now) (a .before .before .before .before .before .loop .p) (a .before .before .before .before .before .loop .sum) (a .before .before .before .before .before .loop .top) (a .before .before .before .before .before .loop .low) (a .h .given .0 .0) (a .h .given .0 .1 .0) (a .h .given .0 .1 .1 .0) (a .h .given .0 .1 .1 .1 .0)
 pack-here t a = record {
   going = a .before .before .before .before .before .loop .inv;
   here = a .before .before .before .before .loop-test .taken;
   it = a .before .before .quick-pack-head .result;
   told = a .before .before .quick-pack-head .ensures;
   is = a .h .given .1;
-  bytes = λ i. a .before .before .before .before .before .before .shared-slice-known2 .given i .fits;
-  most = a .before .before .before .before .before .before .before .before .pre .1 .1;
+  bytes = λ i. a .before .before .before .before .before .before .before .before .shared-slice-known2 .given i .fits;
+  most = a .before .before .before .before .before .before .before .before .before .before .pre .1 .1;
 }
 
 -- it lies within the bytes lent, and its id within the pack
 pack-room : (t : ℕ) (a : pack-walk-lts.After-h (pack-claims t) (pack-walk-at t) pack-walk.Post pack-walk-Inv-loop pack-walk-μ-loop)
-    → a .before .before .before .before .before .loop .p + a .h .given .0 .1 .1 .0 + a .h .given .0 .1 .1 .1 .0 ≤ length (a .before .before .before .before .before .before .before .before .args .s .now)
-pack-room t a = head-room (pack-here t a)
+    → (a .before .before .before .before .before .loop .p + a .h .given .0 .1 .1 .0 + a .h .given .0 .1 .1 .1 .0 ≤ length (a .before .before .before .before .before .before .before .before .before .before .args .s .now)) × (a .h .given .0 .1 .0 ≤ a .h .given .0 .1 .1 .1 .0) × (length (a .before .before .before .before .before .before .before .before .before .before .args .s .now) ≤ 8192)
+pack-room t a = (head-room (pack-here t a), head-stood (pack-here t a) .body, a .before .before .before .before .before .before .before .before .before .before .pre .1 .1)
 
-pack-body : (t : ℕ) (a : pack-walk-lts.After-h (pack-claims t) (pack-walk-at t) pack-walk.Post pack-walk-Inv-loop pack-walk-μ-loop) → a .h .given .0 .1 .0 ≤ a .h .given .0 .1 .1 .1 .0
-pack-body t a = head-stood (pack-here t a) .body
-
--- `either(!alone, mark)`, of the form
-either-is : (alone m : Bool) {v : Bool} → v ≡ (not alone || m) → v ≡ (not (isAlone (formOf alone)) || m)
-either-is true m e = e
-either-is false m e = e
+pack-walk-packs-requires : (t : ℕ) → pack-walk-lts.Need-packs-requires (pack-claims t) (pack-walk-at t) pack-walk.Post pack-walk-Inv-loop pack-walk-μ-loop
+pack-walk-packs-requires t c κs = c .before .before .pre .1
 
 pack-walk-loop-holds : (t : ℕ) → pack-walk-lts.Need-loop-holds (pack-claims t) (pack-walk-at t) pack-walk.Post pack-walk-Inv-loop pack-walk-μ-loop
-pack-walk-loop-holds t c = series-start _ _
+pack-walk-loop-holds t c = c .before .packs .ensures
 
 pack-walk-sub-quick-pack-head : (t : ℕ) → pack-walk-lts.Need-sub-quick-pack-head (pack-claims t) (pack-walk-at t) pack-walk.Post pack-walk-Inv-loop pack-walk-μ-loop
 pack-walk-sub-quick-pack-head t c = search needs
@@ -272,67 +266,31 @@ pack-walk-is-seen-requires : (t : ℕ) → pack-walk-lts.Need-is-seen-requires (
 pack-walk-is-seen-requires t c κs = search needs
 
 pack-walk-returns-2 : (t : ℕ) → pack-walk-lts.Need-returns-2 (pack-claims t) (pack-walk-at t) pack-walk.Post pack-walk-Inv-loop pack-walk-μ-loop
-pack-walk-returns-2 t c =
-    let a = c .before .before .before in
-    id-again (pack-here t a) (c .before .is-seen .ensures) (c .if1 .taken) refl
+pack-walk-returns-2 t c = id-again (pack-here t (c .before .before .before)) (c .before .is-seen .ensures) (c .if1 .taken) refl
 
 pack-walk-add-from : (t : ℕ) → pack-walk-lts.Need-add-from (pack-claims t) (pack-walk-at t) pack-walk.Post pack-walk-Inv-loop pack-walk-μ-loop
-pack-walk-add-from t c =
-    let a = c .before .before .before in
-    omega (arith, pack-room t a, pack-body t a, a .before .before .before .before .before .before .before .before .pre .1 .1)
+pack-walk-add-from t c = omega (arith, pack-room t (c .before .before .before))
 
 pack-walk-add-from-2 : (t : ℕ) → pack-walk-lts.Need-add-from-2 (pack-claims t) (pack-walk-at t) pack-walk.Post pack-walk-Inv-loop pack-walk-μ-loop
-pack-walk-add-from-2 t c =
-    let a = c .before .before .before in
-    omega (arith, pack-room t a, pack-body t a, a .before .before .before .before .before .before .before .before .pre .1 .1)
+pack-walk-add-from-2 t c = omega (arith, pack-room t (c .before .before .before))
 
 pack-walk-add-next : (t : ℕ) → pack-walk-lts.Need-add-next (pack-claims t) (pack-walk-at t) pack-walk.Post pack-walk-Inv-loop pack-walk-μ-loop
-pack-walk-add-next t c =
-    let a = c .before .before .before in
-    omega (arith, pack-room t a, pack-body t a, a .before .before .before .before .before .before .before .before .pre .1 .1)
+pack-walk-add-next t c = omega (arith, pack-room t (c .before .before .before))
 
 pack-walk-add-next-2 : (t : ℕ) → pack-walk-lts.Need-add-next-2 (pack-claims t) (pack-walk-at t) pack-walk.Post pack-walk-Inv-loop pack-walk-μ-loop
-pack-walk-add-next-2 t c =
-    let a = c .before .before .before in
-    omega (arith, pack-room t a, pack-body t a, a .before .before .before .before .before .before .before .before .pre .1 .1)
+pack-walk-add-next-2 t c = omega (arith, pack-room t (c .before .before .before))
 
-pack-walk-sub-items : (t : ℕ) → pack-walk-lts.Need-sub-items (pack-claims t) (pack-walk-at t) pack-walk.Post pack-walk-Inv-loop pack-walk-μ-loop
-pack-walk-sub-items t c =
-    let a = c .before .before .before in
-    omega (arith, pack-room t a, pack-body t a, a .before .before .before .before .before .before .before .before .pre .1 .1)
+pack-walk-sub-item-walk : (t : ℕ) → pack-walk-lts.Need-sub-item-walk (pack-claims t) (pack-walk-at t) pack-walk.Post pack-walk-Inv-loop pack-walk-μ-loop
+pack-walk-sub-item-walk t c = omega (arith, pack-room t (c .before .before .before))
 
-pack-walk-part-items-start : (t : ℕ) → pack-walk-lts.Need-part-items-start (pack-claims t) (pack-walk-at t) pack-walk.Post pack-walk-Inv-loop pack-walk-μ-loop
-pack-walk-part-items-start t c =
-    let a = c .before .before .before in
-    omega (arith, pack-room t a, pack-body t a, a .before .before .before .before .before .before .before .before .pre .1 .1)
+pack-walk-part-item-walk-start : (t : ℕ) → pack-walk-lts.Need-part-item-walk-start (pack-claims t) (pack-walk-at t) pack-walk.Post pack-walk-Inv-loop pack-walk-μ-loop
+pack-walk-part-item-walk-start t c = omega (arith, pack-room t (c .before .before .before))
 
-pack-walk-part-items-end : (t : ℕ) → pack-walk-lts.Need-part-items-end (pack-claims t) (pack-walk-at t) pack-walk.Post pack-walk-Inv-loop pack-walk-μ-loop
-pack-walk-part-items-end t c =
-    let a = c .before .before .before in
-    omega (arith, pack-room t a, pack-body t a, a .before .before .before .before .before .before .before .before .pre .1 .1)
-
-pack-walk-run-requires : (t : ℕ) → pack-walk-lts.Need-run-requires (pack-claims t) (pack-walk-at t) pack-walk.Post pack-walk-Inv-loop pack-walk-μ-loop
-pack-walk-run-requires t c κs =
-    let e = c .before in
-    let a = e .before .before .before in
-    (a .before .before .before .before .before .before .before .before .pre .1 .0, omega (arith, lent-long (pack-here t a) (e .before .is-seen .ensures) (e .if1 .left), pack-room t a, a .before .before .before .before .before .before .before .before .pre .1 .1))
+pack-walk-part-item-walk-end : (t : ℕ) → pack-walk-lts.Need-part-item-walk-end (pack-claims t) (pack-walk-at t) pack-walk.Post pack-walk-Inv-loop pack-walk-μ-loop
+pack-walk-part-item-walk-end t c = omega (arith, pack-room t (c .before .before .before))
 
 pack-walk-item-walk-requires : (t : ℕ) → pack-walk-lts.Need-item-walk-requires (pack-claims t) (pack-walk-at t) pack-walk.Post pack-walk-Inv-loop pack-walk-μ-loop
-pack-walk-item-walk-requires t c κs =
-    let e = c .before .before .before .before .before in
-    let a = e .before .before .before in (
-      omega (arith, a .before .before .before .before .before .before .before .before .pre .0),
-      (a .before .before .before .before .before .before .before .before .pre .1 .0, omega (arith, lent-long (pack-here t a) (e .before .is-seen .ensures) (e .if1 .left), pack-room t a, a .before .before .before .before .before .before .before .before .pre .1 .1)),
-    )
-
--- what the items of a pack say, whichever way they were walked
-pack-told : (t : ℕ) (j : pack-walk-lts.Joined2 (pack-claims t) (pack-walk-at t) pack-walk.Post pack-walk-Inv-loop pack-walk-μ-loop)
-    → (j .if2 .w ≡ levelWalk pack (formOf (j .before .before .before .before .before .before .before .before .before .before .before .before .before .before .before .before .args .alone)) (take (j .before .before .before .before .before .before .before .before .before .before .before .before .before .loop .p + j .before .before .before .before .before .before .before .before .h .given .0 .1 .1 .0 + j .before .before .before .before .before .before .before .before .h .given .0 .1 .1 .1 .0 - (j .before .before .before .before .before .before .before .before .before .before .before .before .before .loop .p + j .before .before .before .before .before .before .before .before .h .given .0 .1 .1 .0 + j .before .before .before .before .before .before .before .before .h .given .0 .1 .0)) (drop (j .before .before .before .before .before .before .before .before .before .before .before .before .before .loop .p + j .before .before .before .before .before .before .before .before .h .given .0 .1 .1 .0 + j .before .before .before .before .before .before .before .before .h .given .0 .1 .0) (j .before .before .before .before .before .before .before .before .before .before .before .before .before .before .before .before .args .s .now)))) × Within (j .if2 .w) (length (take (j .before .before .before .before .before .before .before .before .before .before .before .before .before .loop .p + j .before .before .before .before .before .before .before .before .h .given .0 .1 .1 .0 + j .before .before .before .before .before .before .before .before .h .given .0 .1 .1 .1 .0 - (j .before .before .before .before .before .before .before .before .before .before .before .before .before .loop .p + j .before .before .before .before .before .before .before .before .h .given .0 .1 .1 .0 + j .before .before .before .before .before .before .before .before .h .given .0 .1 .0)) (drop (j .before .before .before .before .before .before .before .before .before .before .before .before .before .loop .p + j .before .before .before .before .before .before .before .before .h .given .0 .1 .1 .0 + j .before .before .before .before .before .before .before .before .h .given .0 .1 .0) (j .before .before .before .before .before .before .before .before .before .before .before .before .before .before .before .before .args .s .now))))
-pack-told t j =
-    ⊎-elim
-    (λ x. told-as _ (x .1) (turn-done (j .before .before .before .run .ensures) (omega (arith, x .0 .taken))))
-    (λ x. told-as _ (x .2) (x .1 .ensures))
-    (j .if2 .came)
+pack-walk-item-walk-requires t c κs = (omega (arith, c .before .before .before .before .before .before .before .before .before .before .before .before .before .before .pre .0), (c .before .before .before .before .before .before .before .before .before .before .before .before .before .before .pre .1 .0, omega (arith, lent-long (pack-here t (c .before .before .before .before)) (c .before .before .is-seen .ensures) (c .before .if1 .left), pack-room t (c .before .before .before .before))))
 
 pack-walk-enum-known-w : (t : ℕ) → pack-walk-lts.Need-enum-known-w (pack-claims t) (pack-walk-at t) pack-walk.Post pack-walk-Inv-loop pack-walk-μ-loop
 pack-walk-enum-known-w t c = search needs
@@ -341,31 +299,19 @@ pack-walk-enum-told-2 : (t : ℕ) → pack-walk-lts.Need-enum-told-2 (pack-claim
 pack-walk-enum-told-2 t c = search needs
 
 pack-walk-later-requires : (t : ℕ) → pack-walk-lts.Need-later-requires (pack-claims t) (pack-walk-at t) pack-walk.Post pack-walk-Inv-loop pack-walk-μ-loop
-pack-walk-later-requires t c κs =
-    let e = c .before .before .before .before .before .before .before in
-    let a = e .before .before .before in
-    items-within (pack-here t a) (e .before .is-seen .ensures) (e .if1 .left) (pack-told t (c .before .before))
+pack-walk-later-requires t c κs = items-within (pack-here t (c .before .before .before .before .before .before .before)) (c .before .before .before .before .before .is-seen .ensures) (c .before .before .before .before .if1 .left) (c .before .before .item-walk .ensures)
 
 pack-walk-returns-3 : (t : ℕ) → pack-walk-lts.Need-returns-3 (pack-claims t) (pack-walk-at t) pack-walk.Post pack-walk-Inv-loop pack-walk-μ-loop
-pack-walk-returns-3 t c =
-    let e = c .before .before .before .before .before .before .before .before in
-    let a = e .before .before .before in
-    items-fault (pack-here t a) (e .before .is-seen .ensures) (e .if1 .left) (pack-told t (c .before .before .before)) (c .before .enum-told2 .given .1) (c .later .ensures)
+pack-walk-returns-3 t c = items-fault (pack-here t (c .before .before .before .before .before .before .before .before)) (c .before .before .before .before .before .before .is-seen .ensures) (c .before .before .before .before .before .if1 .left) (c .before .before .before .item-walk .ensures) (c .before .enum-told2 .given .1) (c .later .ensures)
 
 pack-walk-either-requires : (t : ℕ) → pack-walk-lts.Need-either-requires (pack-claims t) (pack-walk-at t) pack-walk.Post pack-walk-Inv-loop pack-walk-μ-loop
 pack-walk-either-requires t c κs = search needs
 
 pack-walk-pack-sizes-requires : (t : ℕ) → pack-walk-lts.Need-pack-sizes-requires (pack-claims t) (pack-walk-at t) pack-walk.Post pack-walk-Inv-loop pack-walk-μ-loop
-pack-walk-pack-sizes-requires t c κs =
-    let e = c .before .before .before .before .before .before .before .before .before .before in
-    let a = e .before .before .before in
-    (head-stood (pack-here t a) .id-few, items-small (pack-here t a) (e .before .is-seen .ensures) (e .if1 .left) (pack-told t (c .before .before .before .before .before)) (c .before .before .before .w .given .1) (either-is (a .before .before .before .before .before .before .before .before .args .alone) _ (c .before .either .ensures)))
+pack-walk-pack-sizes-requires t c κs = (head-stood (pack-here t (c .before .before .before .before .before .before .before .before .before .before)) .id-few, items-small (pack-here t (c .before .before .before .before .before .before .before .before .before .before)) (c .before .before .before .before .before .before .before .before .is-seen .ensures) (c .before .before .before .before .before .before .before .if1 .left) (c .before .before .before .before .before .item-walk .ensures) (c .before .before .before .w .given .1) (either-is (c .before .before .before .before .before .before .before .before .before .before .before .before .before .before .before .before .before .before .before .before .args .alone) _ (c .before .either .ensures)))
 
 pack-walk-plus-requires : (t : ℕ) → pack-walk-lts.Need-plus-requires (pack-claims t) (pack-walk-at t) pack-walk.Post pack-walk-Inv-loop pack-walk-μ-loop
-pack-walk-plus-requires t c κs =
-    let e = c .before .before .before .before .before .before .before .before .before .before .before in
-    let a = e .before .before .before in
-    pack-small (pack-here t a) (e .before .is-seen .ensures) (e .if1 .left) (pack-told t (c .before .before .before .before .before .before)) (c .before .before .before .before .w .given .1) (either-is (a .before .before .before .before .before .before .before .before .args .alone) _ (c .before .before .either .ensures)) (c .pack-sizes .ensures)
+pack-walk-plus-requires t c κs = pack-small (pack-here t (c .before .before .before .before .before .before .before .before .before .before .before)) (c .before .before .before .before .before .before .before .before .before .is-seen .ensures) (c .before .before .before .before .before .before .before .before .if1 .left) (c .before .before .before .before .before .before .item-walk .ensures) (c .before .before .before .before .w .given .1) (either-is (c .before .before .before .before .before .before .before .before .before .before .before .before .before .before .before .before .before .before .before .before .before .args .alone) _ (c .before .before .either .ensures)) (c .pack-sizes .ensures)
 
 pack-walk-larger-requires : (t : ℕ) → pack-walk-lts.Need-larger-requires (pack-claims t) (pack-walk-at t) pack-walk.Post pack-walk-Inv-loop pack-walk-μ-loop
 pack-walk-larger-requires t c κs = search needs
@@ -374,22 +320,13 @@ pack-walk-smaller-requires : (t : ℕ) → pack-walk-lts.Need-smaller-requires (
 pack-walk-smaller-requires t c κs = search needs
 
 pack-walk-loop-less : (t : ℕ) → pack-walk-lts.Need-loop-less (pack-claims t) (pack-walk-at t) pack-walk.Post pack-walk-Inv-loop pack-walk-μ-loop
-pack-walk-loop-less t c =
-    let a = c .before .before .before .before .before .before .before .before .before .before .before .before .before .before .before .before .before in
-    let k = head-stood (pack-here t a) in
-    omega (arith, k .len, a .before .before .before .before .loop-test .taken)
+pack-walk-loop-less t c = omega (arith, head-stood (pack-here t (c .before .before .before .before .before .before .before .before .before .before .before .before .before .before)) .len, c .before .before .before .before .before .before .before .before .before .before .before .before .before .before .before .before .before .before .loop-test .taken)
 
 pack-walk-loop-again : (t : ℕ) → pack-walk-lts.Need-loop-again (pack-claims t) (pack-walk-at t) pack-walk.Post pack-walk-Inv-loop pack-walk-μ-loop
-pack-walk-loop-again t c =
-    let e = c .before .before .before .before .before .before .before .before .before .before .before .before .before .before in
-    let a = e .before .before .before in
-    pack-more (pack-here t a) (e .before .is-seen .ensures) (e .if1 .left) (pack-told t (c .before .before .before .before .before .before .before .before .before)) (c .before .before .before .before .before .before .before .w .given .1) (either-is (a .before .before .before .before .before .before .before .before .args .alone) _ (c .before .before .before .before .before .either .ensures)) (c .before .before .before .before .if3 .taken) (c .before .before .plus .ensures ∙ ap (plusSizes _) (c .before .before .before .pack-sizes .ensures)) (c .before .larger .ensures) (c .smaller .ensures)
+pack-walk-loop-again t c = pack-more (pack-here t (c .before .before .before .before .before .before .before .before .before .before .before .before .before .before)) (c .before .before .before .before .before .before .before .before .before .before .before .before .is-seen .ensures) (c .before .before .before .before .before .before .before .before .before .before .before .if1 .left) (c .before .before .before .before .before .before .before .before .before .item-walk .ensures) (c .before .before .before .before .before .before .before .w .given .1) (either-is (c .before .before .before .before .before .before .before .before .before .before .before .before .before .before .before .before .before .before .before .before .before .before .before .before .args .alone) _ (c .before .before .before .before .before .either .ensures)) (c .before .before .before .before .if2 .taken) (c .before .before .plus .ensures ∙ ap (plusSizes _) (c .before .before .before .pack-sizes .ensures)) (c .before .larger .ensures) (c .smaller .ensures)
 
 pack-walk-returns-4 : (t : ℕ) → pack-walk-lts.Need-returns-4 (pack-claims t) (pack-walk-at t) pack-walk.Post pack-walk-Inv-loop pack-walk-μ-loop
-pack-walk-returns-4 t c =
-    let e = c .before .before .before .before .before .before .before .before .before .before in
-    let a = e .before .before .before in
-    no-location (pack-here t a) (e .before .is-seen .ensures) (e .if1 .left) (pack-told t (c .before .before .before .before .before)) (c .before .before .before .w .given .1) (either-is (a .before .before .before .before .before .before .before .before .args .alone) _ (c .before .either .ensures)) (c .if3 .left) refl
+pack-walk-returns-4 t c = no-location (pack-here t (c .before .before .before .before .before .before .before .before .before .before)) (c .before .before .before .before .before .before .before .before .is-seen .ensures) (c .before .before .before .before .before .before .before .if1 .left) (c .before .before .before .before .before .item-walk .ensures) (c .before .before .before .w .given .1) (either-is (c .before .before .before .before .before .before .before .before .before .before .before .before .before .before .before .before .before .before .before .before .args .alone) _ (c .before .either .ensures)) (c .if2 .left) refl
 
 pack-walk-returns-5 : (t : ℕ) → pack-walk-lts.Need-returns-5 (pack-claims t) (pack-walk-at t) pack-walk.Post pack-walk-Inv-loop pack-walk-μ-loop
 pack-walk-returns-5 t c = turn-done (c .before .loop .inv) (c .loop-test .left)
@@ -406,12 +343,12 @@ pub +item-walk+pack-walk-spec : {M : Type 1} → statement M
     (item-walk-either-requires t) (item-walk-larger-requires t) (item-walk-smaller-requires t) (item-walk-loop-less t)
     (item-walk-loop-again t) (item-walk-returns-3 t))
     (λ t. pack-walk-lts.spec (pack-claims t) (pack-walk-at t) pack-walk.Post pack-walk-Inv-loop pack-walk-μ-loop
-    (pack-walk-loop-holds t) (pack-walk-sub-quick-pack-head t) (pack-walk-part-quick-pack-head-start t) (pack-walk-part-quick-pack-head-end t)
-    (pack-walk-quick-pack-head-requires t) (pack-walk-enum-known-h t) (pack-walk-enum-told t) (pack-walk-piece-fault-requires t)
-    (pack-walk-stop-requires t) (pack-walk-returns t) (pack-walk-is-seen-requires t) (pack-walk-returns-2 t)
-    (pack-walk-add-from t) (pack-walk-add-from-2 t) (pack-walk-add-next t) (pack-walk-add-next-2 t)
-    (pack-walk-sub-items t) (pack-walk-part-items-start t) (pack-walk-part-items-end t) (pack-walk-run-requires t) (pack-walk-item-walk-requires t)
-    (pack-walk-enum-known-w t) (pack-walk-enum-told-2 t) (pack-walk-later-requires t) (pack-walk-returns-3 t)
-    (pack-walk-either-requires t) (pack-walk-pack-sizes-requires t) (pack-walk-plus-requires t)
+    (pack-walk-packs-requires t) (pack-walk-loop-holds t) (pack-walk-sub-quick-pack-head t) (pack-walk-part-quick-pack-head-start t)
+    (pack-walk-part-quick-pack-head-end t) (pack-walk-quick-pack-head-requires t) (pack-walk-enum-known-h t) (pack-walk-enum-told t)
+    (pack-walk-piece-fault-requires t) (pack-walk-stop-requires t) (pack-walk-returns t) (pack-walk-is-seen-requires t)
+    (pack-walk-returns-2 t) (pack-walk-add-from t) (pack-walk-add-from-2 t) (pack-walk-add-next t)
+    (pack-walk-add-next-2 t) (pack-walk-sub-item-walk t) (pack-walk-part-item-walk-start t) (pack-walk-part-item-walk-end t)
+    (pack-walk-item-walk-requires t) (pack-walk-enum-known-w t) (pack-walk-enum-told-2 t) (pack-walk-later-requires t)
+    (pack-walk-returns-3 t) (pack-walk-either-requires t) (pack-walk-pack-sizes-requires t) (pack-walk-plus-requires t)
     (pack-walk-larger-requires t) (pack-walk-smaller-requires t) (pack-walk-loop-less t) (pack-walk-loop-again t)
     (pack-walk-returns-4 t) (pack-walk-returns-5 t))

@@ -1,22 +1,23 @@
 -- What the table's bits say is what its rules say, by one computed test for each level.
 use mathlib.Core.Path.{_≡_, refl, sym, ap, _∙_}
-use Prim.Native.Nat.{ℕ, zero, suc, _+_, _/_, _%_, _^_, _≤_, _<_}
+use Prim.Native.Nat.{ℕ, zero, suc, _+_, _-_, _/_, _%_, _^_, _≤_, _<_}
 use native.Mathlib.Omega.{arith}
-use native.Mathlib.Nat.{mod-lt}
+use native.Mathlib.Nat.{mod-lt, mod-one}
 use mathlib.Core.Bool.{Bool, true, false, not, _&&_, _||_}
 use mathlib.Core.List.{List, [], _∷_}
 use mathlib.Core.Logic.{_⊎_, inl, inr}
 use lib.ListN.{length, getD}
 use lib.Dec.{ltb, leb, eqb, lit<}
-use borrow.Author.Tests.{ltb-true, lt-ltb, le-ltb, le-leb, eqb-true, eqb-false, ne-eqb}
+use borrow.Author.Tests.{ltb-true, lt-ltb, le-ltb, le-leb, eqb-true, eqb-false, ne-eqb, eq-eqb}
 use Rattle.format.specs.Answer.{Ans, ok, need}
 use Rattle.format.specs.Coding.{bytesNumber}
 use Rattle.format.specs.Lists.{has}
-use Rattle.format.specs.Table.{Form, embedded, standalone, isAlone, Level, set, pack, isSet, Kind, bytes, num, pixel, Rule, rules, find, ruleOf, mayStand, sized, notPixel, isNumber, valued, strip, short}
+use Rattle.format.specs.Table.{Form, embedded, standalone, isAlone, Level, set, pack, isSet, Kind, bytes, num, pixel, Rule, unlisted, rules, find, ruleOf, mayStand, sized, notPixel, isNumber, valued, strip, short}
 use Rattle.format.proofs.words.Answers.{no-bool, and-both}
 use Rattle.items.specs.Meet.{levelOf, formOf, itemTable, offsets, zeros}
-use Rattle.items.specs.Quick.{bit, quickTags, rowsFrom, glanced, Quick}
-use Rattle.items.proofs.Tests.{need-so, zeros-some}
+use Rattle.items.specs.Quick.{bit, quickTags, rowsFrom, glanced, beyond, Quick}
+use Rattle.items.proofs.Rows.{set-over, pack-over}
+use Rattle.items.proofs.Tests.{need-so, zeros-some, offset-over}
 
 -- ---- for each number below k
 
@@ -172,9 +173,7 @@ module _ (l : Level) (tag n first : ℕ) (small : tag < most l) (g : glanced (ro
 
   pub glanced-quick : (f : Form) → mayStand l f tag false ≡ true → Quick l f tag n first
   glanced-quick f h = record {
-    small = omega (arith, small, most-few l);
     some = glanced-some;
-    few = glanced-few;
     no-series = rw (ne-eqb tag 101 λ e. omega (arith, small, most-few l)) (and-false (isSet l));
     no-seal = glanced-no-seal;
     stands = λ last. may-stand l f tag last h;
@@ -209,13 +208,15 @@ module _ (b a : Bool) (tag : ℕ) (few : tag < 24) {x : ℕ} (ex : x ≡ quickTa
       go true h = omega arith
       go false h = omega arith
 
-  pub quick-from : (table : List ℕ) → table ≡ itemTable → (n first : ℕ) {r : Bool} → r ≡ glanced (getD table (y + tag) 0) n first → r ≡ true → Quick (levelOf b) (formOf a) tag n first
-  quick-from table et n first eg r =
-      glanced-quick (levelOf b) tag n first tag-small (ap (λ z. glanced z n first) (row-is b ∙ sym (rw (et, ey))) ∙ sym eg ∙ r) (formOf a) (tag-right .1)
+  pub quick-from : (table : List ℕ) → table ≡ itemTable → (n first : ℕ) {r : Bool} → r ≡ glanced (getD table (y + tag) 0) n first → r ≡ true → (tag < 24) × (n < 32) × Quick (levelOf b) (formOf a) tag n first
+  quick-from table et n first eg r = (few, glanced-few (levelOf b) tag n first tag-small it, glanced-quick (levelOf b) tag n first tag-small it (formOf a) (tag-right .1))
     where
       row-is : (b : Bool) → rowAt (levelOf b) tag ≡ getD itemTable (rowsFrom b + tag) 0
       row-is true = ap (λ i. getD itemTable i 0) (omega arith)
       row-is false = refl
+
+      it : glanced (rowAt (levelOf b) tag) n first ≡ true
+      it = ap (λ z. glanced z n first) (row-is b ∙ sym (rw (et, ey))) ∙ sym eg ∙ r
 
 -- ---- the code's tests, one after the other
 
@@ -240,3 +241,36 @@ module _ (row n first : ℕ) where
       pub fits-so : leb (row / 2 ^ 17 % 2) first ≡ glanced row n first
       unfolding glanced
       fits-so = rw (lt-ltb n 32 few, ne-eqb (row / 2 ^ (32 + n) % 2) 0 have) (bit-leb (row / 2 ^ 17 % 2) first (mod-lt (row / 2 ^ 17) (lit< tt)))
+
+-- ---- a tag that is not listed
+
+offset-beyond : (f : Form) (tag : ℕ) → 16 < tag → (not (isAlone f) || not (has tag offsets)) ≡ true
+offset-beyond f tag h = rw (sym (offset-over tag h)) (or-true (not (isAlone f)))
+
+beyond-quick : (l : Level) (f : Form) (tag n first : ℕ) → unlisted ≡ ruleOf l tag → 0 < n → isSet l && eqb tag 101 ≡ false → isSet l && eqb tag 1 ≡ false → ((last : Bool) → mayStand l f tag last ≡ true)
+    → Quick l f tag n first
+unfolding sized
+beyond-quick l f tag n first er some no-series no-seal stands = record {
+  some = some;
+  no-series = no-series;
+  no-seal = no-seal;
+  stands = stands;
+  allowed = λ v e b. value v e .0;
+  shortest = λ v e b. value v e .1;
+}
+  where
+    value : (v : List ℕ) → length v ≡ n → (valued (ruleOf l tag) v ≡ ok tt) × (short (ruleOf l tag) v ≡ v)
+    value v e =
+        let fits : sized unlisted (length v) ≡ true = rw (e, le-leb 1 n some, eq-eqb ((n - 1) % 1) 0 (mod-one (n - 1))) in
+        rw (← er) (plainly unlisted v (omega (arith, e, some)) fits refl)
+
+pub quick-beyond : (b : Bool) (f : Form) (tag n first : ℕ) → beyond b tag ≡ true → 0 < n → Quick (levelOf b) f tag n first
+unfolding mayStand
+quick-beyond true f tag n first h some =
+    let (a, c) = and-both (ltb 12 tag) (not (eqb tag 101)) h in
+    let l = ltb-true 12 tag a in
+    let one : eqb tag 1 ≡ false = ne-eqb tag 1 λ e. omega (arith, l, e) in
+    beyond-quick set f tag n first (set-over tag (omega (arith, l))) some (not-true _ c) one λ last. rw one
+quick-beyond false f tag n first h some =
+    let l = ltb-true 23 tag h in
+    beyond-quick pack f tag n first (pack-over tag (omega (arith, l))) some refl refl λ last. offset-beyond f tag (omega (arith, l))

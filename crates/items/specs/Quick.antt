@@ -1,4 +1,4 @@
--- An item that is told at a glance: by its tag, its length and its first byte.
+-- An item that is told at a glance: by its tag, its length and its first byte, or by its tag alone.
 use mathlib.Core.Path.{_≡_}
 use Prim.Native.Nat.{ℕ, _+_, _/_, _%_, _^_, _<_}
 use mathlib.Core.Bool.{Bool, true, false, not, _&&_, _||_}
@@ -25,10 +25,13 @@ rowsFrom false = 13
 unfoldable pub glanced : ℕ → ℕ → ℕ → Bool
 glanced row n first = ltb n 32 && (bit row (32 + n) && (not (bit row 17) || not (eqb first 0)))
 
+-- a tag that the table does not list, and that is not the set's series
+abbrev pub beyond : Bool → ℕ → Bool
+beyond true tag = ltb 12 tag && not (eqb tag 101)
+beyond false tag = ltb 23 tag
+
 pub record Quick (l : Level) (f : Form) (tag n first : ℕ) : Type 0 where
-  pub small : tag < 24
   pub some : 0 < n
-  pub few : n < 32
   pub no-series : isSet l && eqb tag 101 ≡ false
   pub no-seal : isSet l && eqb tag 1 ≡ false
   pub stands : (last : Bool) → mayStand l f tag last ≡ true

@@ -4,7 +4,7 @@ ghost use Prim.Native.Nat.{_+_, _/_, _%_, _^_, _<_};
 ghost use mathlib.Core.Bool.{true};
 ghost use lib.Dec.{eqb};
 ghost use Rattle.items.specs.Meet.{formOf, levelOf, itemTable};
-ghost use Rattle.items.specs.Quick.{Quick, glanced, quickTags, rowsFrom};
+ghost use Rattle.items.specs.Quick.{Quick, glanced, quickTags, rowsFrom, beyond};
 
 // Whether a row's bits have this length; bit 17 is set in the kinds of a number, whose first byte may not be 0.
 fn fits(row: u64, n: u64, first: u8) -> bool
@@ -43,7 +43,7 @@ fn rows_from(set: bool) -> usize
 // and is shortest as it stands. Where it says no, nothing is known.
 pub fn is_quick(table: &[u64], set: bool, alone: bool, tag: u64, n: u64, first: u8) -> bool
     requires { ⌜ now table ≡ itemTable ⌝ }
-    ensures { λ r. ⌜ (r ≡ true → Quick (levelOf set) (formOf alone) tag n first) ⌝ }
+    ensures { λ r. ⌜ (r ≡ true → (tag < 24) × (n < 32) × Quick (levelOf set) (formOf alone) tag n first) ⌝ }
 {
     if 23 < tag {
         return false;
@@ -53,4 +53,17 @@ pub fn is_quick(table: &[u64], set: bool, alone: bool, tag: u64, n: u64, first: 
     }
     let at = rows_from(set) + (tag as usize);
     fits(table[at], n, first)
+}
+
+// Whether no table lists a tag: then any value of a byte or more will do, wherever it may begin. The set's series is not one of these.
+pub fn is_beyond(set: bool, tag: u64) -> bool
+    ensures { λ r. ⌜ r ≡ beyond set tag ⌝ }
+{
+    if set {
+        if 12 < tag {
+            return tag != 101;
+        }
+        return false;
+    }
+    23 < tag
 }

@@ -14,16 +14,18 @@ use Rattle.coding.proofs.Counts.{len-one, count-start, count-done}
 use Rattle.items.specs.Meet.{levelOf}
 use Rattle.items.specs.Quick as items
 use Rattle.items.proofs.Tests.{standing-0}
-use Rattle.heads.specs.Meet.{peek, Past}
+use Rattle.format.specs.Lists.{has}
+use Rattle.heads.specs.declared.Head.{Head}
+use Rattle.heads.specs.Meet.{itemHeadOf, peek, Past}
 use Rattle.heads.specs.declared.Head.the-variants as heads
 use Rattle.heads.proofs.Heads.{mid-part, item-head-short}
 use Rattle.walks.specs.declared.Piece.the-variants as piece
 use Rattle.walks.specs.declared.Sizes.{Sizes}
 use Rattle.walks.specs.Meet.{pieceOf, sizes, itemSizes, plusSizes, markTag}
 use Rattle.walks.specs.Going.{LevelGoing, Begun, Glance, Glanced}
-use Rattle.format.specs.Read.{item}
+use Rattle.format.specs.Read.{headOf, item}
 use Rattle.walks.proofs.Walks.{same-sizes}
-use Rattle.walks.proofs.Pieces.{piece-whole}
+use Rattle.walks.proofs.Pieces.{piece-within, piece-whole}
 use Rattle.walks.proofs.ItemTurns.{ItemAt, level-is, item-told, entry-more}
 
 -- the sizes of so many such items in p bytes
@@ -40,7 +42,7 @@ quick-plus l tag n count p z th nh =
     rw e (same-sizes (omega arith) refl (omega (arith, u, w)) refl)
 
 -- what may begin a level, and whatever comes later
-begun-at : (b : Bool) (f : Form) (s : List ℕ) → Begun b f s 0 → (p : ℕ) → Begun b f s p
+begun-at : (b : Bool) (f : Form) (s : List ℕ) → Begun b f 0 (getD s 0 0) → (p : ℕ) → Begun b f p (getD s p 0)
 begun-at b f s h zero = h
 begun-at b f s h (suc p) = rw (ne-eqb (suc p) 0 (λ e. omega arith)) (any-of (not (isSet (levelOf b))) (not (isAlone f)) (eqb (getD s (suc p) 0) 2))
   where
@@ -50,17 +52,19 @@ begun-at b f s h (suc p) = rw (ne-eqb (suc p) 0 (λ e. omega arith)) (any-of (no
     any-of false false z = refl
 
 -- x is what the code says of what begins the level
-pub begun-start : (b : Bool) (f : Form) (s : List ℕ) {tag : ℕ} → tag ≡ getD s 0 0 → {x : Bool} → x ≡ (not (isSet (levelOf b)) || not (isAlone f) || not true || eqb tag 2) → x ≡ true → Begun b f s 0
+pub begun-start : (b : Bool) (f : Form) (s : List ℕ) {tag : ℕ} → tag ≡ getD s 0 0 → {x : Bool} → x ≡ (not (isSet (levelOf b)) || not (isAlone f) || not true || eqb tag 2) → x ≡ true → Begun b f 0 (getD s 0 0)
 begun-start b f s et ex tx = rw et at (sym ex ∙ tx)
 
 -- as the code finds it
-pub glance-from : (b : Bool) (f : Form) (s : List ℕ) (p top : ℕ) {tag n : ℕ} → tag ≡ getD s p 0 → n ≡ getD s (p + 1) 0 → (tag ≤ top → ⊥) → p + 2 + n ≤ length s → Begun b f s 0
-    → items.Quick (levelOf b) f tag n (getD s (p + 2) 0) → Glanced b f s p top (p + 2 + n)
+pub glance-from : (b : Bool) (f : Form) (s : List ℕ) (p top : ℕ) {tag n : ℕ} → tag ≡ getD s p 0 → n ≡ getD s (p + 1) 0 → (tag ≤ top → ⊥) → p + 2 + n ≤ length s → Begun b f 0 (getD s 0 0)
+    → (tag < 24) × (n < 32) × items.Quick (levelOf b) f tag n (getD s (p + 2) 0) → Glanced b f s p top (p + 2 + n)
 glance-from b f s p top {tag = tag} {n = n} et en above room h q = (
   n,
   refl,
   record {
-    quick = rw et at q;
+    quick = rw et at (q .2);
+    small = omega (arith, et, q .0);
+    few = omega (arith, q .1);
     above = omega arith;
     size-is = en;
     room = room;
@@ -68,41 +72,58 @@ glance-from b f s p top {tag = tag} {n = n} et en above room h q = (
   },
 )
 
+-- an item that meets its rules by its head and its first byte, under any head
+pub record Meets (b : Bool) (f : Form) (s : List ℕ) (p tag u w n : ℕ) : Type 0 where
+  pub it : Head
+  pub told : itemHeadOf it ≡ headOf (levelOf b) (drop p s)
+  pub is : it ≡ heads.Whole tag u w n
+  pub quick : items.Quick (levelOf b) f tag n (getD s (p + (u + w)) 0)
+  pub begins : Begun b f p tag
+
+module _ {b : Bool} {f : Form} {s : List ℕ} {p tag u w n : ℕ} (i : Meets b f s p tag u w n) where
+  abbrev value : List ℕ
+  value = take (u + w + n - (u + w)) (drop (u + w) (drop p s))
+
+  value-is : value ≡ take n (drop (u + w) (drop p s))
+  value-is = mid-part (u + w) n (drop p s)
+
+  value-size : length value ≡ n
+  value-size = ap length value-is ∙ length-take-le n (drop (u + w) (drop p s)) (rw length-drop (omega (arith, piece-within (drop p s) (levelOf b) (i .told) (i .is))))
+
+  value-head : getD value 0 0 ≡ getD s (p + (u + w)) 0
+  value-head =
+      ap (λ v. getD v 0 0) value-is
+      ∙ getD-take n _ 0 0 (i .quick .some)
+      ∙ getD-drop (u + w) (drop p s) 0 0
+      ∙ getD-drop p s (u + w + 0) 0
+      ∙ ap (λ i. getD s i 0) (omega arith)
+
+  pub quick-piece : {top low : ℕ} → ((seen : List ℕ) → Past (peek false false b) s p top low seen → false ≡ has tag seen)
+      → (seen : List ℕ) → Past (peek false false b) s p top low seen → piece.Whole tag (u + w) n n ≡ pieceOf (levelOf b) (item (levelOf b) f seen (drop p s))
+  quick-piece new seen past =
+      let q = i .quick in
+      piece-whole (drop p s) (levelOf b) (i .told) (i .is) f seen
+      (λ e. omega (arith, q .some))
+      {j = 0} (standing-0 (levelOf b) f seen tag _ (new seen past) (sym (q .stands _)) (eqb p 0) (sym (past .first)) (sym (i .begins)))
+      refl refl
+      {m = 0} (sym (q .allowed value value-size value-head)) refl
+      (sym (ap length (q .shortest value value-size value-head) ∙ value-size))
+
 module _ {b : Bool} {f : Form} {s : List ℕ} {p top n : ℕ} (g : Glance b f s p top n) where
   abbrev tag : ℕ
   tag = getD s p 0
 
-  abbrev value : List ℕ
-  value = take (1 + 1 + n - (1 + 1)) (drop (1 + 1) (drop p s))
-
   glance-small : (0 < tag) × (tag < 128) × (n < 128)
-  glance-small = (omega (arith, g .above), omega (arith, g .quick .small), omega (arith, g .quick .few))
-
-  value-is : value ≡ take n (drop (1 + 1) (drop p s))
-  value-is = mid-part (1 + 1) n (drop p s)
-
-  value-size : length value ≡ n
-  value-size = ap length value-is ∙ length-take-le n (drop (1 + 1) (drop p s)) (rw (length-drop, length-drop) (omega (arith, g .room)))
-
-  value-head : getD value 0 0 ≡ getD s (p + 2) 0
-  value-head =
-      ap (λ v. getD v 0 0) value-is
-      ∙ getD-take n _ 0 0 (g .quick .some)
-      ∙ getD-drop (1 + 1) (drop p s) 0 0
-      ∙ getD-drop p s 2 0
+  glance-small = (omega (arith, g .above), g .small, g .few)
 
   glance-piece : {low : ℕ} (seen : List ℕ) → Past (peek false false b) s p top low seen → piece.Whole tag 2 n n ≡ pieceOf (levelOf b) (item (levelOf b) f seen (drop p s))
-  glance-piece seen q =
+  glance-piece =
       let (z, th, nh) = glance-small in
       let et : tag ≡ getD (drop p s) 0 0 = sym (getD-drop p s 0 0 ∙ ap (λ i. getD s i 0) (omega arith)) in
       let en : n ≡ getD (drop 1 (drop p s)) 0 0 = g .size-is ∙ sym (getD-drop 1 (drop p s) 0 0 ∙ getD-drop p s 1 0) in
       let room : 1 + 1 + n ≤ length (drop p s) = rw length-drop (omega (arith, g .room)) in
-      piece-whole (drop p s) (levelOf b) {h = heads.Whole tag 1 1 n} (item-head-short (levelOf b) (drop p s) tag n et en z th nh room (g .quick .no-seal)) refl f seen
-      (λ e. omega (arith, g .quick .some))
-      {j = 0} (standing-0 (levelOf b) f seen tag _ (sym (q .under tag (g .above))) (sym (g .quick .stands _)) (eqb p 0) (sym (q .first)) (sym (g .begins)))
-      refl refl
-      {m = 0} (sym (g .quick .allowed value value-size value-head)) refl
-      (sym (ap length (g .quick .shortest value value-size value-head) ∙ value-size))
+      let i : Meets b f s p tag 1 1 n = record { it = heads.Whole tag 1 1 n; told = item-head-short (levelOf b) (drop p s) tag n et en z th nh room (g .quick .no-seal); is = refl; quick = g .quick; begins = g .begins } in
+      quick-piece i λ seen q. sym (q .under tag (g .above))
 
   -- x is the tag as the code read it
   glance-more : {count : ℕ} {mark : Bool} {low : ℕ} → LevelGoing b f s p (quickSizes count p) mark top low → Bytes s → length s ≤ 8192
@@ -128,7 +149,7 @@ module _ {b : Bool} {f : Form} {s : List ℕ} {p top next : ℕ} (g : Glanced b 
   glanced-next = (omega (arith, g .1, g .2 .quick .some), omega (arith, g .1, g .2 .room))
 
   pub glanced-low : {low : ℕ} → (p < length s → top < getD s p 0 → getD s p 0 < 128 → low ≤ getD s p 0) → {x : ℕ} → x ≡ getD s p 0 → low ≤ x
-  glanced-low h ex = omega (arith, ex, h (omega (arith, glanced-next)) (g .2 .above) (omega (arith, g .2 .quick .small)))
+  glanced-low h ex = omega (arith, ex, h (omega (arith, glanced-next)) (g .2 .above) (g .2 .small))
 
   pub glanced-more : {count : ℕ} {mark : Bool} {low : ℕ} → LevelGoing b f s p (quickSizes count p) mark top low → Bytes s → length s ≤ 8192
       → {x : ℕ} → x ≡ getD s p 0 → {y mark′ : Bool} → y ≡ eqb x (markTag (levelOf b)) → mark′ ≡ (mark || y) → low ≤ x

@@ -6,6 +6,7 @@ pub mod Series
 pub mod Turns
 pub mod ItemTurns
 pub mod Glances
+pub mod Beyond
 pub mod PackTurns
 pub mod Totals
 pub mod Inners

@@ -5,7 +5,6 @@ use native.Mathlib.Omega.{arith}
 use native.Mathlib.Nat.{add-zero, add-assoc}
 use mathlib.Core.Bool.{Bool, true, false, not, _||_}
 use mathlib.Core.List.{List, [], _∷_}
-use mathlib.Core.Logic.{_⊎_, inl, inr}
 use lib.ListN.{length, take, drop, length-drop}
 use lib.Seq.{drop-drop, length-take-le, take-nil}
 use Rattle.format.specs.Coding.{Bytes}
@@ -19,11 +18,10 @@ use Rattle.coding.proofs.Counts.{len-most}
 use Rattle.items.specs.Meet.{formOf}
 use Rattle.heads.specs.declared.Head.{Head}
 use Rattle.heads.specs.declared.Head.the-variants as heads
-use Rattle.heads.specs.Meet.{packHeadOf, peek, Heads, Past}
+use Rattle.heads.specs.Meet.{packHeadOf, peek, Past}
 use Rattle.heads.proofs.Before.{pack-peek}
 use Rattle.walks.specs.declared.Piece.{Piece}
 use Rattle.walks.specs.declared.Sizes.{Sizes}
-use Rattle.walks.specs.declared.quick.Quick.{Quick}
 use Rattle.walks.specs.declared.Walked.{Walked}
 use Rattle.walks.specs.declared.Walked.the-variants.{Good, Bad}
 use Rattle.walks.specs.Meet.{pieceFault, noSizes, packSizes, plusSizes, total, weightOfItem, weightOfPack, levelWalk, seriesWalk, stopAt, laterBy, Few, Small, Within}
@@ -42,26 +40,10 @@ pub series-start : (f : Form) (s : List ℕ) → SeriesGoing f s 0 noSizes 0 184
 unfolding seriesWalk
 series-start f s = going-start _ _ _ _ _ _ _ s refl
 
--- r is what the quick way over packs answers
-pub stands-so : (f : Form) {s : List ℕ} {p : ℕ} {sum : Sizes} {top low : ℕ} → SeriesGoing f s p sum top low → (r : Quick) → (r .at ≡ p) × (r .sizes ≡ sum) × (r .top ≡ top) × (r .low ≡ low)
-    → SeriesGoing f s (r .at) (r .sizes) (r .top) (r .low)
-stands-so f g r (ep, es, et, el) = rw (ep, es, et, el) g
-
 -- `either(!alone, mark)`, of the form
 pub either-is : (alone m : Bool) {v : Bool} → v ≡ (not alone || m) → v ≡ (not (isAlone (formOf alone)) || m)
 either-is true m e = e
 either-is false m e = e
-
--- an id that is told to be new without a look back
-pub new-id : (s : List ℕ) (p top low k : ℕ) → (p ≡ 0) ⊎ (top < k) ⊎ (k < low) → (seen : List ℕ) → Past (peek false true false) s p top low seen → false ≡ has k seen
-unfolding has
-new-id s p top low k (inl e) seen q = sym (q .same k ∙ none (q .keys) (q .heads))
-  where
-    none : (ks : List ℕ) → Heads (peek false true false) s p ks → has k ks ≡ false
-    none [] h = refl
-    none (x ∷ ks) (u, _, z, l, _) = absurd (omega (arith, e, z, l))
-new-id s p top low k (inr (inl h)) seen q = sym (q .under k h)
-new-id s p top low k (inr (inr h)) seen q = sym (q .over k h)
 
 module _ (f : Form) {s : List ℕ} {p : ℕ} {sum : Sizes} {top low : ℕ} (g : SeriesGoing f s p sum top low) (h : p < length s) where
   pub head-fault : (a : Head) → packHeadOf a ≡ packHead (take (length s - p) (drop p s)) → {n : ℕ} {d : Piece} {r : Walked} → a ≡ heads.Fault n → d ≡ pieceFault a → r ≡ stopAt p d

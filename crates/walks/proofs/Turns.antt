@@ -1,19 +1,21 @@
 -- A turn of a walk's loop, as the code makes it: a fault ends it, a thing that was read moves on by its bytes.
-use mathlib.Core.Path.{_≡_, sym, _∙_, subst}
+use mathlib.Core.Path.{_≡_, refl, sym, _∙_, subst}
 use Prim.Native.Nat.{ℕ, _+_, _≤_, _<_}
 use native.Mathlib.Omega.{arith}
 use mathlib.Core.Bool.{Bool, true, false, _||_}
-use mathlib.Core.List.{List, _∷_}
+use mathlib.Core.List.{List, [], _∷_}
+use mathlib.Core.Logic.{inl, inr}
 use lib.ListN.{length, drop}
 use Rattle.format.specs.Answer.{Ans, ok, refused, Got, got}
 use Rattle.format.specs.Run.{Step}
-use Rattle.heads.specs.Meet.{Past}
+use Rattle.format.specs.Lists.{has}
+use Rattle.heads.specs.Meet.{Heads, Past}
 use Rattle.heads.proofs.Before.{past-more}
 use Rattle.walks.specs.declared.Sizes.{Sizes}
 use Rattle.walks.specs.declared.Walked.{Walked}
 use Rattle.walks.specs.declared.Walked.the-variants.{Good, Bad}
 use Rattle.walks.specs.Meet.{plusSizes, Few, Within}
-use Rattle.walks.specs.Going.{Going}
+use Rattle.walks.specs.Going.{Going, New}
 use Rattle.walks.proofs.Walks.{few-more, going-bad, going-done, going-over, going-more}
 
 -- what was read in n bytes, and what it adds
@@ -61,3 +63,14 @@ module _ {X : Type 0} {look : List ℕ → Got ℕ} {more : List ℕ → Bool} {
           let past : Past look s (p + n) top′ low′ (key (r .it) ∷ g .seen) = rw (r .key-is) (past-more look s p top low (g .seen) (g .past) k n top′ low′ v z (t .0) (t .1) (w .0) (w .1)) in
           let goes = going-more weight mark key step look more whole s p a m top low g h o (got (r .it) n) top′ low′ (r .reads) z (omega arith) past (rw (r .weighs) (r .few)) in
           rw (en, ea, em) (rw (r .weighs, r .marks) at goes)
+
+-- a key that is told to be new stood nowhere before
+pub new-key : {look : List ℕ → Got ℕ} {s : List ℕ} {p top low k : ℕ} → New p top low k → (seen : List ℕ) → Past look s p top low seen → false ≡ has k seen
+unfolding has
+new-key {look = look} {s = s} {p = p} {k = k} (inl e) seen q = sym (q .same k ∙ none (q .keys) (q .heads))
+  where
+    none : (ks : List ℕ) → Heads look s p ks → has k ks ≡ false
+    none [] h = refl
+    none (x ∷ ks) (u, _, z, l, _) = absurd (omega (arith, e, z, l))
+new-key {k = k} (inr (inl h)) seen q = sym (q .under k h)
+new-key {k = k} (inr (inr h)) seen q = sym (q .over k h)

@@ -4,6 +4,7 @@ use mathlib.Core.Path.{_≡_}
 use Prim.Native.Nat.{ℕ, _+_, _≤_, _<_}
 use mathlib.Core.Bool.{Bool, true, false, not, _||_}
 use mathlib.Core.List.{List}
+use mathlib.Core.Logic.{_⊎_}
 use lib.ListN.{length, drop, getD}
 use lib.Dec.{eqb}
 use Rattle.format.specs.Answer.{Ans, ok, refused, Got}
@@ -16,6 +17,7 @@ use Rattle.items.specs.Quick as items
 use Rattle.heads.specs.Meet.{peek, Past}
 use Rattle.walks.specs.declared.Sizes.{Sizes}
 use Rattle.walks.specs.declared.Walked.{Walked}
+use Rattle.walks.specs.declared.quick.Quick.{Quick}
 use Rattle.walks.specs.declared.Walked.the-variants.{Good, Bad}
 use Rattle.walks.specs.Meet.{plusSizes, total, any, weightOfEntry, weightOfPack, markTag, stepAt, levelWalk, seriesWalk, Few}
 
@@ -41,18 +43,35 @@ LevelGoing b f s p a m top low =
 abbrev pub SeriesGoing : Form → List ℕ → ℕ → Sizes → ℕ → ℕ → Type 0
 SeriesGoing f s p a top low = Going (peek false true false) always weightOfPack (λ p. false) idOfPack (onePack f) (seriesWalk f s) s p a false top low
 
--- what stands at p may stand there, if that is where the level begins
-abbrev pub Begun : Bool → Form → List ℕ → ℕ → Type 0
-Begun b f s p = not (isSet (levelOf b)) || not (isAlone f) || not (eqb p 0) || eqb (getD s p 0) 2 ≡ true
+-- where a walk goes on, and what was walked till there
+abbrev pub quickAt : ℕ → Sizes → Bool → ℕ → ℕ → Quick
+quickAt p a m top low = record { at = p; sizes = a; mark = m; top = top; low = low }
+
+-- a tag may stand at p, if that is where the level begins
+abbrev pub Begun : Bool → Form → ℕ → ℕ → Type 0
+Begun b f p tag = not (isSet (levelOf b)) || not (isAlone f) || not (eqb p 0) || eqb tag 2 ≡ true
 
 -- an item at p that is told at a glance, with a byte each for its tag and its length, and whose tag is above top
 pub record Glance (b : Bool) (f : Form) (s : List ℕ) (p top n : ℕ) : Type 0 where
   pub quick : items.Quick (levelOf b) f (getD s p 0) n (getD s (p + 2) 0)
+  pub small : getD s p 0 < 128
+  pub few : n < 128
   pub above : top < getD s p 0
   pub size-is : n ≡ getD s (p + 1) 0
   pub room : p + 2 + n ≤ length s
-  pub begins : Begun b f s p
+  pub begins : Begun b f p (getD s p 0)
 
 -- there is one, and it ends at next
 abbrev pub Glanced : Bool → Form → List ℕ → ℕ → ℕ → ℕ → Type 0
 Glanced b f s p top next = (n : ℕ) × (next ≡ p + 2 + n) × Glance b f s p top n
+
+-- a key that is told to be new where no key before p is above top or below low
+abbrev pub New : ℕ → ℕ → ℕ → ℕ → Type 0
+New p top low key = (p ≡ 0) ⊎ (top < key) ⊎ (key < low)
+
+-- an item of n bytes at p that may stand there whatever they are
+pub record Plain (b : Bool) (f : Form) (p top low tag n : ℕ) : Type 0 where
+  pub some : 0 < n
+  pub new : New p top low tag
+  pub begins : Begun b f p tag
+  pub beyond : items.beyond b tag ≡ true

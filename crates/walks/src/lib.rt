@@ -205,7 +205,7 @@ pub fn item_walk(table: &[u64], s: &[u8], set: bool, alone: bool) -> Walked
     requires { ⌜ (now table ≡ itemTable) × (length (now s) ≤ 8192) ⌝ }
     ensures { λ r. ⌜ (r ≡ levelWalk (levelOf set) (formOf alone) (now (s .entry))) × Within r (length (now (s .entry))) ⌝ }
 {
-    let q = quick::run(table, s, set, alone);
+    let q = quick::onward(s, set, alone, quick::run(table, s, set, alone));
     let mut p = q.at;
     let mut sum = q.sizes;
     let mut mark = q.mark;

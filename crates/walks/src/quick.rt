@@ -2,17 +2,16 @@
 // left to the item walk.
 ghost use mathlib.Core.Path.{_≡_};
 ghost use mathlib.Core.Bool.{true};
-ghost use mathlib.Core.Logic.{_⊎_};
 ghost use Prim.Native.Nat.{_-_, _≤_, _<_};
 ghost use lib.ListN.{length, getD};
 ghost use Rattle.items.specs.Meet.{formOf, itemTable};
-ghost use Rattle.walks.specs.Going.{LevelGoing, SeriesGoing, Begun, Glanced};
+ghost use Rattle.walks.specs.Going.{LevelGoing, SeriesGoing, quickAt, Begun, Glanced, New, Plain};
 use super::Sizes;
 use heads::Head;
 
 // How far such an item may begin: two bytes and a value have room there, and what begins the level may.
 fn span(s: &[u8], set: bool, alone: bool) -> usize
-    ensures { λ r. ⌜ (r ≤ length (now (s .entry)) - 2) × (0 < r → Begun set (formOf alone) (now (s .entry)) 0) ⌝ }
+    ensures { λ r. ⌜ (r ≤ length (now (s .entry)) - 2) × (0 < r → Begun set (formOf alone) 0 (getD (now (s .entry)) 0 0)) ⌝ }
 {
     if s.len() < 3 {
         return 0;
@@ -26,7 +25,7 @@ fn span(s: &[u8], set: bool, alone: bool) -> usize
 
 // Where such an item at p ends, its tag above top; 0 where it is no such item.
 fn glance(table: &[u64], s: &[u8], p: usize, most: usize, set: bool, alone: bool, top: u64) -> usize
-    requires { ⌜ (now table ≡ itemTable) × (length (now s) ≤ 8192) × (most ≤ length (now s) - 2) × (0 < most → Begun set (formOf alone) (now s) 0) ⌝ }
+    requires { ⌜ (now table ≡ itemTable) × (length (now s) ≤ 8192) × (most ≤ length (now s) - 2) × (0 < most → Begun set (formOf alone) 0 (getD (now s) 0 0)) ⌝ }
     ensures { λ r. ⌜ (0 < r → Glanced set (formOf alone) (now (s .entry)) p top r) ⌝ }
 {
     if most <= p {
@@ -106,20 +105,82 @@ pub fn run(table: &[u64], s: &[u8], set: bool, alone: bool) -> Quick
     }
 }
 
-// ---- packs
+// ---- on from there
 
-// Whether an id is told to be new without a look back: no id before p is above top or below low.
-fn is_new(p: usize, top: u64, low: u64, id: u64) -> bool
-    ensures { λ r. ⌜ (r ≡ true → (p ≡ 0) ⊎ (top < id) ⊎ (id < low)) ⌝ }
+// Where a walk goes on.
+fn stands(at: usize, sizes: Sizes, mark: bool, top: u64, low: u64) -> Quick
+    ensures { λ r. ⌜ r ≡ quickAt at sizes mark top low ⌝ }
 {
-    if top < id {
+    Quick {
+        at,
+        sizes,
+        mark,
+        top,
+        low,
+    }
+}
+
+// Whether a key is told to be new without a look back: no key before p is above top or below low.
+fn is_new(p: usize, top: u64, low: u64, key: u64) -> bool
+    ensures { λ r. ⌜ (r ≡ true → New p top low key) ⌝ }
+{
+    if top < key {
         return true;
     }
-    if id < low {
+    if key < low {
         return true;
     }
     p == 0
 }
+
+// Whether an item with a value of n bytes may stand at p, whatever they are: no table lists its tag, and that is told to be new.
+pub fn is_plain(set: bool, alone: bool, p: usize, top: u64, low: u64, tag: u64, n: usize) -> bool
+    ensures { λ r. ⌜ (r ≡ true → Plain set (formOf alone) p top low tag n) ⌝ }
+{
+    if n == 0 {
+        return false;
+    }
+    if !is_new(p, top, low, tag) {
+        return false;
+    }
+    if !items::begins(set, alone, tag, p == 0) {
+        return false;
+    }
+    items::quick::is_beyond(set, tag)
+}
+
+// The items after those of the quick way that are such, one after another.
+pub fn onward(s: &[u8], set: bool, alone: bool, q: Quick) -> Quick
+    requires { ⌜ (length (now s) ≤ 8192) × LevelGoing set (formOf alone) (now s) (q .at) (q .sizes) (q .mark) (q .top) (q .low) ⌝ }
+    ensures { λ r. ⌜ LevelGoing set (formOf alone) (now (s .entry)) (r .at) (r .sizes) (r .mark) (r .top) (r .low) ⌝ }
+{
+    let mut p = q.at;
+    let mut sum = q.sizes;
+    let mut top = q.top;
+    let mut low = q.low;
+    while p < s.len() {
+        let h = heads::item_head(&s[p..], set);
+        let Head::Whole {
+            key,
+            used,
+            width,
+            size,
+        } = h
+        else {
+            return stands(p, sum, q.mark, top, low);
+        };
+        if !is_plain(set, alone, p, top, low, key, size) {
+            return stands(p, sum, q.mark, top, low);
+        }
+        sum = super::weights::plus(sum, super::weights::plain_sizes(set, key, size));
+        top = super::larger(top, key);
+        low = super::smaller(low, key);
+        p = p + used + width + size;
+    }
+    stands(p, sum, q.mark, top, low)
+}
+
+// ---- packs
 
 // The packs whose ids rise or fall and whose items are all told at a glance, one after another, from a series' start.
 pub fn packs(table: &[u64], s: &[u8], alone: bool) -> Quick
@@ -144,38 +205,25 @@ pub fn packs(table: &[u64], s: &[u8], alone: bool) -> Quick
             size,
         } = h
         else {
-            return stands(p, sum, top, low);
+            return stands(p, sum, false, top, low);
         };
         if !is_new(p, top, low, key) {
-            return stands(p, sum, top, low);
+            return stands(p, sum, false, top, low);
         }
         let from = p + width + used;
         let next = p + width + size;
         let items = &s[from..next];
         let q = run(table, items, false, alone);
         if q.at != items.len() {
-            return stands(p, sum, top, low);
+            return stands(p, sum, false, top, low);
         }
         if !super::either(!alone, q.mark) {
-            return stands(p, sum, top, low);
+            return stands(p, sum, false, top, low);
         }
         sum = super::weights::plus(sum, super::weights::pack_sizes(used, q.sizes));
         top = super::larger(top, key);
         low = super::smaller(low, key);
         p = next;
     }
-    stands(p, sum, top, low)
-}
-
-// Where the pack walk goes on.
-fn stands(p: usize, sum: Sizes, top: u64, low: u64) -> Quick
-    ensures { λ r. ⌜ (r .at ≡ p) × (r .sizes ≡ sum) × (r .top ≡ top) × (r .low ≡ low) ⌝ }
-{
-    Quick {
-        at: p,
-        sizes: sum,
-        mark: false,
-        top,
-        low,
-    }
+    stands(p, sum, false, top, low)
 }

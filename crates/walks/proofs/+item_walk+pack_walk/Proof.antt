@@ -31,6 +31,7 @@ use Rattle.walks.proofs.one_item.Reads as one-item-reads
 use Rattle.walks.proofs.piece_fault.Reads as piece-fault-reads
 use Rattle.walks.proofs.weights.pack_sizes.Reads as pack-sizes-reads
 use Rattle.walks.proofs.weights.plus.Reads as plus-reads
+use Rattle.walks.proofs.quick.onward.Reads as onward-reads
 use Rattle.walks.proofs.quick.packs.Reads as packs-reads
 use Rattle.walks.proofs.quick.run.Reads as run-reads
 use Rattle.walks.proofs.series_of.Reads as series-of-reads
@@ -62,7 +63,7 @@ pack-walk-below t =
 
 -- what is known of the callees, the other walk's at a smaller measure
 abbrev item-claims : ℕ → item-walk-lts.Claims
-item-claims t = (run-reads.Asked, run-reads.Learnt, item-at-reads.Asked, item-at-reads.Learnt, stop-reads.Asked, stop-reads.Learnt, is-series-reads.Asked, is-series-reads.Learnt, pack-walk-below t, pack-walk.Post, series-of-reads.Asked, series-of-reads.Learnt, one-item-reads.Asked, one-item-reads.Learnt, later-reads.Asked, later-reads.Learnt, plus-reads.Asked, plus-reads.Learnt, either-reads.Asked, either-reads.Learnt, larger-reads.Asked, larger-reads.Learnt, smaller-reads.Asked, smaller-reads.Learnt)
+item-claims t = (run-reads.Asked, run-reads.Learnt, onward-reads.Asked, onward-reads.Learnt, item-at-reads.Asked, item-at-reads.Learnt, stop-reads.Asked, stop-reads.Learnt, is-series-reads.Asked, is-series-reads.Learnt, pack-walk-below t, pack-walk.Post, series-of-reads.Asked, series-of-reads.Learnt, one-item-reads.Asked, one-item-reads.Learnt, later-reads.Asked, later-reads.Learnt, plus-reads.Asked, plus-reads.Learnt, either-reads.Asked, either-reads.Learnt, larger-reads.Asked, larger-reads.Learnt, smaller-reads.Asked, smaller-reads.Learnt)
 
 abbrev pack-claims : ℕ → pack-walk-lts.Claims
 pack-claims t = (packs-reads.Asked, packs-reads.Learnt, quick-pack-head-reads.Asked, quick-pack-head-reads.Learnt, piece-fault-reads.Asked, piece-fault-reads.Learnt, stop-reads.Asked, stop-reads.Learnt, is-seen-reads.Asked, is-seen-reads.Learnt, item-walk-below t, item-walk.Post, later-reads.Asked, later-reads.Learnt, either-reads.Asked, either-reads.Learnt, pack-sizes-reads.Asked, pack-sizes-reads.Learnt, plus-reads.Asked, plus-reads.Learnt, larger-reads.Asked, larger-reads.Learnt, smaller-reads.Asked, smaller-reads.Learnt)
@@ -77,20 +78,20 @@ item-walk-μ-loop table s set alone p₀ sum₀ mark₀ top₀ low₀ p sum mark
 
 -- an item, where it was read
 item-here : (t : ℕ) (a : item-walk-lts.After-a (item-claims t) (item-walk-at t) item-walk.Post item-walk-Inv-loop item-walk-μ-loop)
-    → ItemAt (a .before .before .before .before .before .before .before .before .before .args .set) (formOf (a .before .before .before .before .before .before .before .before .before .args .alone)) (a .before .before .before .before .before .before .before .before .before .args .s .now) (a .before .before .before .before .loop .p) (a .before .before .before .before .loop .sum) (a .before .before .before .before .loop .mark) (a .before .before .before .before .loop .top) (a .before .before .before .before .loop .low) (a .a .given .0 .0) (a .a .given .0 .1 .0) (a .a .given .0 .1 .1 .0) (a .a .given .0 .1 .1 .1 .0)
+    → ItemAt (a .before .before .before .before .before .before .before .before .before .before .args .set) (formOf (a .before .before .before .before .before .before .before .before .before .before .args .alone)) (a .before .before .before .before .before .before .before .before .before .before .args .s .now) (a .before .before .before .before .loop .p) (a .before .before .before .before .loop .sum) (a .before .before .before .before .loop .mark) (a .before .before .before .before .loop .top) (a .before .before .before .before .loop .low) (a .a .given .0 .0) (a .a .given .0 .1 .0) (a .a .given .0 .1 .1 .0) (a .a .given .0 .1 .1 .1 .0)
 item-here t a = record {
   going = a .before .before .before .before .loop .inv;
   here = a .before .before .before .loop-test .taken;
   it = a .before .before .item-at .result;
   told = a .before .before .item-at .ensures;
   whole = a .a .given .1;
-  bytes = λ i. a .before .before .before .before .before .before .before .shared-slice-known2 .given i .fits;
-  most = a .before .before .before .before .before .before .before .before .before .pre .1 .1;
+  bytes = λ i. a .before .before .before .before .before .before .before .before .shared-slice-known2 .given i .fits;
+  most = a .before .before .before .before .before .before .before .before .before .before .pre .1 .1;
 }
 
 -- it lies within the bytes lent
 item-room : (t : ℕ) (a : item-walk-lts.After-a (item-claims t) (item-walk-at t) item-walk.Post item-walk-Inv-loop item-walk-μ-loop)
-    → a .before .before .before .before .loop .p + a .a .given .0 .1 .0 + a .a .given .0 .1 .1 .0 ≤ length (a .before .before .before .before .before .before .before .before .before .args .s .now)
+    → a .before .before .before .before .loop .p + a .a .given .0 .1 .0 + a .a .given .0 .1 .1 .0 ≤ length (a .before .before .before .before .before .before .before .before .before .before .args .s .now)
 item-room t a = piece-room (item-here t a)
 
 -- what one entry says, whichever way it was walked
@@ -105,11 +106,14 @@ item-told-at t j =
 item-walk-run-requires : (t : ℕ) → item-walk-lts.Need-run-requires (item-claims t) (item-walk-at t) item-walk.Post item-walk-Inv-loop item-walk-μ-loop
 item-walk-run-requires t c κs = c .before .before .pre .1
 
+item-walk-onward-requires : (t : ℕ) → item-walk-lts.Need-onward-requires (item-claims t) (item-walk-at t) item-walk.Post item-walk-Inv-loop item-walk-μ-loop
+item-walk-onward-requires t c κs = (c .before .before .before .pre .1 .1, c .run .ensures)
+
 item-walk-loop-holds : (t : ℕ) → item-walk-lts.Need-loop-holds (item-claims t) (item-walk-at t) item-walk.Post item-walk-Inv-loop item-walk-μ-loop
-item-walk-loop-holds t c = c .before .run .ensures
+item-walk-loop-holds t c = c .before .onward .ensures
 
 item-walk-item-at-requires : (t : ℕ) → item-walk-lts.Need-item-at-requires (item-claims t) (item-walk-at t) item-walk.Post item-walk-Inv-loop item-walk-μ-loop
-item-walk-item-at-requires t c κs = (c .before .before .before .before .before .before .pre .1 .0, omega (arith, c .loop-test .taken))
+item-walk-item-at-requires t c κs = (c .before .before .before .before .before .before .before .pre .1 .0, omega (arith, c .loop-test .taken))
 
 item-walk-enum-known-a : (t : ℕ) → item-walk-lts.Need-enum-known-a (item-claims t) (item-walk-at t) item-walk.Post item-walk-Inv-loop item-walk-μ-loop
 item-walk-enum-known-a t c = search needs
@@ -124,10 +128,10 @@ item-walk-returns : (t : ℕ) → item-walk-lts.Need-returns (item-claims t) (it
 item-walk-returns t c = item-fault _ _ (c .before .before .before .before .before .loop .inv) (c .before .before .before .before .loop-test .taken) (c .before .before .before .item-at .ensures) (c .before .enum-told .given .1) (c .stop .ensures)
 
 item-walk-add-at : (t : ℕ) → item-walk-lts.Need-add-at (item-claims t) (item-walk-at t) item-walk.Post item-walk-Inv-loop item-walk-μ-loop
-item-walk-add-at t c = omega (arith, item-room t (c .before), c .before .before .before .before .before .before .before .before .before .before .pre .1 .1)
+item-walk-add-at t c = omega (arith, item-room t (c .before), c .before .before .before .before .before .before .before .before .before .before .before .pre .1 .1)
 
 item-walk-add-next : (t : ℕ) → item-walk-lts.Need-add-next (item-claims t) (item-walk-at t) item-walk.Post item-walk-Inv-loop item-walk-μ-loop
-item-walk-add-next t c = omega (arith, item-room t (c .before), c .before .before .before .before .before .before .before .before .before .before .pre .1 .1)
+item-walk-add-next t c = omega (arith, item-room t (c .before), c .before .before .before .before .before .before .before .before .before .before .before .pre .1 .1)
 
 item-walk-is-series-requires : (t : ℕ) → item-walk-lts.Need-is-series-requires (item-claims t) (item-walk-at t) item-walk.Post item-walk-Inv-loop item-walk-μ-loop
 item-walk-is-series-requires t c κs = search needs
@@ -144,8 +148,8 @@ item-walk-part-pack-walk-end t c = omega (arith, item-room t (c .before .before 
 item-walk-pack-walk-requires : (t : ℕ) → item-walk-lts.Need-pack-walk-requires (item-claims t) (item-walk-at t) item-walk.Post item-walk-Inv-loop item-walk-μ-loop
 item-walk-pack-walk-requires t c κs =
     let a = c .before .before .before .before in (
-      omega (arith, series-deep (a .before .before .before .before .before .before .before .before .before .args .set) (a .a .given .0 .0) (c .before .before .is-series .ensures) (c .before .if1 .taken), a .before .before .before .before .before .before .before .before .before .pre .0),
-      (a .before .before .before .before .before .before .before .before .before .pre .1 .0, omega (arith, value-long (item-here t a), item-room t a, a .before .before .before .before .before .before .before .before .before .pre .1 .1)),
+      omega (arith, series-deep (a .before .before .before .before .before .before .before .before .before .before .args .set) (a .a .given .0 .0) (c .before .before .is-series .ensures) (c .before .if1 .taken), a .before .before .before .before .before .before .before .before .before .before .pre .0),
+      (a .before .before .before .before .before .before .before .before .before .before .pre .1 .0, omega (arith, value-long (item-here t a), item-room t a, a .before .before .before .before .before .before .before .before .before .before .pre .1 .1)),
     )
 
 item-walk-series-of-requires : (t : ℕ) → item-walk-lts.Need-series-of-requires (item-claims t) (item-walk-at t) item-walk.Post item-walk-Inv-loop item-walk-μ-loop
@@ -157,7 +161,7 @@ item-walk-one-item-requires : (t : ℕ) → item-walk-lts.Need-one-item-requires
 item-walk-one-item-requires t c κs =
     let a = c .before .before .before in
     let k = piece-stood (item-here t a) in
-    (k .tag-small, omega (arith, k .short-less, item-room t a, a .before .before .before .before .before .before .before .before .before .pre .1 .1))
+    (k .tag-small, omega (arith, k .short-less, item-room t a, a .before .before .before .before .before .before .before .before .before .before .pre .1 .1))
 
 item-walk-enum-known-w : (t : ℕ) → item-walk-lts.Need-enum-known-w (item-claims t) (item-walk-at t) item-walk.Post item-walk-Inv-loop item-walk-μ-loop
 item-walk-enum-known-w t c = search needs
@@ -335,7 +339,7 @@ pub +item-walk+pack-walk-spec : {M : Type 1} → statement M
 +item-walk+pack-walk-spec =
     close μ-item-walk μ-pack-walk
     (λ t. item-walk-lts.spec (item-claims t) (item-walk-at t) item-walk.Post item-walk-Inv-loop item-walk-μ-loop
-    (item-walk-run-requires t) (item-walk-loop-holds t) (item-walk-item-at-requires t) (item-walk-enum-known-a t) (item-walk-enum-told t)
+    (item-walk-run-requires t) (item-walk-onward-requires t) (item-walk-loop-holds t) (item-walk-item-at-requires t) (item-walk-enum-known-a t) (item-walk-enum-told t)
     (item-walk-stop-requires t) (item-walk-returns t) (item-walk-add-at t) (item-walk-add-next t)
     (item-walk-is-series-requires t) (item-walk-sub-pack-walk t) (item-walk-part-pack-walk-start t) (item-walk-part-pack-walk-end t)
     (item-walk-pack-walk-requires t) (item-walk-series-of-requires t) (item-walk-one-item-requires t) (item-walk-enum-known-w t)

@@ -8,8 +8,8 @@ use borrow.Author.Tests.{not-false}
 use Rattle.items.specs.Meet.{formOf}
 use Rattle.walks.specs.Going.{SeriesGoing}
 use Rattle.walks.specs.Meet.{plusSizes}
-use Rattle.walks.proofs.Turns.{turn-done}
-use Rattle.walks.proofs.PackTurns.{PackAt, series-start, stands-so, either-is, head-stood, head-room, new-id, lent-long, items-small, pack-small, pack-more}
+use Rattle.walks.proofs.Turns.{turn-done, new-key}
+use Rattle.walks.proofs.PackTurns.{PackAt, series-start, either-is, head-stood, head-room, lent-long, items-small, pack-small, pack-more}
 use Rattle.walks.proofs.quick.packs.Statement.{statement}
 use Rattle.walks.proofs.quick.packs.Tie as tie
 use Rattle.walks.proofs.quick.packs.Reads as reads
@@ -74,7 +74,7 @@ stands-requires : tie.Need-stands-requires Inv-loop μ-loop
 stands-requires c κs = search needs
 
 returns : tie.Need-returns Inv-loop μ-loop
-returns c = stands-so _ (c .before .before .before .before .before .before .loop .inv) (c .stands .result) (c .stands .ensures)
+returns c = rw (c .stands .ensures) (c .before .before .before .before .before .before .loop .inv)
 
 is-new-requires : tie.Need-is-new-requires Inv-loop μ-loop
 is-new-requires c κs = search needs
@@ -83,7 +83,7 @@ stands-requires-2 : tie.Need-stands-requires-2 Inv-loop μ-loop
 stands-requires-2 c κs = search needs
 
 returns-2 : tie.Need-returns-2 Inv-loop μ-loop
-returns-2 c = stands-so _ (c .before .before .before .before .before .before .before .before .before .loop .inv) (c .stands2 .result) (c .stands2 .ensures)
+returns-2 c = rw (c .stands2 .ensures) (c .before .before .before .before .before .before .before .before .before .loop .inv)
 
 add-from : tie.Need-add-from Inv-loop μ-loop
 add-from c = omega (arith, room (c .before .before .before))
@@ -107,13 +107,13 @@ part-items-end : tie.Need-part-items-end Inv-loop μ-loop
 part-items-end c = omega (arith, room (c .before .before .before))
 
 run-requires : tie.Need-run-requires Inv-loop μ-loop
-run-requires c κs = (c .before .before .before .before .before .before .before .before .before .before .before .before .pre .0, omega (arith, lent-long (here (c .before .before .before .before)) (new-id _ _ _ _ _ (c .before .before .is-new .ensures (not-false _ (c .before .if1 .left)))) refl, room (c .before .before .before .before)))
+run-requires c κs = (c .before .before .before .before .before .before .before .before .before .before .before .before .pre .0, omega (arith, lent-long (here (c .before .before .before .before)) (new-key (c .before .before .is-new .ensures (not-false _ (c .before .if1 .left)))) refl, room (c .before .before .before .before)))
 
 stands-requires-3 : tie.Need-stands-requires-3 Inv-loop μ-loop
 stands-requires-3 c κs = search needs
 
 returns-3 : tie.Need-returns-3 Inv-loop μ-loop
-returns-3 c = stands-so _ (c .before .before .before .before .before .before .before .before .before .before .before .before .before .loop .inv) (c .stands3 .result) (c .stands3 .ensures)
+returns-3 c = rw (c .stands3 .ensures) (c .before .before .before .before .before .before .before .before .before .before .before .before .before .loop .inv)
 
 either-requires : tie.Need-either-requires Inv-loop μ-loop
 either-requires c κs = search needs
@@ -122,13 +122,13 @@ stands-requires-4 : tie.Need-stands-requires-4 Inv-loop μ-loop
 stands-requires-4 c κs = search needs
 
 returns-4 : tie.Need-returns-4 Inv-loop μ-loop
-returns-4 c = stands-so _ (c .before .before .before .before .before .before .before .before .before .before .before .before .before .before .before .loop .inv) (c .stands4 .result) (c .stands4 .ensures)
+returns-4 c = rw (c .stands4 .ensures) (c .before .before .before .before .before .before .before .before .before .before .before .before .before .before .before .loop .inv)
 
 pack-sizes-requires : tie.Need-pack-sizes-requires Inv-loop μ-loop
-pack-sizes-requires c κs = (head-stood (here (c .before .before .before .before .before .before .before .before .before)) .id-few, items-small (here (c .before .before .before .before .before .before .before .before .before)) (new-id _ _ _ _ _ (c .before .before .before .before .before .before .before .is-new .ensures (not-false _ (c .before .before .before .before .before .before .if1 .left)))) refl (turn-done (c .before .before .before .before .run .ensures) (omega (arith, c .before .before .if2 .left))) refl (either-is ((c .before .before .before .before .before .before .before .before .before) .before .before .before .before .before .before .before .before .args .alone) _ (c .before .either .ensures)))
+pack-sizes-requires c κs = (head-stood (here (c .before .before .before .before .before .before .before .before .before)) .id-few, items-small (here (c .before .before .before .before .before .before .before .before .before)) (new-key (c .before .before .before .before .before .before .before .is-new .ensures (not-false _ (c .before .before .before .before .before .before .if1 .left)))) refl (turn-done (c .before .before .before .before .run .ensures) (omega (arith, c .before .before .if2 .left))) refl (either-is ((c .before .before .before .before .before .before .before .before .before) .before .before .before .before .before .before .before .before .args .alone) _ (c .before .either .ensures)))
 
 plus-requires : tie.Need-plus-requires Inv-loop μ-loop
-plus-requires c κs = pack-small (here (c .before .before .before .before .before .before .before .before .before .before)) (new-id _ _ _ _ _ (c .before .before .before .before .before .before .before .before .is-new .ensures (not-false _ (c .before .before .before .before .before .before .before .if1 .left)))) refl (turn-done (c .before .before .before .before .before .run .ensures) (omega (arith, c .before .before .before .if2 .left))) refl (either-is ((c .before .before .before .before .before .before .before .before .before .before) .before .before .before .before .before .before .before .before .args .alone) _ (c .before .before .either .ensures)) (c .pack-sizes .ensures)
+plus-requires c κs = pack-small (here (c .before .before .before .before .before .before .before .before .before .before)) (new-key (c .before .before .before .before .before .before .before .before .is-new .ensures (not-false _ (c .before .before .before .before .before .before .before .if1 .left)))) refl (turn-done (c .before .before .before .before .before .run .ensures) (omega (arith, c .before .before .before .if2 .left))) refl (either-is ((c .before .before .before .before .before .before .before .before .before .before) .before .before .before .before .before .before .before .before .args .alone) _ (c .before .before .either .ensures)) (c .pack-sizes .ensures)
 
 larger-requires : tie.Need-larger-requires Inv-loop μ-loop
 larger-requires c κs = search needs
@@ -140,13 +140,13 @@ loop-less : tie.Need-loop-less Inv-loop μ-loop
 loop-less c = omega (arith, head-stood (here (c .before .before .before .before .before .before .before .before .before .before .before .before .before)) .len, c .before .before .before .before .before .before .before .before .before .before .before .before .before .before .before .before .before .loop-test .taken)
 
 loop-again : tie.Need-loop-again Inv-loop μ-loop
-loop-again c = pack-more (here (c .before .before .before .before .before .before .before .before .before .before .before .before .before)) (new-id _ _ _ _ _ (c .before .before .before .before .before .before .before .before .before .before .before .is-new .ensures (not-false _ (c .before .before .before .before .before .before .before .before .before .before .if1 .left)))) refl (turn-done (c .before .before .before .before .before .before .before .before .run .ensures) (omega (arith, c .before .before .before .before .before .before .if2 .left))) refl (either-is ((c .before .before .before .before .before .before .before .before .before .before .before .before .before) .before .before .before .before .before .before .before .before .args .alone) _ (c .before .before .before .before .before .either .ensures)) (not-false _ (c .before .before .before .before .if3 .left)) (c .before .before .plus .ensures ∙ ap (plusSizes _) (c .before .before .before .pack-sizes .ensures)) (c .before .larger .ensures) (c .smaller .ensures)
+loop-again c = pack-more (here (c .before .before .before .before .before .before .before .before .before .before .before .before .before)) (new-key (c .before .before .before .before .before .before .before .before .before .before .before .is-new .ensures (not-false _ (c .before .before .before .before .before .before .before .before .before .before .if1 .left)))) refl (turn-done (c .before .before .before .before .before .before .before .before .run .ensures) (omega (arith, c .before .before .before .before .before .before .if2 .left))) refl (either-is ((c .before .before .before .before .before .before .before .before .before .before .before .before .before) .before .before .before .before .before .before .before .before .args .alone) _ (c .before .before .before .before .before .either .ensures)) (not-false _ (c .before .before .before .before .if3 .left)) (c .before .before .plus .ensures ∙ ap (plusSizes _) (c .before .before .before .pack-sizes .ensures)) (c .before .larger .ensures) (c .smaller .ensures)
 
 stands-requires-5 : tie.Need-stands-requires-5 Inv-loop μ-loop
 stands-requires-5 c κs = search needs
 
 returns-5 : tie.Need-returns-5 Inv-loop μ-loop
-returns-5 c = stands-so _ (c .before .before .loop .inv) (c .stands5 .result) (c .stands5 .ensures)
+returns-5 c = rw (c .stands5 .ensures) (c .before .before .loop .inv)
 
 pub packs-spec : {M : Type 1} → statement M
 packs-spec =

@@ -19,9 +19,10 @@ use Rattle.coding.proofs.Rooms.{tail-part}
 use Rattle.walks.specs.Meet.{total, weightOfVal}
 use Rattle.walks.specs.Runs.{Ran, madeOf}
 use Rattle.records.proofs.Runs.{vals-used}
+use Rattle.stores.specs.Writing.{Writing}
 use Rattle.stores.proofs.Puts.{Puts, Parted, head-room, head-behind, rest-room, rest-put}
 use Rattle.stores.proofs.Stores.{sets-append, sets-swap, sets-under, tail-length, tail-stored}
-use Rattle.stores.proofs.Writing.{each, Writing, writing-start, writing-done, writing-over, Next, next-here, next-room, writing-more, long}
+use Rattle.stores.proofs.Writing.{each, writing-start, writing-done, writing-over, Next, next-here, next-room, writing-more, long}
 use Rattle.stores.proofs.Entries.{ran, ran-ok}
 use Rattle.normals.specs.Meet.{packFront}
 use Rattle.packets.specs.Meet.{usedOf, recordsRun, targetsRun, targetNormal, partNormal, recordsNormal, targetsNormal}

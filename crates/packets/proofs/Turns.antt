@@ -19,8 +19,9 @@ use Rattle.heads.specs.Meet.{Peeked}
 use Rattle.heads.specs.Records.{peekRecord}
 use Rattle.walks.specs.Runs.{Ran, madeOf}
 use Rattle.records.specs.Meet.{moreAt, partStep}
+use Rattle.stores.specs.Writing.{Writing}
 use Rattle.stores.proofs.Puts.{Puts, Parted, head-room, head-behind, rest-room, rest-put}
-use Rattle.stores.proofs.Writing.{each, Writing, writing-begins, none-left, none-over, writing-done, writing-over, Next, next-here, next-room, writing-passes, long}
+use Rattle.stores.proofs.Writing.{each, writing-begins, none-left, none-over, writing-done, writing-over, Next, next-here, next-room, writing-passes, long}
 use Rattle.stores.proofs.Entries.{ran, ran-ok}
 use Rattle.normals.specs.Meet.{seriesFront}
 use Rattle.packets.specs.Meet.{usedOf, recordsRun, targetsRun, targetNormal, recordsNormal, targetsNormal, InnerParts}

@@ -20,20 +20,19 @@ fn mark_of(set: bool) -> u64
     if set { 18772 } else { 21577 }
 }
 
-// An item's record; where it ends.
+// An item's record; where it ends. Mark and tag go as one number, which is one store.
 fn put_item(out: &mut [u8], at: usize, set: bool, tag: u64, v: &[u8]) -> usize
-    requires { ⌜ at + (6 + length (now v)) ≤ length (now out) ⌝ }
+    requires { ⌜ (tag ≤ 16383) × (at + (6 + length (now v)) ≤ length (now out)) ⌝ }
     ensures { λ r. ⌜ (r ≡ at + (6 + length (now (v .entry)))) × (now (out .exit) ≡ sets (now (out .entry)) at (valBytes (levelOf set) (record { tag = tag; value = now (v .entry) }))) ⌝ }
 {
-    let a = stores::put_number(out, at, mark_of(set), 2);
-    let b = stores::put_number(out, a, tag, 2);
-    let c = stores::put_number(out, b, v.len() as u64, 2);
-    stores::copy(out, c, v)
+    let a = stores::put_number(out, at, mark_of(set) * 65536 + tag, 4);
+    let b = stores::put_number(out, a, v.len() as u64, 2);
+    stores::copy(out, b, v)
 }
 
 // An item's record from its value as it stands in the packet; where it ends. The set's checksum has none.
 fn put_plain(table: &[u64], out: &mut [u8], at: usize, set: bool, tag: u64, v: &[u8]) -> usize
-    requires { ⌜ (now table ≡ itemTable) × ((0 < length (now v)) × (at + length (itemSheet (levelOf set) tag (now v)) ≤ length (now out))) ⌝ }
+    requires { ⌜ (now table ≡ itemTable) × ((tag ≤ 16383) × (0 < length (now v)) × (at + length (itemSheet (levelOf set) tag (now v)) ≤ length (now out))) ⌝ }
     ensures { λ r. ⌜ (r ≡ at + length (itemSheet (levelOf set) tag (now (v .entry)))) × (now (out .exit) ≡ sets (now (out .entry)) at (itemSheet (levelOf set) tag (now (v .entry)))) ⌝ }
 {
     if set {
@@ -63,7 +62,13 @@ pub fn item_sheet(table: &[u64], s: &[u8], set: bool, alone: bool, out: &mut [u8
 {
     let mut p: usize = 0;
     let mut k: usize = 0;
-    while p < s.len() {
+    loop {
+        let q = quick::run(s, p, k, set, alone, out);
+        p = q.used;
+        k = q.wrote;
+        if s.len() <= p {
+            return k;
+        }
         let h = heads::item_head(&s[p..], set);
         let Head::Whole {
             key,
@@ -84,7 +89,6 @@ pub fn item_sheet(table: &[u64], s: &[u8], set: bool, alone: bool, out: &mut [u8
         };
         p = next;
     }
-    k
 }
 
 // The packs of a series; how many bytes.
@@ -113,3 +117,5 @@ pub fn pack_sheet(table: &[u64], s: &[u8], alone: bool, out: &mut [u8]) -> usize
     }
     k
 }
+
+pub mod quick; // quick.rt: the records of items told at a glance

@@ -27,8 +27,9 @@ use Rattle.walks.specs.Meet.{stepAt}
 use Rattle.walks.specs.Runs.{Ran, madeOf, levelRun, seriesRun}
 use Rattle.walks.proofs.ItemTurns.{level-is}
 use Rattle.walks.proofs.Steps.{EntryHere, entry-here, no-head-entry}
+use Rattle.stores.specs.Writing.{Writing}
 use Rattle.stores.proofs.Puts.{Puts}
-use Rattle.stores.proofs.Writing.{Emits, Writing, writing-start, writing-done, Next, next-here, next-room, writing-more}
+use Rattle.stores.proofs.Writing.{Emits, writing-start, writing-done, Next, next-here, next-room, writing-more}
 
 -- a run that came to its end
 pub ran : {X : Type 0} (x : Ans (Got (List X))) → Ran x → (rs : Got (List X)) × (x ≡ ok rs)

@@ -22,8 +22,9 @@ use Rattle.heads.specs.Meet.{packHeadOf}
 use Rattle.walks.specs.Runs.{Ran, madeOf, levelRun, seriesRun}
 use Rattle.walks.proofs.PackTurns.{drop-take}
 use Rattle.walks.proofs.Steps.{PackHere, pack-here, no-head-pack}
+use Rattle.stores.specs.Writing.{Writing}
 use Rattle.stores.proofs.Puts.{Puts}
-use Rattle.stores.proofs.Writing.{Emits, Writing, writing-start, writing-done, Next, next-here, next-room, writing-more}
+use Rattle.stores.proofs.Writing.{Emits, writing-start, writing-done, Next, next-here, next-room, writing-more}
 use Rattle.stores.proofs.Entries.{ran, ran-ok}
 
 -- from the state σ₀ on

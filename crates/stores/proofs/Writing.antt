@@ -1,6 +1,5 @@
--- A loop that writes what a run reads, one thing after another: what is still to be stored, a turn, and the end.
--- `emits` is all that a list of things writes, from a state on; `emit` is what one writes, and `next` the state after it.
--- The run goes on while `more` says so: `always` in a packet.
+-- A loop that writes what a run reads, one thing after another: its start, a turn, and the end.
+-- `emit` is what one thing writes, and `next` the state after it.
 use mathlib.Core.Path.{_≡_, refl, sym, ap, _∙_}
 use Prim.Native.Nat.{ℕ, _+_, _-_, _≤_, _<_}
 use native.Mathlib.Omega.{arith}
@@ -13,6 +12,7 @@ use Rattle.format.specs.Lists.{flatAll}
 use Rattle.format.specs.Run.{Step, skip, run}
 use Rattle.format.proofs.words.Answers.{bind-then, after-then, ok-inj}
 use Rattle.format.proofs.reading.Runs.{skip-drop, drop-pred}
+use Rattle.stores.specs.Writing.{Writing}
 use Rattle.stores.proofs.Stores.{sets-append}
 
 pub record Emits {X S : Type 0} (emit : S → X → List ℕ) (next : S → X → S) (emits : S → List X → List ℕ) : Type 0 where
@@ -23,15 +23,6 @@ pub record Emits {X S : Type 0} (emit : S → X → List ℕ) (next : S → X �
 pub each : {X : Type 0} (emit : X → List ℕ) → Emits {X = X} {S = Unit {0}} (λ _. emit) (λ _ _. tt) (λ _. flatAll emit)
 unfolding flatAll
 each emit = record { none = λ _. refl; more = λ _ _ _. refl }
-
-pub record Writing {X S : Type 0} (more : List ℕ → Bool) (emits : S → List X → List ℕ) (key : X → ℕ) (step : Step X) (whole s out₀ out : List ℕ) (σ : S) (p k : ℕ) : Type 0 where
-  pub seen : List ℕ
-  pub things : Got (List X)
-  pub reads : skip more key step seen 0 (drop p s) ≡ ok things
-  pub to : p ≤ length s
-  pub same : length out ≡ length out₀
-  pub sum : k + length (emits σ (things .val)) ≡ length whole
-  pub rest : sets out₀ 0 whole ≡ sets out k (emits σ (things .val))
 
 -- a run that has more to read reads a thing, and goes on
 skip-here : {X : Type 0} (more : List ℕ → Bool) (key : X → ℕ) (step : Step X) (seen s : List ℕ) (rs : Got (List X)) → 0 < length s → more s ≡ true → skip more key step seen 0 s ≡ ok rs

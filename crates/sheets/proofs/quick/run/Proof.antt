@@ -1,0 +1,97 @@
+-- `sheets::quick::run` meets its contract: each turn is a turn of the item walk.
+use mathlib.Core.Path.{sym, _∙_}
+use Prim.Native.Nat.{ℕ, _-_, _≤_}
+use native.Mathlib.Omega.{arith}
+use mathlib.Core.List.{List}
+use lib.ListN.{length}
+use borrow.Author.Needs.{needs}
+use Rattle.items.specs.Meet.{formOf}
+use Rattle.sheets.specs.Quick.{LevelPassed}
+use Rattle.sheets.proofs.Glances.{Turn, turn-fits, turn-room, turn-more}
+use Rattle.sheets.proofs.quick.run.Statement.{statement}
+use Rattle.sheets.proofs.quick.run.Tie as tie
+use Rattle.sheets.proofs.quick.run.Reads as reads
+use Rattle.sheets.proofs.quick.run.Lts as lts
+use Rattle.coding.proofs.wide.Reads as wide-reads
+use Rattle.sheets.proofs.put_item.Reads as put-item-reads
+use Rattle.sheets.proofs.quick.glance.Reads as glance-reads
+
+abbrev Inv-loop : tie.InvT-loop
+Inv-loop s from at set alone out₀ p₀ k₀ out p k = (from ≤ p) × ((o : List ℕ) → LevelPassed set (formOf alone) s o out₀ from at → LevelPassed set (formOf alone) s o out p k)
+
+abbrev μ-loop : tie.MeasureT-loop
+μ-loop s from at set alone out₀ p₀ k₀ out p k = length s - p
+
+turn : (a : lts.Else1 (glance-reads.Asked, glance-reads.Learnt, wide-reads.Asked, wide-reads.Learnt, put-item-reads.Asked, put-item-reads.Learnt) reads.Pre reads.Post Inv-loop μ-loop)
+    → Turn (a .before .before .before .before .before .args .set) (formOf (a .before .before .before .before .before .args .alone)) (a .before .before .before .before .before .args .s .now) (a .before .before .before .before .before .args .out .now) (a .before .before .loop .out) (a .before .before .before .before .before .args .from) (a .before .before .before .before .before .args .at) (a .before .before .loop .p) (a .before .before .loop .k) (a .before .glance .result)
+turn a = record {
+  begun = a .before .before .before .before .before .pre .2;
+  passed = a .before .before .loop .inv .1;
+  glanced = a .before .glance .ensures (omega (arith, a .if1 .left));
+  bytes = λ i. a .before .before .before .before .shared-slice-known .given i .fits;
+  most = a .before .before .before .before .before .pre .0;
+  room = a .before .before .before .before .before .pre .1;
+}
+
+loop-holds : tie.Need-loop-holds Inv-loop μ-loop
+loop-holds c = (omega arith, λ o g. g)
+
+glance-requires : tie.Need-glance-requires Inv-loop μ-loop
+glance-requires c κs = (c .loop .inv .1 (c .before .before .before .pre .2 .0) (c .before .before .before .pre .2 .1) .to, c .before .before .before .pre .0)
+
+same-length : tie.Need-same-length Inv-loop μ-loop
+same-length c = let i = c .before .before .before .before .before .pre .2 in c .before .before .loop .inv .1 (i .0) (i .1) .same ∙ sym (i .1 .same)
+
+returns : tie.Need-returns Inv-loop μ-loop
+returns c = c .before .before .loop .inv
+
+add-first : tie.Need-add-first Inv-loop μ-loop
+add-first c = omega (arith, turn-fits (turn c))
+
+add-next : tie.Need-add-next Inv-loop μ-loop
+add-next c = omega (arith, turn-fits (turn c))
+
+shared-slice-read-wide : tie.Need-shared-slice-read-wide Inv-loop μ-loop
+shared-slice-read-wide c = omega (arith, turn-fits (turn (c .before)))
+
+wide-requires : tie.Need-wide-requires Inv-loop μ-loop
+wide-requires c κs = search needs
+
+sub-put-item : tie.Need-sub-put-item Inv-loop μ-loop
+sub-put-item c = search needs
+
+part-put-item-start : tie.Need-part-put-item-start Inv-loop μ-loop
+part-put-item-start c = search needs
+
+part-put-item-end : tie.Need-part-put-item-end Inv-loop μ-loop
+part-put-item-end c = omega (arith, turn-fits (turn (c .before .before .before)))
+
+put-item-requires : tie.Need-put-item-requires Inv-loop μ-loop
+put-item-requires c κs = turn-room (turn (c .before .before .before .before)) (c .before .before .wide .ensures .0)
+
+loop-less : tie.Need-loop-less Inv-loop μ-loop
+loop-less c = omega (arith, turn-fits (turn (c .before .before .before .before .before .before .before)))
+
+loop-again : tie.Need-loop-again Inv-loop μ-loop
+loop-again c = (omega (arith, c .before .before .before .before .before .before .before .before .before .loop .inv .0), turn-more (turn (c .before .before .before .before .before .before .before)) (c .before .before .before .before .before .wide .ensures .0) (c .before .before .put-item .ensures))
+
+pub run-spec : {M : Type 1} → statement M
+run-spec =
+    tie.close
+    (tie.spec
+    Inv-loop
+    μ-loop
+    loop-holds
+    glance-requires
+    same-length
+    returns
+    add-first
+    add-next
+    shared-slice-read-wide
+    wide-requires
+    sub-put-item
+    part-put-item-start
+    part-put-item-end
+    put-item-requires
+    loop-less
+    loop-again)

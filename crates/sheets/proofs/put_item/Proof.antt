@@ -4,41 +4,28 @@ use borrow.Author.Needs.{needs}
 use Rattle.sheets.proofs.Records.{mark-small, item-stored}
 use Rattle.sheets.proofs.put_item.Statement.{statement}
 use Rattle.sheets.proofs.put_item.Tie as tie
-use Rattle.sheets.proofs.put_item.Reads as reads
-use Rattle.sheets.proofs.put_item.Lts as lts
-use Rattle.sheets.proofs.mark_of.Reads as mark-of-reads
-use Rattle.stores.proofs.copy.Reads as copy-reads
-use Rattle.stores.proofs.put_number.Reads as put-number-reads
 
--- src/lib.rt:28:41
 mark-of-requires : tie.Need-mark-of-requires
 mark-of-requires c κs = search needs
 
--- src/lib.rt:28:41
 mul-put-number : tie.Need-mul-put-number
 mul-put-number c = omega (arith, mark-small (c .before .before .before .before .args .set) (c .mark-of .ensures))
 
--- src/lib.rt:28:41
 add-put-number : tie.Need-add-put-number
 add-put-number c = omega (arith, mark-small (c .before .before .before .before .args .set) (c .mark-of .ensures))
 
--- src/lib.rt:28:9
 put-number-requires : tie.Need-put-number-requires
 put-number-requires c κs = search needs
 
--- src/lib.rt:29:9
 put-number-requires-2 : tie.Need-put-number-requires-2
 put-number-requires-2 c κs = search needs
 
--- src/lib.rt:30:5
 copy-requires : tie.Need-copy-requires
 copy-requires c κs = search needs
 
--- src/lib.rt:24:1
 same-length : tie.Need-same-length
 same-length c = search needs
 
--- src/lib.rt:24:1
 returns : tie.Need-returns
 returns c =
     let second = c .before .before .before .before .before .before in

@@ -22,6 +22,7 @@ Inv-loop s from at set alone out₀ p₀ k₀ out p k = (from ≤ p) × ((o : Li
 abbrev μ-loop : tie.MeasureT-loop
 μ-loop s from at set alone out₀ p₀ k₀ out p k = length s - p
 
+-- the turn at an item told at a glance
 turn : (a : lts.Else1 (glance-reads.Asked, glance-reads.Learnt, wide-reads.Asked, wide-reads.Learnt, put-item-reads.Asked, put-item-reads.Learnt) reads.Pre reads.Post Inv-loop μ-loop)
     → Turn (a .before .before .before .before .before .args .set) (formOf (a .before .before .before .before .before .args .alone)) (a .before .before .before .before .before .args .s .now) (a .before .before .before .before .before .args .out .now) (a .before .before .loop .out) (a .before .before .before .before .before .args .from) (a .before .before .before .before .before .args .at) (a .before .before .loop .p) (a .before .before .loop .k) (a .before .glance .result)
 turn a = record {

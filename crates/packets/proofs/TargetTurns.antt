@@ -22,45 +22,42 @@ use Rattle.records.proofs.Runs.{vals-used}
 use Rattle.stores.specs.Writing.{Writing}
 use Rattle.stores.proofs.Puts.{Puts, Parted, head-room, head-behind, rest-room, rest-put}
 use Rattle.stores.proofs.Stores.{sets-append, sets-swap, sets-under, tail-length, tail-stored}
-use Rattle.stores.proofs.Writing.{each, writing-start, writing-done, writing-over, Next, next-here, next-room, writing-more, long}
+use Rattle.stores.proofs.Writing.{each, writing-begins, none-over, writing-over, Next, next-here, next-room, writing-passes, long}
 use Rattle.stores.proofs.Entries.{ran, ran-ok}
 use Rattle.normals.specs.Meet.{packFront}
 use Rattle.packets.specs.Meet.{usedOf, recordsRun, targetsRun, targetNormal, partNormal, recordsNormal, targetsNormal}
-use Rattle.packets.proofs.Steps.{TargetHere, target-here, vals-read}
+use Rattle.packets.proofs.Steps.{mark-room, TargetHere, target-here, vals-read}
 use Rattle.packets.proofs.Forms.{target-normal, len-some, vals-normal, no-inner}
-use Rattle.packets.proofs.Turns.{RecordsAsked}
-
-abbrev pub TargetsAsked : Form → List ℕ → ℕ → Type 0
-TargetsAsked f s n = (length s ≤ 65536) × Ran (targetsRun f s) × (length (targetsNormal f s) ≤ n) × (length (targetsNormal f s) ≤ 8192)
+use Rattle.packets.proofs.Turns.{RecordsAsked, TargetsAsked}
 
 pub record TargetsWriting (f : Form) (s out₀ out : List ℕ) (p k : ℕ) : Type 0 where
   pub writes : Writing (is TG) (λ (_ : Unit {0}). flatAll targetNormal) idOfTarget (targetAt f) (targetsNormal f s) s out₀ out tt p k
+  pub passed : p + writes .things .used ≡ usedOf (targetsRun f s)
 
 module _ {f : Form} {s out₀ : List ℕ} where
   pub targets-start : TargetsAsked f s (length out₀) → TargetsWriting f s out₀ out₀ 0 0
   unfolding targetsRun
   targets-start a =
       let (rs, e) = ran (targetsRun f s) (a .1) in
-      record { writes = writing-start (each targetNormal) (is TG) idOfTarget (targetAt f) _ s out₀ tt rs e (ap (madeOf (flatAll targetNormal)) e) }
+      let (w, u) = writing-begins (each targetNormal) (is TG) idOfTarget (targetAt f) _ s out₀ tt rs e (ap (madeOf (flatAll targetNormal)) e) in
+      record { writes = w; passed = omega (arith, u, ap usedOf e) }
 
   module _ {out : List ℕ} {p k : ℕ} (g : TargetsWriting f s out₀ out p k) where
-    pub targets-done : length s ≤ p → (k ≡ length (targetsNormal f s)) × (out ≡ sets out₀ 0 (targetsNormal f s))
-    targets-done h = writing-done (each targetNormal) _ _ _ _ _ _ (g .writes) h
-
-    pub targets-over : is TG (drop p s) ≡ false → (k ≡ length (targetsNormal f s)) × (out ≡ sets out₀ 0 (targetsNormal f s))
-    targets-over m = writing-over (each targetNormal) _ _ _ _ _ _ (g .writes) m
+    pub targets-over : is TG (drop p s) ≡ false → (p ≡ usedOf (targetsRun f s)) × (k ≡ length (targetsNormal f s)) × (out ≡ sets out₀ 0 (targetsNormal f s))
+    targets-over m =
+        let (wrote, left) = writing-over (each targetNormal) _ _ _ _ _ _ (g .writes) m in
+        (omega (arith, g .passed, none-over (each targetNormal) _ _ _ _ _ _ (g .writes) m), wrote, left)
 
 -- a `TG` stands at p
 pub record TargetAt (f : Form) (s out₀ out : List ℕ) (p k : ℕ) : Type 0 where
   pub going : TargetsWriting f s out₀ out p k
-  pub here : p < length s
   pub more : is TG (drop p s) ≡ true
   pub bytes : Bytes s
   pub asked : TargetsAsked f s (length out₀)
 
 module _ {f : Form} {s out₀ out : List ℕ} {p k : ℕ} (i : TargetAt f s out₀ out p k) where
   target : Next (each targetNormal) _ _ _ _ _ _ (i .going .writes)
-  target = next-here (each targetNormal) _ _ _ _ _ _ (i .going .writes) (i .here) (i .more)
+  target = next-here (each targetNormal) _ _ _ _ _ _ (i .going .writes) (omega (arith, mark-room TG (drop p s) (i .more), length-drop p s)) (i .more)
 
   stands : TargetHere f (drop p s) (target .it)
   stands = target-here f (i .going .writes .seen) (drop p s) (target .it) (target .read)
@@ -177,11 +174,14 @@ module _ {f : Form} {s out₀ out : List ℕ} {p k : ℕ} (i : TargetAt f s out�
           headed : Puts out₁ k (packFront body id) m out₂
           headed = rw (ed .1) at em
 
+          pub ends-few : m + n ≤ 8192
+          ends-few = omega (arith, headed .0, ed .1, whole-long, long (each targetNormal) _ _ _ _ _ _ (i .going .writes) target, i .going .writes .sum, i .asked .3)
+
           turned : {k′ : ℕ} {out′ : List ℕ} → Puts out k written k′ out′ → TargetsWriting f s out₀ out′ (p + 10 + u) k′
-          turned e = record {
-            writes = writing-more (each targetNormal) _ _ _ _ _ _ (i .going .writes) target (omega (arith, stands .used-is)) (omega (arith, stands .used-is, used-is, target-next)) (e .1) refl
-                (omega (arith, stands .used-is, used-is)) (e .0);
-          }
+          turned e =
+              let ep : p + 10 + u ≡ p + target .it .used = omega (arith, stands .used-is, used-is) in
+              let (g, v) = writing-passes (each targetNormal) _ _ _ _ _ _ (i .going .writes) target (omega (arith, stands .used-is)) (omega (arith, ep, target-next)) (e .1) refl ep (e .0) in
+              record { writes = g; passed = omega (arith, i .going .passed, v, target .passes, ep) }
 
           pub short-more : w + n < 128 → TargetsWriting f s out₀ out₂ (p + 10 + u) (m + n)
           short-more h =
@@ -202,9 +202,9 @@ module _ {f : Form} {s out₀ out : List ℕ} {p k : ℕ} (i : TargetAt f s out�
           pub again-asked : RecordsAsked 0 false f valsLent (length (take (length out₂ - m) (drop m out₂)))
           again-asked = let a = vals-asked in (a .0, a .1, a .2, a .3, rest-room again headed, a .5)
 
-          pub again-more : {r : ℕ} {o₂ : List ℕ} → (r ≡ length normal) × (o₂ ≡ sets (take (length out₂ - m) (drop m out₂)) 0 normal)
-              → TargetsWriting f s out₀ (putMid m (length out₂ - m) out₂ o₂) (p + 10 + u) (m + r)
+          pub again-more : {v r : ℕ} {o₂ : List ℕ} → (v ≡ usedOf (recordsRun pack f valsLent)) × (r ≡ length normal) × (o₂ ≡ sets (take (length out₂ - m) (drop m out₂)) 0 normal)
+              → TargetsWriting f s out₀ (putMid m (length out₂ - m) out₂ o₂) (p + 10 + u) (m + n)
           again-more q =
-              let e = rest-put again headed q in
+              let e = rest-put again headed (q .1, q .2) in
               let one : 1 ≤ lenWidth body = len-some body in
-              turned (e .0, e .1 ∙ ap (λ x. sets x k written) early ∙ sets-under out (k + 1 + w) normal k written (omega arith) (omega (arith, whole-long, front-long, one)))
+              turned (omega (arith, e .0, q .1, ed .1), e .1 ∙ ap (λ x. sets x k written) early ∙ sets-under out (k + 1 + w) normal k written (omega arith) (omega (arith, whole-long, front-long, one)))

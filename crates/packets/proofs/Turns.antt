@@ -2,31 +2,36 @@
 use mathlib.Core.Path.{_≡_, refl, sym, ap, _∙_}
 use Prim.Native.Nat.{ℕ, _+_, _-_, _≤_, _<_}
 use native.Mathlib.Omega.{arith}
-use mathlib.Core.Bool.{Bool, true, false, _&&_}
+use mathlib.Core.Bool.{Bool, true, false}
 use mathlib.Core.List.{List, _++_}
-use lib.Dec.{eqb}
 use lib.ListN.{length, take, drop, length-append, length-drop}
 use lib.Seq.{sets, drop-drop, length-take-le}
 use borrow.Rule.Slice.PartMut.{putMid}
+use Rattle.format.specs.Answer.{ok}
+use Rattle.format.specs.Coding.{Bytes, bytesNumber}
 use Rattle.format.specs.Lists.{flatAll}
 use Rattle.format.specs.Table.{Form}
 use Rattle.format.specs.Packet.{flatItem}
-use Rattle.format.specs.Sheet.{tagOfPart, is}
+use Rattle.format.specs.Sheet.{tagOfPart, TS, is}
 use Rattle.format.specs.Calls.{itemOf}
+use Rattle.format.proofs.words.Bytes.{bytes-drop}
 use Rattle.coding.proofs.Rooms.{tail-part}
 use Rattle.items.specs.Meet.{levelOf}
-use Rattle.heads.specs.Meet.{Peeked}
-use Rattle.heads.specs.Records.{peekRecord}
 use Rattle.walks.specs.Runs.{Ran, madeOf}
 use Rattle.records.specs.Meet.{moreAt, partStep}
 use Rattle.stores.specs.Writing.{Writing}
+use Rattle.records.proofs.Runs.{targets-used}
 use Rattle.stores.proofs.Puts.{Puts, Parted, head-room, head-behind, rest-room, rest-put}
-use Rattle.stores.proofs.Writing.{each, writing-begins, none-left, none-over, writing-done, writing-over, Next, next-here, next-room, writing-passes, long}
+use Rattle.stores.proofs.Writing.{each, writing-begins, none-over, writing-done, writing-over, Next, next-here, next-room, writing-passes, long}
 use Rattle.stores.proofs.Entries.{ran, ran-ok}
 use Rattle.normals.specs.Meet.{seriesFront}
 use Rattle.packets.specs.Meet.{usedOf, recordsRun, targetsRun, targetNormal, recordsNormal, targetsNormal, InnerParts}
-use Rattle.packets.proofs.Steps.{PartHere, part-here}
+use Rattle.packets.proofs.Steps.{tagAt, sizeAt, OneHere, one-here, SeriesHere, series-here}
 use Rattle.packets.proofs.Forms.{partBytes, run-bytes}
+
+-- what is asked of the targets
+abbrev pub TargetsAsked : Form → List ℕ → ℕ → Type 0
+TargetsAsked f s n = (length s ≤ 65536) × Ran (targetsRun f s) × (length (targetsNormal f s) ≤ n) × (length (targetsNormal f s) ≤ 8192)
 
 -- ---- the records of a level
 
@@ -53,33 +58,25 @@ module _ {inner : ℕ} {b : Bool} {f : Form} {s out₀ : List ℕ} where
     pub records-done : length s ≤ p → (k ≡ length (recordsNormal (levelOf b) f s)) × (out ≡ sets out₀ 0 (recordsNormal (levelOf b) f s))
     records-done h = writing-done (each (partBytes inner)) _ _ _ _ _ _ (g .writes) h
 
-    pub records-over : moreAt (levelOf b) (drop p s) ≡ false → (k ≡ length (recordsNormal (levelOf b) f s)) × (out ≡ sets out₀ 0 (recordsNormal (levelOf b) f s))
-    records-over m = writing-over (each (partBytes inner)) _ _ _ _ _ _ (g .writes) m
+    module _ (m : moreAt (levelOf b) (drop p s) ≡ false) where
+      pub records-over : (k ≡ length (recordsNormal (levelOf b) f s)) × (out ≡ sets out₀ 0 (recordsNormal (levelOf b) f s))
+      records-over = writing-over (each (partBytes inner)) _ _ _ _ _ _ (g .writes) m
 
-    -- all is read there
-    pub records-passed : length s ≤ p → p ≡ usedOf (recordsRun (levelOf b) f s)
-    records-passed h = omega (arith, g .passed, none-left (each (partBytes inner)) _ _ _ _ _ _ (g .writes) h)
+      -- all is read there
+      pub records-passed : p ≡ usedOf (recordsRun (levelOf b) f s)
+      records-passed = omega (arith, g .passed, none-over (each (partBytes inner)) _ _ _ _ _ _ (g .writes) m)
 
-    pub records-stopped : moreAt (levelOf b) (drop p s) ≡ false → p ≡ usedOf (recordsRun (levelOf b) f s)
-    records-stopped m = omega (arith, g .passed, none-over (each (partBytes inner)) _ _ _ _ _ _ (g .writes) m)
-
--- the code saw a key and its bytes at p
-pub record RecordAt (inner : ℕ) (b : Bool) (f : Form) (s out₀ out : List ℕ) (p k key used : ℕ) : Type 0 where
+-- a part stands at p
+pub record RecordAt (inner : ℕ) (b : Bool) (f : Form) (s out₀ out : List ℕ) (p k : ℕ) : Type 0 where
   pub going : RecordsWriting inner b f s out₀ out p k
   pub here : p < length s
   pub more : moreAt (levelOf b) (drop p s) ≡ true
-  pub peeked : Peeked (peekRecord false b) (take (length s - p) (drop p s)) key used
+  pub bytes : Bytes s
   pub asked : RecordsAsked inner b f s (length out₀)
 
-module _ {inner : ℕ} {b : Bool} {f : Form} {s out₀ out : List ℕ} {p k key used : ℕ} (i : RecordAt inner b f s out₀ out p k key used) where
+module _ {inner : ℕ} {b : Bool} {f : Form} {s out₀ out : List ℕ} {p k : ℕ} (i : RecordAt inner b f s out₀ out p k) where
   part : Next (each (partBytes inner)) _ _ _ _ _ _ (i .going .writes)
   part = next-here (each (partBytes inner)) _ _ _ _ _ _ (i .going .writes) (i .here) (i .more)
-
-  part-stands : PartHere b f (drop p s) key used (part .it)
-  part-stands = part-here b f (i .going .writes .seen) (drop p s) (part .it) (i .more) (part .read) (rw tail-part at (i .peeked))
-
-  pub record-room : (p + used ≤ length s) × (0 < used) × (length s ≤ 65536)
-  record-room = (omega (arith, part-stands .room, length-drop p s, i .here), part-stands .some, i .asked .0)
 
   -- what it writes, and the turn when that is stored
   abbrev stored : List ℕ
@@ -91,76 +88,107 @@ module _ {inner : ℕ} {b : Bool} {f : Form} {s out₀ out : List ℕ} {p k key 
   stored-few : length stored ≤ 8192
   stored-few = omega (arith, long (each (partBytes inner)) _ _ _ _ _ _ (i .going .writes) part, i .going .writes .sum, i .asked .5)
 
-  stored-more : {k′ : ℕ} {out′ : List ℕ} → Puts out k stored k′ out′ → RecordsWriting inner b f s out₀ out′ (p + used) k′
-  stored-more e =
-      let w = part-stands in
-      let ep : p + used ≡ p + part .it .used = omega (arith, w .used-is) in
-      let (g, u) = writing-passes (each (partBytes inner)) _ _ _ _ _ _ (i .going .writes) part (omega (arith, w .used-is, w .some)) (omega (arith, w .used-is, record-room)) (e .1) refl ep (e .0) in
-      record { writes = g; passed = omega (arith, i .going .passed, u, part .passes, w .used-is) }
+  stored-more : {p′ : ℕ} → p′ ≡ p + part .it .used → p < p′ → p′ ≤ length s → {k′ : ℕ} {out′ : List ℕ} → Puts out k stored k′ out′ → RecordsWriting inner b f s out₀ out′ p′ k′
+  stored-more ep some room e =
+      let (g, u) = writing-passes (each (partBytes inner)) _ _ _ _ _ _ (i .going .writes) part (omega (arith, ep, some)) (omega (arith, ep, room)) (e .1) refl ep (e .0) in
+      record { writes = g; passed = omega (arith, i .going .passed, u, part .passes, ep) }
 
-  -- x: it is the series
-  module _ {x : Bool} (ex : x ≡ (b && eqb key 101)) where
-    module _ (tx : x ≡ false) where
+  -- ---- an item
+
+  module _ (z : is TS (drop p s) ≡ false) where
+    item : OneHere (drop p s) (part .it)
+    item = one-here b f (i .going .writes .seen) (drop p s) (part .it) z (part .read)
+
+    pub fields-room : (p + 6 ≤ length s) × (length s ≤ 65536)
+    fields-room = (omega (arith, item .room, length-drop p s, i .here), i .asked .0)
+
+    -- its tag and its value's length were read
+    module _ {tag n : ℕ} (et : tag ≡ bytesNumber (take 2 (drop (p + 2) s))) (en : n ≡ bytesNumber (take 2 (drop (p + 4) s))) where
+      tag-is : tagAt (drop p s) ≡ tag
+      tag-is = ap (λ u. bytesNumber (take 2 u)) (drop-drop 2 p s) ∙ sym et
+
+      size-is : sizeAt (drop p s) ≡ n
+      size-is = ap (λ u. bytesNumber (take 2 u)) (drop-drop 4 p s) ∙ sym en
+
+      pub item-room : (p + 6 ≤ p + 6 + n) × (p + 6 + n ≤ length s) × (length s ≤ 65536)
+      item-room = (omega arith, omega (arith, item .room, size-is, length-drop p s, i .here), i .asked .0)
+
       -- its value, as it is lent
       abbrev value : List ℕ
-      value = take (p + used - (p + 6)) (drop (p + 6) s)
+      value = take (p + 6 + n - (p + 6)) (drop (p + 6) s)
 
-      value-is : value ≡ take (used - 6) (drop 6 (drop p s))
+      value-is : value ≡ take (sizeAt (drop p s)) (drop 6 (drop p s))
       value-is =
-          let z : p + used - (p + 6) ≡ used - 6 = omega arith in
-          rw (z, drop-drop 6 p s)
+          let w : p + 6 + n - (p + 6) ≡ sizeAt (drop p s) = omega (arith, size-is) in
+          rw (w, drop-drop 6 p s)
 
-      pub one-room : (p + 6 ≤ p + used) × (p + used ≤ length s) × (length s ≤ 65536)
-      one-room = (omega (arith, part-stands .one-is (sym ex ∙ tx) .1), record-room .0, i .asked .0)
+      abbrev coded : List ℕ
+      coded = flatItem (itemOf (record { tag = tag; value = value }))
 
-      one-stored : stored ≡ flatItem (itemOf (record { tag = key; value = value }))
-      one-stored = ap (partBytes inner) (part-stands .one-is (sym ex ∙ tx) .0) ∙ ap (λ v. flatItem (itemOf (record { tag = key; value = v }))) (sym value-is)
+      item-stored : stored ≡ coded
+      item-stored = ap (partBytes inner) (item .it-is) ∙ ap (λ v. flatItem (itemOf (record { tag = tagAt (drop p s); value = v }))) (sym value-is)
+          ∙ ap (λ t. flatItem (itemOf (record { tag = t; value = value }))) tag-is
 
-      pub one-asked : (key ≤ 16383) × (length value ≤ 65536) × (k + length (flatItem (itemOf (record { tag = key; value = value }))) ≤ length out)
-      one-asked = (
-        part-stands .one-is (sym ex ∙ tx) .2,
-        omega (arith, length-take-le (p + used - (p + 6)) (drop (p + 6) s) (rw length-drop (omega (arith, one-room))), one-room),
-        omega (arith, ap length one-stored, stored-fits),
+      pub item-asked : (tag ≤ 16383) × (length value ≤ 65536) × (k + length coded ≤ length out)
+      item-asked = (
+        omega (arith, item .tag-small, tag-is),
+        omega (arith, length-take-le (p + 6 + n - (p + 6)) (drop (p + 6) s) (rw length-drop (omega (arith, item-room))), item-room),
+        omega (arith, ap length item-stored, stored-fits),
       )
 
-      pub one-more : {k′ : ℕ} {out′ : List ℕ} → Puts out k (flatItem (itemOf (record { tag = key; value = value }))) k′ out′ → RecordsWriting inner b f s out₀ out′ (p + used) k′
-      one-more e = stored-more (rw one-stored e)
+      pub item-more : {k′ : ℕ} {out′ : List ℕ} → Puts out k coded k′ out′ → RecordsWriting inner b f s out₀ out′ (p + 6 + n) k′
+      item-more e = stored-more (omega (arith, item .used-is, size-is)) (omega arith) (item-room .1) (rw item-stored e)
 
-    module _ (tx : x ≡ true) where
-      -- its targets, as they are lent
-      abbrev lent : List ℕ
-      lent = take (length s - (p + 2)) (drop (p + 2) s)
+  -- ---- the series
 
-      lent-is : lent ≡ drop 2 (drop p s)
-      lent-is = tail-part (p + 2) s ∙ sym (drop-drop 2 p s)
+  module _ (t : is TS (drop p s) ≡ true) where
+    series : SeriesHere f (drop p s) (part .it)
+    series = series-here b f (i .going .writes .seen) (drop p s) (part .it) (i .more) t (part .read)
 
-      pub series-room : (p + 2 ≤ length s) × (length s ≤ 65536)
-      series-room = (omega (arith, part-stands .targets-are (sym ex ∙ tx) .3, record-room), i .asked .0)
+    -- its targets, as they are lent
+    abbrev lent : List ℕ
+    lent = take (length s - (p + 2)) (drop (p + 2) s)
 
-      series-stored : Parted out k stored (seriesFront inner) (targetsNormal f lent)
-      series-stored =
-          let (ts, e, r, l) = part-stands .targets-are (sym ex ∙ tx) in
-          record {
-            is = ap (partBytes inner) e ∙ ap (λ x. seriesFront inner ++ madeOf (flatAll targetNormal) x) (sym (ap (targetsRun f) lent-is ∙ r));
-            fits = stored-fits;
-          }
+    lent-is : lent ≡ drop 2 (drop p s)
+    lent-is = tail-part (p + 2) s ∙ sym (drop-drop 2 p s)
 
-      pub head-asked : (inner ≤ 65536) × (k + length (seriesFront inner) ≤ length out)
-      head-asked = (i .asked .2, head-room series-stored)
+    runs : targetsRun f lent ≡ ok (series .ts)
+    runs = ap (targetsRun f) lent-is ∙ series .runs
 
-      -- its head is stored, and the tail behind it lent
-      module _ {m : ℕ} {out₁ : List ℕ} (em : Puts out k (seriesFront inner) m out₁) where
-        pub series-behind : m ≤ length out₁
-        series-behind = head-behind series-stored em
+    pub series-room : (p + 2 ≤ length s) × (length s ≤ 65536)
+    series-room = (omega (arith, series .two, length-drop p s, i .here), i .asked .0)
 
-        pub series-asked : (length lent ≤ 65536) × Ran (targetsRun f lent) × (length (targetsNormal f lent) ≤ length (take (length out₁ - m) (drop m out₁))) × (length (targetsNormal f lent) ≤ 8192)
-        series-asked = (
-          omega (arith, ap length lent-is, length-drop 2 (drop p s), length-drop p s, i .asked .0),
-          ran-ok (targetsRun f lent) (ap (targetsRun f) lent-is ∙ part-stands .targets-are (sym ex ∙ tx) .2),
-          rest-room series-stored em,
-          omega (arith, ap length (series-stored .is), length-append (seriesFront inner) (targetsNormal f lent), stored-few),
-        )
+    series-stored : Parted out k stored (seriesFront inner) (targetsNormal f lent)
+    series-stored = record {
+      is = ap (partBytes inner) (series .it-is) ∙ ap (λ x. seriesFront inner ++ madeOf (flatAll targetNormal) x) (sym runs);
+      fits = stored-fits;
+    }
 
-        pub series-more : {r : ℕ} {o : List ℕ} → (r ≡ length (targetsNormal f lent)) × (o ≡ sets (take (length out₁ - m) (drop m out₁)) 0 (targetsNormal f lent))
-            → RecordsWriting inner b f s out₀ (putMid m (length out₁ - m) out₁ o) (p + used) (m + r)
-        series-more q = stored-more (rest-put series-stored em q)
+    pub head-asked : (inner ≤ 65536) × (k + length (seriesFront inner) ≤ length out)
+    head-asked = (i .asked .2, head-room series-stored)
+
+    -- its head is stored, and the tail behind it lent
+    module _ {m : ℕ} {out₁ : List ℕ} (em : Puts out k (seriesFront inner) m out₁) where
+      pub series-behind : m ≤ length out₁
+      series-behind = head-behind series-stored em
+
+      pub series-asked : TargetsAsked f lent (length (take (length out₁ - m) (drop m out₁)))
+      series-asked = (
+        omega (arith, ap length lent-is, length-drop 2 (drop p s), length-drop p s, i .asked .0),
+        ran-ok (targetsRun f lent) runs,
+        rest-room series-stored em,
+        omega (arith, ap length (series-stored .is), length-append (seriesFront inner) (targetsNormal f lent), stored-few),
+      )
+
+      module _ {u r : ℕ} {o : List ℕ} (q : (u ≡ usedOf (targetsRun f lent)) × (r ≡ length (targetsNormal f lent)) × (o ≡ sets (take (length out₁ - m) (drop m out₁)) 0 (targetsNormal f lent))) where
+        used-is : u ≡ series .ts .used
+        used-is = q .0 ∙ ap usedOf runs
+
+        pub series-next : (p + 2 + u ≤ length s) × (length s ≤ 65536)
+        unfolding targetsRun
+        series-next =
+            let w = targets-used f (drop 2 (drop p s)) (series .ts) (bytes-drop 2 (drop p s) (bytes-drop p s (i .bytes))) (series .runs) .1 in
+            (omega (arith, used-is, w, length-drop 2 (drop p s), length-drop p s, series .two), i .asked .0)
+
+        pub series-more : RecordsWriting inner b f s out₀ (putMid m (length out₁ - m) out₁ o) (p + 2 + u) (m + r)
+        series-more = stored-more (omega (arith, series .used-is, used-is)) (omega arith) (series-next .0) (rest-put series-stored em (q .1, q .2))

@@ -1,17 +1,45 @@
 // The entries of a packet's set in normal form, written into a lent output from a sheet that was checked, record by record.
 ghost use mathlib.Core.Path.{_≡_};
-ghost use Prim.Native.Nat.{_≤_};
-ghost use lib.ListN.{length};
+ghost use Prim.Native.Nat.{_+_, _≤_};
+ghost use lib.ListN.{length, take, drop};
 ghost use lib.Seq.{sets};
 ghost use Rattle.items.specs.Meet.{formOf, levelOf, itemTable};
 ghost use Rattle.walks.specs.Runs.{Ran};
+ghost use Rattle.format.specs.Coding.{bytesNumber};
 ghost use Rattle.format.specs.Table.{pack};
+ghost use Rattle.format.specs.Packet.{flatItem};
+ghost use Rattle.format.specs.Calls.{itemOf};
 ghost use Rattle.packets.specs.Meet.{usedOf, recordsRun, targetsRun, recordsNormal, targetsNormal, InnerParts};
 
 // How many bytes were read, and how many were written for them.
 pub struct Passed {
     pub used: usize,
     pub wrote: usize,
+}
+
+// The number of two bytes at p, as a record's tag and its value's length are.
+fn two_at(s: &[u8], p: usize) -> u64
+    requires { ⌜ p + 2 ≤ length (now s) ⌝ }
+    ensures { λ r. ⌜ r ≡ bytesNumber (take 2 (drop p (now (s .entry)))) ⌝ }
+{
+    coding::number_of(&s[p..], 2)
+}
+
+// What `put_short` stores. Most tags and lengths have one byte: the rest is kept out of the loop over a target's records.
+fn put_val(out: &mut [u8], at: usize, tag: u64, v: &[u8]) -> usize
+    requires { ⌜ (tag ≤ 16383) × (length (now v) ≤ 65536) × (at + length (flatItem (itemOf (record { tag = tag; value = now v }))) ≤ length (now out)) ⌝ }
+    ensures { λ r. ⌜ (r ≡ at + length (flatItem (itemOf (record { tag = tag; value = now (v .entry) })))) × (now (out .exit) ≡ sets (now (out .entry)) at (flatItem (itemOf (record { tag = tag; value = now (v .entry) })))) ⌝ }
+{
+    if 127 < tag {
+        return stores::coded::put_short(out, at, tag, v);
+    }
+    if 127 < v.len() {
+        return stores::coded::put_short(out, at, tag, v);
+    }
+    out[at] = tag as u8;
+    let a = at + 1;
+    out[a] = v.len() as u8;
+    stores::copy(out, a + 1, v)
 }
 
 // The records of a target.
@@ -21,16 +49,16 @@ fn put_vals(s: &[u8], alone: bool, out: &mut [u8]) -> Passed
 {
     let mut p: usize = 0;
     let mut k: usize = 0;
-    while p < s.len() {
+    loop {
         if !heads::records::is_mark(s, p, b'T', b'I') {
             return Passed { used: p, wrote: k };
         }
-        let n = heads::records::record_next(&s[p..], false, false);
-        let next = p + n.used;
-        k = stores::coded::put_short(out, k, n.key, &s[p + 6..next]);
+        let tag = two_at(s, p + 2);
+        let n = two_at(s, p + 4);
+        let next = p + 6 + n as usize;
+        k = put_val(out, k, tag, &s[p + 6..next]);
         p = next;
     }
-    Passed { used: p, wrote: k }
 }
 
 // The records of a level: the set, whose series has `inner` bytes of packs, or a target; how many bytes they write.
@@ -51,29 +79,32 @@ pub fn item_packet(
         if !records::goes_on(s, p, set) {
             return k;
         }
-        let n = heads::records::record_next(&s[p..], false, set);
-        let next = p + n.used;
-        k = if walks::is_series(set, n.key) {
+        if heads::records::is_mark(s, p, b'T', b'S') {
             let m = normals::put_series(out, k, inner);
-            m + target_packet(table, &s[p + 2..], alone, &mut out[m..])
+            let d = target_packet(&s[p + 2..], alone, &mut out[m..]);
+            p = p + 2 + d.used;
+            k = m + d.wrote;
         } else {
-            stores::coded::put_short(out, k, n.key, &s[p + 6..next])
-        };
-        p = next;
+            let tag = two_at(s, p + 2);
+            let n = two_at(s, p + 4);
+            let next = p + 6 + n as usize;
+            k = stores::coded::put_short(out, k, tag, &s[p + 6..next]);
+            p = next;
+        }
     }
     k
 }
 
-// The targets of the series; how many bytes they write.
-pub fn target_packet(table: &[u64], s: &[u8], alone: bool, out: &mut [u8]) -> usize
-    requires { ⌜ (now table ≡ itemTable) × ((length (now s) ≤ 65536) × Ran (targetsRun (formOf alone) (now s)) × (length (targetsNormal (formOf alone) (now s)) ≤ length (now out)) × (length (targetsNormal (formOf alone) (now s)) ≤ 8192)) ⌝ }
-    ensures { λ r. ⌜ (r ≡ length (targetsNormal (formOf alone) (now (s .entry)))) × (now (out .exit) ≡ sets (now (out .entry)) 0 (targetsNormal (formOf alone) (now (s .entry)))) ⌝ }
+// The targets of the series.
+fn target_packet(s: &[u8], alone: bool, out: &mut [u8]) -> Passed
+    requires { ⌜ (length (now s) ≤ 65536) × Ran (targetsRun (formOf alone) (now s)) × (length (targetsNormal (formOf alone) (now s)) ≤ length (now out)) × (length (targetsNormal (formOf alone) (now s)) ≤ 8192) ⌝ }
+    ensures { λ r. ⌜ (r .used ≡ usedOf (targetsRun (formOf alone) (now (s .entry)))) × (r .wrote ≡ length (targetsNormal (formOf alone) (now (s .entry)))) × (now (out .exit) ≡ sets (now (out .entry)) 0 (targetsNormal (formOf alone) (now (s .entry)))) ⌝ }
 {
     let mut p: usize = 0;
     let mut k: usize = 0;
-    while p < s.len() {
+    loop {
         if !heads::records::is_mark(s, p, b'T', b'G') {
-            return k;
+            return Passed { used: p, wrote: k };
         }
         let id = coding::number_of(&s[p + 2..], 8);
         let from = p + 10;
@@ -84,12 +115,10 @@ pub fn target_packet(table: &[u64], s: &[u8], alone: bool, out: &mut [u8]) -> us
         let next = from + d.used;
         let body = w + d.wrote;
         let m = normals::put_pack(out, k, body, id);
-        k = if body < 128 {
-            m + d.wrote
-        } else {
-            m + item_packet(table, &s[from..], false, alone, 0, &mut out[m..])
-        };
+        if 127 < body {
+            put_vals(&s[from..], alone, &mut out[m..]);
+        }
+        k = m + d.wrote;
         p = next;
     }
-    k
 }

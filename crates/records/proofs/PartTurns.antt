@@ -38,7 +38,7 @@ use Rattle.records.proofs.Parts.{part-fault, ValueStood, value-stood, S
 use Rattle.walks.proofs.Maps.{walked-good, walked-bad}
 use Rattle.records.proofs.Runs.{targets-used, slim-targets, slim-series}
 
-pub records-start : (b : Bool) (f : Form) (s : List ℕ) → RecordsGoing b f s 0 noSizes false 0 18446744073709551615
+pub records-start : (b : Bool) (f : Form) (s : List ℕ) {low : ℕ} → RecordsGoing b f s 0 noSizes false 0 low
 unfolding recordsWalk
 records-start b f s = going-start _ _ _ _ _ _ _ s refl
 
@@ -69,7 +69,7 @@ told-bad {n = n} {q = q} e l = record {
 }
 
 -- an item: no sheet has a checksum
-item-is : (l : Level) (tag n : ℕ) → isSet l && eqb tag 1 ≡ false → itemSizes l tag n ≡ sizes (6 + n) 1 (length (oidBytes tag) + lengthened n) 0
+pub item-is : (l : Level) (tag n : ℕ) → isSet l && eqb tag 1 ≡ false → itemSizes l tag n ≡ sizes (6 + n) 1 (length (oidBytes tag) + lengthened n) 0
 unfolding itemSizes
 item-is l tag n z = rw (z, itemSizes)
 

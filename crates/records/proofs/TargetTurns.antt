@@ -7,11 +7,13 @@ use mathlib.Core.Bool.{Bool, true, false, not, _||_}
 use mathlib.Core.List.{List, map}
 use lib.ListN.{length, take, drop, length-drop}
 use lib.Seq.{drop-drop}
+use lib.Dec.{leb}
+use borrow.Author.Tests.{leb-true, leb-false}
 use Rattle.format.specs.Answer.{ok, refused, Got, got}
 use Rattle.format.specs.Coding.{Bytes, oidBytes}
 use Rattle.format.specs.Lists.{has}
 use Rattle.format.specs.Table.{Form, pack, isAlone, ended}
-use Rattle.format.specs.Run.{run}
+use Rattle.format.specs.Run.{Step, run}
 use Rattle.format.specs.Sheet.{Val, tagOfVal, idOfTarget, TG, TI, is, valueAt, targetAt}
 use Rattle.format.proofs.words.Answers.{after-ok}
 use Rattle.format.proofs.words.Bytes.{bytes-drop}
@@ -28,7 +30,7 @@ use Rattle.walks.specs.Meet.{noSizes, packSizes, plusSizes, total, weightOfVal,
 use Rattle.walks.specs.Going.{Going}
 use Rattle.walks.proofs.Walks.{few-more, going-start}
 use Rattle.walks.proofs.Series.{after-not}
-use Rattle.walks.proofs.Turns.{Reads, within-more, turn-bad, turn-more}
+use Rattle.walks.proofs.Turns.{Reads, within-more, turn-done, turn-over, turn-bad, turn-more}
 use Rattle.records.specs.Meet.{pieceBy, targetWhole, targetOpens, recordsWalk, targetsWalk}
 use Rattle.records.proofs.Parts.{targetEnd, target-fault, TargetStood, target-stood}
 use Rattle.records.proofs.Runs.{ValsRun, vals-good, vals-bad, vals-used, slim-vals, slim-pack}
@@ -41,6 +43,15 @@ unfolding targetsWalk
 targets-start f s = going-start _ _ _ _ _ _ _ s refl
 
 -- ---- a target by its values
+
+-- a walk is over where no more of its kind stands, be it at the end of the bytes
+pub records-over : {X : Type 0} {look : List ℕ → Got ℕ} {more : List ℕ → Bool} {weight : X → Sizes} {mark : X → Bool} {key : X → ℕ} {step : Step X} {whole : Walked} {s : List ℕ} {p : ℕ} {a : Sizes} {m : Bool}
+    {top low : ℕ} → Going look more weight mark key step whole s p a m top low → more (drop p s) ≡ false → (Good a m ≡ whole) × Within (Good a m) (length s)
+records-over {whole = whole} {s = s} {p = p} {a = a} {m = m} g n = go (leb (length s) p) refl
+  where
+    go : (t : Bool) → leb (length s) p ≡ t → (Good a m ≡ whole) × Within (Good a m) (length s)
+    go true e = turn-done g (leb-true _ _ e)
+    go false e = turn-over g (leb-false _ _ e) n
 
 module _ (f : Form) (seen u : List ℕ) (i : ℕ) (k : TargetStood f seen u i) where
   pub target-inside : (n q : ℕ) → run (is TI) tagOfVal (valueAt pack f) (drop 10 u) ≡ refused n q → targetAt f seen u ≡ refused n (10 + q)

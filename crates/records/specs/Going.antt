@@ -1,12 +1,13 @@
 -- The walk over a level's records while it goes, and a record that is told at a glance.
 use mathlib.Core.Path.{_≡_}
 use Prim.Native.Nat.{ℕ, _+_, _<_}
-use mathlib.Core.Bool.{Bool, true, false}
+use mathlib.Core.Bool.{Bool, true, false, not, _||_}
 use mathlib.Core.List.{List}
-use lib.ListN.{drop, getD}
+use lib.ListN.{take, drop, getD}
 use lib.Dec.{eqb}
-use Rattle.format.specs.Table.{Form, pack}
-use Rattle.format.specs.Sheet.{tagOfPart, TI, is, field}
+use Rattle.format.specs.Coding.{bytesNumber}
+use Rattle.format.specs.Table.{Form, isSet, isAlone}
+use Rattle.format.specs.Sheet.{tagOfPart, markOf, is, field}
 use Rattle.items.specs.Meet.{levelOf}
 use Rattle.items.specs.Quick.{Quick}
 use Rattle.heads.specs.Meet.{peek}
@@ -21,9 +22,29 @@ abbrev pub RecordsGoing : Bool → Form → List ℕ → ℕ → Sizes → Bool 
 RecordsGoing b f s p a m top low =
     Going (peek true false b) (moreAt (levelOf b)) (weightAt (levelOf b)) (λ x. eqb (tagOfPart x) (markTag (levelOf b))) tagOfPart (partStep (levelOf b) f) (recordsWalk (levelOf b) f s) s p a m top low
 
--- a `TI` at p whose tag is above top, and whose value of n bytes is told at a glance
-pub record Glanced (f : Form) (s : List ℕ) (p top tag n : ℕ) : Type 0 where
-  pub mark : is TI (drop p s) ≡ true
-  pub fields : Whole tag n ≡ fieldAnswer (field pack (drop 2 (drop p s)))
-  pub quick : Quick pack f tag n (getD s (p + 6) 0)
+-- the tag of a record at p, and its mark before a tag of 0, as one number
+abbrev pub tagAt : List ℕ → ℕ → ℕ
+tagAt s p = bytesNumber (take 2 (drop 2 (drop p s)))
+
+abbrev pub wordOf : Bool → ℕ
+wordOf true = 0x49540000
+wordOf false = 0x54490000
+
+-- a tag may stand at p, if that is where the level begins
+abbrev pub Begun : Bool → Form → ℕ → ℕ → Type 0
+Begun b f p tag = not (isSet (levelOf b)) || not (isAlone f) || not (eqb p 0) || eqb tag 2 ≡ true
+
+-- a level's record at p, told at a glance, that ends at next, and whose tag is above top
+pub record Glanced (b : Bool) (f : Form) (s : List ℕ) (p top next : ℕ) : Type 0 where
+  pub tag : ℕ
+  pub n : ℕ
+  pub next-is : next ≡ p + 6 + n
+  pub head : bytesNumber (take 4 (drop p s)) ≡ wordOf b + tag
+  pub mark : is (markOf (levelOf b)) (drop p s) ≡ true
+  pub fields : Whole tag n ≡ fieldAnswer (field (levelOf b) (drop 2 (drop p s)))
+  pub quick : Quick (levelOf b) f tag n (getD s (p + 6) 0)
   pub above : top < tag
+  pub small : tag < 128
+  pub few : n < 128
+  pub tag-is : tag ≡ tagAt s p
+  pub begins : Begun b f p tag

@@ -138,7 +138,7 @@ pub fn item_records(table: &[u64], s: &[u8], set: bool, alone: bool) -> Walked
     requires { ⌜ (now table ≡ itemTable) × (length (now s) ≤ 65536) ⌝ }
     ensures { λ r. ⌜ (r ≡ recordsWalk (levelOf set) (formOf alone) (now (s .entry))) × Within r (length (now (s .entry))) ⌝ }
 {
-    let q = quick::start(table, s, set, alone);
+    let q = quick::run(table, s, set, alone);
     let mut p = q.at;
     let mut sum = q.sizes;
     let mut mark = q.mark;
@@ -207,7 +207,23 @@ pub fn target_records(table: &[u64], s: &[u8], alone: bool) -> Walked
             return walks::stop(a, p);
         };
         let from = p + 10;
-        let w = item_records(table, &s[from..], false, alone);
+        let items = &s[from..];
+        let q = quick::run(table, items, false, alone);
+        let all = q.sizes;
+        let w = if goes_on(items, q.at, false) {
+            item_records(table, items, false, alone)
+        } else {
+            // field by field: a copy of the whole would wait for what was just stored
+            Walked::Good {
+                sizes: Sizes {
+                    sheet: all.sheet,
+                    rows: all.rows,
+                    normal: all.normal,
+                    inner: all.inner,
+                },
+                mark: q.mark,
+            }
+        };
         let Walked::Good { sizes, mark } = w else {
             return walks::later(w, from);
         };
@@ -247,5 +263,5 @@ pub enum Sheeted {
     },
 }
 
-pub mod quick; // quick.rt: the quick way over a target
+pub mod quick; // quick.rt: the quick way over a level
 pub mod whole; // whole.rt: the whole sheet

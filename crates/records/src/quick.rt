@@ -1,107 +1,108 @@
-// The quick way over a target's records: `TI`s told at a glance, tags rising, from its start. What stops it is left to the walk.
+// The quick way over a level's records: told at a glance, with tag and length below 128, tags rising, from its start. What stops it is
+// left to the walk.
 ghost use mathlib.Core.Path.{_≡_};
-ghost use Prim.Native.Nat.{_≤_, _<_};
-ghost use mathlib.Core.Bool.{false};
+ghost use Prim.Native.Nat.{_-_, _≤_, _<_};
 ghost use lib.ListN.{length};
 ghost use Rattle.items.specs.Meet.{formOf, itemTable};
-ghost use Rattle.records.specs.Going.{RecordsGoing, Glanced};
-use heads::records::Field;
+ghost use Rattle.records.specs.Going.{RecordsGoing, Begun, Glanced, tagAt, wordOf};
 use walks::Sizes;
 use walks::quick::Quick;
 
-// A tag, and how many bytes its value has; 0 where no such record stands.
-struct Told {
-    tag: u64,
-    size: usize,
+// `IT` or `TI`, before a tag, as one number.
+fn word_of(set: bool) -> u64
+    ensures { λ r. ⌜ (r ≡ wordOf set) × (r < 4294967296) ⌝ }
+{
+    if set { 0x49540000 } else { 0x54490000 }
 }
 
-fn nothing() -> Told
-    ensures { λ r. ⌜ r .size ≡ 0 ⌝ }
+// How far such a record may begin: six bytes and a value have room there, and what begins the level may.
+fn span(s: &[u8], set: bool, alone: bool) -> usize
+    ensures { λ r. ⌜ (r ≤ length (now (s .entry)) - 6) × (0 < r → Begun set (formOf alone) 0 (tagAt (now (s .entry)) 0)) ⌝ }
 {
-    Told { tag: 0, size: 0 }
-}
-
-// Such a `TI` at p, its tag above top.
-fn glance(table: &[u64], s: &[u8], p: usize, alone: bool, top: u64) -> Told
-    requires { ⌜ (now table ≡ itemTable) × (p ≤ length (now s)) ⌝ }
-    ensures { λ r. ⌜ (0 < r .size → Glanced (formOf alone) (now (s .entry)) p top (r .tag) (r .size)) ⌝ }
-{
-    if heads::records::is_mark(s, p, b'T', b'I') {
-        let h = heads::records::field_of(&s[p..], false);
-        let Field::Whole { tag, size } = h else {
-            return nothing();
-        };
-        if size == 0 {
-            return nothing();
-        }
-        if tag <= top {
-            return nothing();
-        }
-        if items::quick::is_quick(table, false, alone, tag, size as u64, s[p + 6]) {
-            return Told { tag, size };
-        }
-        return nothing();
+    if s.len() < 7 {
+        return 0;
     }
-    nothing()
+    let tag = coding::number_of(&s[2..], 2);
+    if items::begins(set, alone, tag, true) {
+        return s.len() - 6;
+    }
+    0
 }
 
-// Where the walk over a target goes on, and what was walked till there.
-fn run(table: &[u64], s: &[u8], alone: bool) -> Quick
-    requires { ⌜ (now table ≡ itemTable) × (length (now s) ≤ 65536) ⌝ }
-    ensures { λ r. ⌜ RecordsGoing false (formOf alone) (now (s .entry)) (r .at) (r .sizes) (r .mark) (r .top) (r .low) ⌝ }
+// Where such a record at p ends, its tag above top; 0 where it is no such record.
+fn glance(table: &[u64], s: &[u8], p: usize, most: usize, set: bool, alone: bool, top: u64) -> usize
+    requires { ⌜ (now table ≡ itemTable) × (length (now s) ≤ 65536) × (most ≤ length (now s) - 6) × (0 < most → Begun set (formOf alone) 0 (tagAt (now s) 0)) × (top < 128) ⌝ }
+    ensures { λ r. ⌜ (0 < r → Glanced set (formOf alone) (now (s .entry)) p top r) ⌝ }
 {
+    if most <= p {
+        return 0;
+    }
+    // mark and tag as one number
+    let head = coding::number_of(&s[p..], 4);
+    let word = word_of(set);
+    if head <= word + top {
+        return 0;
+    }
+    let tag = head - word;
+    if 127 < tag {
+        return 0;
+    }
+    let n = coding::number_of(&s[p + 4..], 2);
+    if 127 < n {
+        return 0;
+    }
+    let next = p + 6 + (n as usize);
+    if s.len() < next {
+        return 0;
+    }
+    if items::quick::is_quick(table, set, alone, tag, n, s[p + 6]) {
+        return next;
+    }
+    0
+}
+
+// The first tag, which is the lowest where tags rise.
+fn first_tag(s: &[u8]) -> u64
+    ensures { λ r. ⌜ (6 < length (now (s .entry)) → r ≡ tagAt (now (s .entry)) 0) ⌝ }
+{
+    if s.len() < 4 {
+        return 0;
+    }
+    coding::number_of(&s[2..], 2)
+}
+
+// The records told at a glance, one after another: where the walk over a level goes on, and what was walked till there.
+pub fn run(table: &[u64], s: &[u8], set: bool, alone: bool) -> Quick
+    requires { ⌜ (now table ≡ itemTable) × (length (now s) ≤ 65536) ⌝ }
+    ensures { λ r. ⌜ RecordsGoing set (formOf alone) (now (s .entry)) (r .at) (r .sizes) (r .mark) (r .top) (r .low) ⌝ }
+{
+    let most = span(s, set, alone);
+    let low = first_tag(s);
     let mut p: usize = 0;
     let mut count: usize = 0;
     let mut mark = false;
     let mut top: u64 = 0;
-    let mut low: u64 = 18446744073709551615;
-    let first = glance(table, s, 0, alone, 0);
-    let mut tag = first.tag;
-    let mut n = first.size;
-    while 0 < n {
-        mark = walks::either(mark, walks::is_mark(false, tag));
-        low = walks::smaller(low, tag);
+    loop {
+        let next = glance(table, s, p, most, set, alone, top);
+        if next == 0 {
+            let sizes = Sizes {
+                sheet: p,
+                rows: count,
+                normal: p - 4 * count,
+                inner: 0,
+            };
+            return Quick {
+                at: p,
+                sizes,
+                mark,
+                top,
+                low,
+            };
+        }
+        let tag = coding::number_of(&s[p..], 4) - word_of(set);
+        mark = walks::either(mark, walks::is_mark(set, tag));
         top = tag;
         count += 1;
-        p = p + 6 + n;
-        let g = glance(table, s, p, alone, tag);
-        tag = g.tag;
-        n = g.size;
+        p = next;
     }
-    let sizes = Sizes {
-        sheet: p,
-        rows: count,
-        normal: p - 4 * count,
-        inner: 0,
-    };
-    Quick {
-        at: p,
-        sizes,
-        mark,
-        top,
-        low,
-    }
-}
-
-// Where the walk over a level begins: in the set, at its start.
-pub fn start(table: &[u64], s: &[u8], set: bool, alone: bool) -> Quick
-    requires { ⌜ (now table ≡ itemTable) × (length (now s) ≤ 65536) ⌝ }
-    ensures { λ r. ⌜ RecordsGoing set (formOf alone) (now (s .entry)) (r .at) (r .sizes) (r .mark) (r .top) (r .low) ⌝ }
-{
-    if set {
-        let none = Sizes {
-            sheet: 0,
-            rows: 0,
-            normal: 0,
-            inner: 0,
-        };
-        return Quick {
-            at: 0,
-            sizes: none,
-            mark: false,
-            top: 0,
-            low: 18446744073709551615,
-        };
-    }
-    run(table, s, alone)
 }

@@ -10,14 +10,15 @@ use borrow.Author.Needs.{needs}
 use borrow.Author.Tests.{not-true, not-false}
 use borrow.Fn.Kinds.{In}
 use borrow.Fn.PlainCycle.{Measures, is, falls, and}
-use Rattle.format.specs.Table.{isAlone}
+use Rattle.format.specs.Table.{pack, isAlone}
 use Rattle.items.specs.Meet.{formOf}
-use Rattle.walks.specs.Meet.{plusSizes}
-use Rattle.walks.proofs.Turns.{within-more, turn-done, turn-over}
+use Rattle.walks.specs.Meet.{plusSizes, Within}
+use Rattle.walks.proofs.Turns.{within-more, told-as, turn-done, turn-over}
+use Rattle.records.specs.Meet.{recordsWalk}
 use Rattle.records.specs.Going.{RecordsGoing}
 use Rattle.walks.proofs.ItemTurns.{depth, series-deep}
 use Rattle.records.proofs.PartTurns.{PartAt, piece-fault, PartTold, item-small, item-told, series-room, lent-small, series-told, part-bad, bad-within, part-room, good-small, part-more}
-use Rattle.records.proofs.TargetTurns.{TargetAt, TargetsGoing, targets-start, head-fault, target-room, vals-within, vals-fault, next-room, vals-small, no-location, target-small, target-more}
+use Rattle.records.proofs.TargetTurns.{TargetAt, TargetsGoing, targets-start, records-over, head-fault, target-room, vals-within, vals-fault, next-room, vals-small, no-location, target-small, target-more}
 use Rattle.records.proofs.TargetTurns as target-turns
 use Rattle.records.proofs.item_records.Reads as item-records
 use Rattle.records.proofs.item_records.Kinds as item-records-kinds
@@ -28,7 +29,7 @@ use Rattle.records.proofs.+item_records+target_records.Lts-target_recor
 use Rattle.coding.proofs.widths.oid_width.Reads as oid-width-reads
 use Rattle.heads.proofs.records.is_mark.Reads as is-mark-reads
 use Rattle.records.proofs.goes_on.Reads as goes-on-reads
-use Rattle.records.proofs.quick.start.Reads as start-reads
+use Rattle.records.proofs.quick.run.Reads as run-reads
 use Rattle.walks.proofs.later.Reads as later-reads
 use Rattle.records.proofs.part_at.Reads as part-at-reads
 use Rattle.walks.proofs.series_of.Reads as series-of-reads
@@ -81,10 +82,10 @@ target-records-below t =
 
 -- what is known of the callees, the other walk's at a smaller measure
 abbrev item-claims : ℕ → item-records-lts.Claims
-item-claims t = (start-reads.Asked, start-reads.Learnt, goes-on-reads.Asked, goes-on-reads.Learnt, part-at-reads.Asked, part-at-reads.Learnt, stop-reads.Asked, stop-reads.Learnt, is-series-reads.Asked, is-series-reads.Learnt, target-records-below t, target-records.Post, series-of-reads.Asked, series-of-reads.Learnt, one-item-reads.Asked, one-item-reads.Learnt, later-reads.Asked, later-reads.Learnt, plus-reads.Asked, plus-reads.Learnt, either-reads.Asked, either-reads.Learnt, larger-reads.Asked, larger-reads.Learnt, smaller-reads.Asked, smaller-reads.Learnt)
+item-claims t = (run-reads.Asked, run-reads.Learnt, goes-on-reads.Asked, goes-on-reads.Learnt, part-at-reads.Asked, part-at-reads.Learnt, stop-reads.Asked, stop-reads.Learnt, is-series-reads.Asked, is-series-reads.Learnt, target-records-below t, target-records.Post, series-of-reads.Asked, series-of-reads.Learnt, one-item-reads.Asked, one-item-reads.Learnt, later-reads.Asked, later-reads.Learnt, plus-reads.Asked, plus-reads.Learnt, either-reads.Asked, either-reads.Learnt, larger-reads.Asked, larger-reads.Learnt, smaller-reads.Asked, smaller-reads.Learnt)
 
 abbrev target-claims : ℕ → target-records-lts.Claims
-target-claims t = (is-mark-reads.Asked, is-mark-reads.Learnt, target-at-reads.Asked, target-at-reads.Learnt, stop-reads.Asked, stop-reads.Learnt, item-records-below t, item-records.Post, later-reads.Asked, later-reads.Learnt, either-reads.Asked, either-reads.Learnt, oid-width-reads.Asked, oid-width-reads.Learnt, pack-sizes-reads.Asked, pack-sizes-reads.Learnt, plus-reads.Asked, plus-reads.Learnt, larger-reads.Asked, larger-reads.Learnt, smaller-reads.Asked, smaller-reads.Learnt)
+target-claims t = (is-mark-reads.Asked, is-mark-reads.Learnt, target-at-reads.Asked, target-at-reads.Learnt, stop-reads.Asked, stop-reads.Learnt, run-reads.Asked, run-reads.Learnt, goes-on-reads.Asked, goes-on-reads.Learnt, item-records-below t, item-records.Post, later-reads.Asked, later-reads.Learnt, either-reads.Asked, either-reads.Learnt, oid-width-reads.Asked, oid-width-reads.Learnt, pack-sizes-reads.Asked, pack-sizes-reads.Learnt, plus-reads.Asked, plus-reads.Learnt, larger-reads.Asked, larger-reads.Learnt, smaller-reads.Asked, smaller-reads.Learnt)
 
 abbrev item-records-Inv-loop : item-records-lts.InvT-loop
 item-records-Inv-loop table s set alone p₀ sum₀ mark₀ top₀ low₀ p sum mark top low = RecordsGoing set (formOf alone) s p sum mark top low
@@ -115,11 +116,11 @@ part-told-at t j =
     (λ x. item-told (part-here t a) (j .before .is-series .ensures) (x .0 .left) (x .2 ∙ x .1 .ensures))
     (j .if2 .came)
 
-item-records-start-requires : (t : ℕ) → item-records-lts.Need-start-requires (item-claims t) (item-records-at t) item-records.Post item-records-Inv-loop item-records-μ-loop
-item-records-start-requires t c κs = c .before .before .pre .1
+item-records-run-requires : (t : ℕ) → item-records-lts.Need-run-requires (item-claims t) (item-records-at t) item-records.Post item-records-Inv-loop item-records-μ-loop
+item-records-run-requires t c κs = c .before .before .pre .1
 
 item-records-loop-holds : (t : ℕ) → item-records-lts.Need-loop-holds (item-claims t) (item-records-at t) item-records.Post item-records-Inv-loop item-records-μ-loop
-item-records-loop-holds t c = c .before .start .ensures
+item-records-loop-holds t c = c .before .run .ensures
 
 item-records-goes-on-requires : (t : ℕ) → item-records-lts.Need-goes-on-requires (item-claims t) (item-records-at t) item-records.Post item-records-Inv-loop item-records-μ-loop
 item-records-goes-on-requires t c κs = search needs
@@ -285,25 +286,42 @@ target-records-add-from t c =
     let a = c .before in
     omega (arith, target-room (target-here t a) .0, a .before .before .before .before .before .before .before .before .before .pre .1 .1)
 
-target-records-sub-item-records : (t : ℕ) → target-records-lts.Need-sub-item-records (target-claims t) (target-records-at t) target-records.Post target-records-Inv-loop target-records-μ-loop
-target-records-sub-item-records t c =
+target-records-sub-items : (t : ℕ) → target-records-lts.Need-sub-items (target-claims t) (target-records-at t) target-records.Post target-records-Inv-loop target-records-μ-loop
+target-records-sub-items t c =
     let a = c .before in
     omega (arith, target-room (target-here t a) .0, a .before .before .before .before .before .before .before .before .before .pre .1 .1)
 
-target-records-part-item-records-start : (t : ℕ) → target-records-lts.Need-part-item-records-start (target-claims t) (target-records-at t) target-records.Post target-records-Inv-loop target-records-μ-loop
-target-records-part-item-records-start t c =
+target-records-part-items-start : (t : ℕ) → target-records-lts.Need-part-items-start (target-claims t) (target-records-at t) target-records.Post target-records-Inv-loop target-records-μ-loop
+target-records-part-items-start t c =
     let a = c .before in
     omega (arith, target-room (target-here t a) .0, a .before .before .before .before .before .before .before .before .before .pre .1 .1)
 
-target-records-part-item-records-end : (t : ℕ) → target-records-lts.Need-part-item-records-end (target-claims t) (target-records-at t) target-records.Post target-records-Inv-loop target-records-μ-loop
-target-records-part-item-records-end t c =
+target-records-part-items-end : (t : ℕ) → target-records-lts.Need-part-items-end (target-claims t) (target-records-at t) target-records.Post target-records-Inv-loop target-records-μ-loop
+target-records-part-items-end t c =
     let a = c .before in
     omega (arith, target-room (target-here t a) .0, a .before .before .before .before .before .before .before .before .before .pre .1 .1)
+
+target-records-run-requires : (t : ℕ) → target-records-lts.Need-run-requires (target-claims t) (target-records-at t) target-records.Post target-records-Inv-loop target-records-μ-loop
+target-records-run-requires t c κs =
+    let a = c .before .before in
+    (a .before .before .before .before .before .before .before .before .before .pre .1 .0, target-turns.lent-small (target-here t a))
+
+target-records-goes-on-requires : (t : ℕ) → target-records-lts.Need-goes-on-requires (target-claims t) (target-records-at t) target-records.Post target-records-Inv-loop target-records-μ-loop
+target-records-goes-on-requires t c κs = search needs
 
 target-records-item-records-requires : (t : ℕ) → target-records-lts.Need-item-records-requires (target-claims t) (target-records-at t) target-records.Post target-records-Inv-loop target-records-μ-loop
 target-records-item-records-requires t c κs =
-    let a = c .before .before in
+    let a = c .before .before .before .before .before .before in
     (omega (arith, a .before .before .before .before .before .before .before .before .before .pre .0), (a .before .before .before .before .before .before .before .before .before .pre .1 .0, target-turns.lent-small (target-here t a)))
+
+-- what the records of a target say, whichever way they were walked
+target-told : (t : ℕ) (j : target-records-lts.Joined2 (target-claims t) (target-records-at t) target-records.Post target-records-Inv-loop target-records-μ-loop)
+    → (j .if2 .w ≡ recordsWalk pack (formOf (j .before .before .before .before .before .before .before .before .before .before .before .before .before .before .before .args .alone)) (target-turns.lent (target-here t (j .before .before .before .before .before .before)))) × Within (j .if2 .w) (length (target-turns.lent (target-here t (j .before .before .before .before .before .before))))
+target-told t j =
+    ⊎-elim
+    (λ x. told-as _ (x .2) (x .1 .ensures))
+    (λ x. told-as _ (x .1) (records-over (j .before .before .before .run .ensures) (sym (j .before .goes-on .ensures) ∙ x .0 .left)))
+    (j .if2 .came)
 
 target-records-enum-known-w : (t : ℕ) → target-records-lts.Need-enum-known-w (target-claims t) (target-records-at t) target-records.Post target-records-Inv-loop target-records-μ-loop
 target-records-enum-known-w t c = search needs
@@ -313,31 +331,31 @@ target-records-enum-told-2 t c = search needs
 
 target-records-later-requires : (t : ℕ) → target-records-lts.Need-later-requires (target-claims t) (target-records-at t) target-records.Post target-records-Inv-loop target-records-μ-loop
 target-records-later-requires t c κs =
-    let a = c .before .before .before .before .before in
-    vals-within (target-here t a) (c .before .before .item-records .ensures)
+    let a = c .before .before .before .before .before .before .before .before in
+    vals-within (target-here t a) (target-told t (c .before .before))
 
 target-records-returns-3 : (t : ℕ) → target-records-lts.Need-returns-3 (target-claims t) (target-records-at t) target-records.Post target-records-Inv-loop target-records-μ-loop
 target-records-returns-3 t c =
-    let a = c .before .before .before .before .before .before in
-    vals-fault (target-here t a) (c .before .before .before .item-records .ensures) (c .before .enum-told2 .given .1) (c .later .ensures)
+    let a = c .before .before .before .before .before .before .before .before .before in
+    vals-fault (target-here t a) (target-told t (c .before .before .before)) (c .before .enum-told2 .given .1) (c .later .ensures)
 
 target-records-either-requires : (t : ℕ) → target-records-lts.Need-either-requires (target-claims t) (target-records-at t) target-records.Post target-records-Inv-loop target-records-μ-loop
 target-records-either-requires t c κs = search needs
 
 target-records-oid-width-requires : (t : ℕ) → target-records-lts.Need-oid-width-requires (target-claims t) (target-records-at t) target-records.Post target-records-Inv-loop target-records-μ-loop
 target-records-oid-width-requires t c κs =
-    let a = c .before .before .before .before .before .before .before .before in
+    let a = c .before .before .before .before .before .before .before .before .before .before .before in
     target-room (target-here t a) .1
 
 target-records-pack-sizes-requires : (t : ℕ) → target-records-lts.Need-pack-sizes-requires (target-claims t) (target-records-at t) target-records.Post target-records-Inv-loop target-records-μ-loop
 target-records-pack-sizes-requires t c κs =
-    let a = c .before .before .before .before .before .before .before .before .before in
-    (c .oid-width .ensures .1, vals-small (target-here t a) (c .before .before .before .before .before .before .item-records .ensures) (c .before .before .before .before .w .given .1))
+    let a = c .before .before .before .before .before .before .before .before .before .before .before .before in
+    (c .oid-width .ensures .1, vals-small (target-here t a) (target-told t (c .before .before .before .before .before .before)) (c .before .before .before .before .w .given .1))
 
 target-records-plus-requires : (t : ℕ) → target-records-lts.Need-plus-requires (target-claims t) (target-records-at t) target-records.Post target-records-Inv-loop target-records-μ-loop
 target-records-plus-requires t c κs =
-    let a = c .before .before .before .before .before .before .before .before .before .before in
-    target-small (target-here t a) (c .before .before .before .before .before .before .before .item-records .ensures) (c .before .before .before .before .before .w .given .1) (c .before .oid-width .ensures) (c .pack-sizes .ensures)
+    let a = c .before .before .before .before .before .before .before .before .before .before .before .before .before in
+    target-small (target-here t a) (target-told t (c .before .before .before .before .before .before .before)) (c .before .before .before .before .before .w .given .1) (c .before .oid-width .ensures) (c .pack-sizes .ensures)
 
 target-records-larger-requires : (t : ℕ) → target-records-lts.Need-larger-requires (target-claims t) (target-records-at t) target-records.Post target-records-Inv-loop target-records-μ-loop
 target-records-larger-requires t c κs = search needs
@@ -347,23 +365,23 @@ target-records-smaller-requires t c κs = search needs
 
 target-records-add-p : (t : ℕ) → target-records-lts.Need-add-p (target-claims t) (target-records-at t) target-records.Post target-records-Inv-loop target-records-μ-loop
 target-records-add-p t c =
-    let a = c .before .before .before .before .before .before .before .before .before .before .before .before .before .before in
-    omega (arith, next-room (target-here t a) (c .before .before .before .before .before .before .before .before .before .before .before .item-records .ensures) (c .before .before .before .before .before .before .before .before .before .w .given .1), a .before .before .before .before .before .before .before .before .before .pre .1 .1)
+    let a = c .before .before .before .before .before .before .before .before .before .before .before .before .before .before .before .before .before in
+    omega (arith, next-room (target-here t a) (target-told t (c .before .before .before .before .before .before .before .before .before .before .before)) (c .before .before .before .before .before .before .before .before .before .w .given .1), a .before .before .before .before .before .before .before .before .before .pre .1 .1)
 
 target-records-loop-less : (t : ℕ) → target-records-lts.Need-loop-less (target-claims t) (target-records-at t) target-records.Post target-records-Inv-loop target-records-μ-loop
 target-records-loop-less t c =
-    let a = c .before .before .before .before .before .before .before .before .before .before .before .before .before .before in
-    omega (arith, next-room (target-here t a) (c .before .before .before .before .before .before .before .before .before .before .before .item-records .ensures) (c .before .before .before .before .before .before .before .before .before .w .given .1), a .before .before .before .before .before .loop-test .taken)
+    let a = c .before .before .before .before .before .before .before .before .before .before .before .before .before .before .before .before .before in
+    omega (arith, next-room (target-here t a) (target-told t (c .before .before .before .before .before .before .before .before .before .before .before)) (c .before .before .before .before .before .before .before .before .before .w .given .1), a .before .before .before .before .before .loop-test .taken)
 
 target-records-loop-again : (t : ℕ) → target-records-lts.Need-loop-again (target-claims t) (target-records-at t) target-records.Post target-records-Inv-loop target-records-μ-loop
 target-records-loop-again t c =
-    let a = c .before .before .before .before .before .before .before .before .before .before .before .before .before .before in
-    target-more (target-here t a) (c .before .before .before .before .before .before .before .before .before .before .before .item-records .ensures) (c .before .before .before .before .before .before .before .before .before .w .given .1) (c .before .before .before .before .before .oid-width .ensures) (either-is (a .before .before .before .before .before .before .before .before .before .args .alone) _ (c .before .before .before .before .before .before .before .either .ensures)) (c .before .before .before .before .before .before .if2 .taken) (c .before .before .before .plus .ensures ∙ ap (plusSizes _) (c .before .before .before .before .pack-sizes .ensures)) (c .before .before .larger .ensures) (c .before .smaller .ensures)
+    let a = c .before .before .before .before .before .before .before .before .before .before .before .before .before .before .before .before .before in
+    target-more (target-here t a) (target-told t (c .before .before .before .before .before .before .before .before .before .before .before)) (c .before .before .before .before .before .before .before .before .before .w .given .1) (c .before .before .before .before .before .oid-width .ensures) (either-is (a .before .before .before .before .before .before .before .before .before .args .alone) _ (c .before .before .before .before .before .before .before .either .ensures)) (c .before .before .before .before .before .before .if3 .taken) (c .before .before .before .plus .ensures ∙ ap (plusSizes _) (c .before .before .before .before .pack-sizes .ensures)) (c .before .before .larger .ensures) (c .before .smaller .ensures)
 
 target-records-returns-4 : (t : ℕ) → target-records-lts.Need-returns-4 (target-claims t) (target-records-at t) target-records.Post target-records-Inv-loop target-records-μ-loop
 target-records-returns-4 t c =
-    let a = c .before .before .before .before .before .before .before .before in
-    no-location (target-here t a) (c .before .before .before .before .before .item-records .ensures) (c .before .before .before .w .given .1) (either-is (a .before .before .before .before .before .before .before .before .before .args .alone) _ (c .before .either .ensures)) (c .if2 .left) refl
+    let a = c .before .before .before .before .before .before .before .before .before .before .before in
+    no-location (target-here t a) (target-told t (c .before .before .before .before .before)) (c .before .before .before .w .given .1) (either-is (a .before .before .before .before .before .before .before .before .before .args .alone) _ (c .before .either .ensures)) (c .if3 .left) refl
 
 target-records-returns-5 : (t : ℕ) → target-records-lts.Need-returns-5 (target-claims t) (target-records-at t) target-records.Post target-records-Inv-loop target-records-μ-loop
 target-records-returns-5 t c = turn-done (c .before .loop .inv) (c .loop-test .left)
@@ -372,7 +390,7 @@ pub +item-records+target-records-spec : {M : Type 1} → statement M
 +item-records+target-records-spec =
     close μ-item-records μ-target-records
     (λ t. item-records-lts.spec (item-claims t) (item-records-at t) item-records.Post item-records-Inv-loop item-records-μ-loop
-    (item-records-start-requires t) (item-records-loop-holds t) (item-records-goes-on-requires t) (item-records-returns t) (item-records-part-at-requires t)
+    (item-records-run-requires t) (item-records-loop-holds t) (item-records-goes-on-requires t) (item-records-returns t) (item-records-part-at-requires t)
     (item-records-enum-known-a t) (item-records-enum-told t) (item-records-stop-requires t) (item-records-returns-2 t)
     (item-records-is-series-requires t) (item-records-add-target-records t) (item-records-sub-target-records t) (item-records-part-target-records-start t)
     (item-records-part-target-records-end t) (item-records-target-records-requires t) (item-records-series-of-requires t) (item-records-one-item-requires t)
@@ -382,7 +400,8 @@ pub +item-records+target-records-spec : {M : Type 1} → statement M
     (λ t. target-records-lts.spec (target-claims t) (target-records-at t) target-records.Post target-records-Inv-loop target-records-μ-loop
     (target-records-loop-holds t) (target-records-is-mark-requires t) (target-records-returns t) (target-records-target-at-requires t)
     (target-records-enum-known-a t) (target-records-enum-told t) (target-records-stop-requires t) (target-records-returns-2 t)
-    (target-records-add-from t) (target-records-sub-item-records t) (target-records-part-item-records-start t) (target-records-part-item-records-end t)
+    (target-records-add-from t) (target-records-sub-items t) (target-records-part-items-start t) (target-records-part-items-end t)
+    (target-records-run-requires t) (target-records-goes-on-requires t)
     (target-records-item-records-requires t) (target-records-enum-known-w t) (target-records-enum-told-2 t) (target-records-later-requires t)
     (target-records-returns-3 t) (target-records-either-requires t) (target-records-oid-width-requires t) (target-records-pack-sizes-requires t)
     (target-records-plus-requires t) (target-records-larger-requires t) (target-records-smaller-requires t) (target-records-add-p t)

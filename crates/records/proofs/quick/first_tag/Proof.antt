@@ -1,0 +1,34 @@
+-- `records::quick::first_tag` meets its contract.
+use borrow.Author.Needs.{needs}
+use Rattle.coding.proofs.Rooms.{tail-part}
+use Rattle.records.proofs.quick.first_tag.Statement.{statement}
+use Rattle.records.proofs.quick.first_tag.Tie as tie
+
+returns : tie.Need-returns
+returns c = search needs
+
+sub-number-of : tie.Need-sub-number-of
+sub-number-of c = search needs
+
+part-number-of-start : tie.Need-part-number-of-start
+part-number-of-start c = search needs
+
+part-number-of-end : tie.Need-part-number-of-end
+part-number-of-end c = search needs
+
+number-of-requires : tie.Need-number-of-requires
+number-of-requires c κs = search needs
+
+returns-2 : tie.Need-returns-2
+returns-2 c = λ h. rw tail-part at (c .number-of .ensures)
+
+pub first-tag-spec : {M : Type 1} → statement M
+first-tag-spec =
+    tie.close
+    (tie.spec
+    returns
+    sub-number-of
+    part-number-of-start
+    part-number-of-end
+    number-of-requires
+    returns-2)

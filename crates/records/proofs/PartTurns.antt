@@ -69,7 +69,7 @@ told-bad {n = n} {q = q} e l = record {
 }
 
 -- an item: no sheet has a checksum
-pub item-is : (l : Level) (tag n : ℕ) → isSet l && eqb tag 1 ≡ false → itemSizes l tag n ≡ sizes (6 + n) 1 (length (oidBytes tag) + lengthened n) 0
+item-is : (l : Level) (tag n : ℕ) → isSet l && eqb tag 1 ≡ false → itemSizes l tag n ≡ sizes (6 + n) 1 (length (oidBytes tag) + lengthened n) 0
 unfolding itemSizes
 item-is l tag n z = rw (z, itemSizes)
 

@@ -3,9 +3,8 @@ use mathlib.Core.Path.{_≡_}
 use Prim.Native.Nat.{ℕ, _+_, _<_}
 use mathlib.Core.Bool.{Bool, true, false, not, _||_}
 use mathlib.Core.List.{List}
-use lib.ListN.{take, drop, getD}
+use lib.ListN.{drop, getD}
 use lib.Dec.{eqb}
-use Rattle.format.specs.Coding.{bytesNumber}
 use Rattle.format.specs.Table.{Form, isSet, isAlone}
 use Rattle.format.specs.Sheet.{tagOfPart, markOf, is, field}
 use Rattle.items.specs.Meet.{levelOf}
@@ -22,29 +21,21 @@ abbrev pub RecordsGoing : Bool → Form → List ℕ → ℕ → Sizes → Bool 
 RecordsGoing b f s p a m top low =
     Going (peek true false b) (moreAt (levelOf b)) (weightAt (levelOf b)) (λ x. eqb (tagOfPart x) (markTag (levelOf b))) tagOfPart (partStep (levelOf b) f) (recordsWalk (levelOf b) f s) s p a m top low
 
--- the tag of a record at p, and its mark before a tag of 0, as one number
-abbrev pub tagAt : List ℕ → ℕ → ℕ
-tagAt s p = bytesNumber (take 2 (drop 2 (drop p s)))
+-- a target's walk from its start, as far as a quick way took it
+abbrev pub TargetRan : Form → List ℕ → Sizes → Bool → Type 0
+TargetRan f s a m = (top : ℕ) × RecordsGoing false f s (a .sheet) a m top 0
 
+-- the mark of a level's records before a tag of 0, as one number
 abbrev pub wordOf : Bool → ℕ
 wordOf true = 0x49540000
 wordOf false = 0x54490000
 
--- a tag may stand at p, if that is where the level begins
-abbrev pub Begun : Bool → Form → ℕ → ℕ → Type 0
-Begun b f p tag = not (isSet (levelOf b)) || not (isAlone f) || not (eqb p 0) || eqb tag 2 ≡ true
-
--- a level's record at p, told at a glance, that ends at next, and whose tag is above top
-pub record Glanced (b : Bool) (f : Form) (s : List ℕ) (p top next : ℕ) : Type 0 where
-  pub tag : ℕ
-  pub n : ℕ
-  pub next-is : next ≡ p + 6 + n
-  pub head : bytesNumber (take 4 (drop p s)) ≡ wordOf b + tag
+-- a level's record at p, told at a glance, whose tag is above top, and whose value has n bytes
+pub record Glanced (b : Bool) (f : Form) (s : List ℕ) (p top tag n : ℕ) : Type 0 where
   pub mark : is (markOf (levelOf b)) (drop p s) ≡ true
   pub fields : Whole tag n ≡ fieldAnswer (field (levelOf b) (drop 2 (drop p s)))
   pub quick : Quick (levelOf b) f tag n (getD s (p + 6) 0)
+  pub begins : not (isSet (levelOf b)) || not (isAlone f) || not (eqb p 0) || eqb tag 2 ≡ true
   pub above : top < tag
   pub small : tag < 128
   pub few : n < 128
-  pub tag-is : tag ≡ tagAt s p
-  pub begins : Begun b f p tag

@@ -73,7 +73,7 @@ fn series_at(s: &[u8], p: usize, alone: bool, top: u64, low: u64) -> Piece
     Piece::Fault(17)
 }
 
-// The record at p of a level s: of the set an `IT` or a `TS`, else a `TI`.
+// The record at p of a level s: of the set an `IT` or a `TS`, else a `TI`. Most are told at a glance.
 pub fn part_at(
     table: &[u64],
     s: &[u8],
@@ -86,6 +86,15 @@ pub fn part_at(
     requires { ⌜ (now table ≡ itemTable) × (p ≤ length (now s)) ⌝ }
     ensures { λ r. ⌜ ((seen : List ℕ) → Past (peek true false set) (now (s .entry)) p top low seen → r ≡ partPiece (levelOf set) (formOf alone) seen (drop p (now (s .entry)))) ⌝ }
 {
+    let g = quick::glance(table, s, p, set, alone, top);
+    if 0 < g.size {
+        return Piece::Whole {
+            tag: g.tag,
+            from: 6,
+            size: g.size,
+            short: g.size,
+        };
+    }
     if set {
         if heads::records::is_mark(s, p, b'I', b'T') {
             return value_at(table, s, p, set, alone, top, low);
@@ -107,7 +116,8 @@ fn target_at(s: &[u8], p: usize, top: u64, low: u64) -> Piece
         return Piece::Fault(17);
     }
     let id = coding::number_of(&s[p + 2..], 8);
-    if 9223372036854775807 < id {
+    // 2^63 or more: twice that wraps. Asked this way, its bytes are still read as one number
+    if std::num::wrapping_add_u64(id, id) < id {
         return Piece::Fault(17);
     }
     if heads::is_seen(s, p, top, low, id, true, true, false) {
@@ -138,12 +148,16 @@ pub fn item_records(table: &[u64], s: &[u8], set: bool, alone: bool) -> Walked
     requires { ⌜ (now table ≡ itemTable) × (length (now s) ≤ 65536) ⌝ }
     ensures { λ r. ⌜ (r ≡ recordsWalk (levelOf set) (formOf alone) (now (s .entry))) × Within r (length (now (s .entry))) ⌝ }
 {
-    let q = quick::run(table, s, set, alone);
-    let mut p = q.at;
-    let mut sum = q.sizes;
-    let mut mark = q.mark;
-    let mut top = q.top;
-    let mut low = q.low;
+    let mut p: usize = 0;
+    let mut sum = Sizes {
+        sheet: 0,
+        rows: 0,
+        normal: 0,
+        inner: 0,
+    };
+    let mut mark = false;
+    let mut top: u64 = 0;
+    let mut low: u64 = 18446744073709551615;
     while p < s.len() {
         if !goes_on(s, p, set) {
             return Walked::Good { sizes: sum, mark };
@@ -208,9 +222,9 @@ pub fn target_records(table: &[u64], s: &[u8], alone: bool) -> Walked
         };
         let from = p + 10;
         let items = &s[from..];
-        let q = quick::run(table, items, false, alone);
+        let q = quick::run(table, items, alone);
         let all = q.sizes;
-        let w = if goes_on(items, q.at, false) {
+        let w = if goes_on(items, all.sheet, false) {
             item_records(table, items, false, alone)
         } else {
             // field by field: a copy of the whole would wait for what was just stored
@@ -263,5 +277,5 @@ pub enum Sheeted {
     },
 }
 
-pub mod quick; // quick.rt: the quick way over a level
+pub mod quick; // quick.rt: the quick way over a target
 pub mod whole; // whole.rt: the whole sheet

@@ -17,7 +17,7 @@ use Rattle.walks.proofs.Turns.{within-more, told-as, turn-done, turn-over}
 use Rattle.records.specs.Meet.{recordsWalk}
 use Rattle.records.specs.Going.{RecordsGoing}
 use Rattle.walks.proofs.ItemTurns.{depth, series-deep}
-use Rattle.records.proofs.PartTurns.{PartAt, piece-fault, PartTold, item-small, item-told, series-room, lent-small, series-told, part-bad, bad-within, part-room, good-small, part-more}
+use Rattle.records.proofs.PartTurns.{PartAt, records-start, piece-fault, PartTold, item-small, item-told, series-room, lent-small, series-told, part-bad, bad-within, part-room, good-small, part-more}
 use Rattle.records.proofs.TargetTurns.{TargetAt, TargetsGoing, targets-start, records-over, head-fault, target-room, vals-within, vals-fault, next-room, vals-small, no-location, target-small, target-more}
 use Rattle.records.proofs.TargetTurns as target-turns
 use Rattle.records.proofs.item_records.Reads as item-records
@@ -82,7 +82,7 @@ target-records-below t =
 
 -- what is known of the callees, the other walk's at a smaller measure
 abbrev item-claims : ℕ → item-records-lts.Claims
-item-claims t = (run-reads.Asked, run-reads.Learnt, goes-on-reads.Asked, goes-on-reads.Learnt, part-at-reads.Asked, part-at-reads.Learnt, stop-reads.Asked, stop-reads.Learnt, is-series-reads.Asked, is-series-reads.Learnt, target-records-below t, target-records.Post, series-of-reads.Asked, series-of-reads.Learnt, one-item-reads.Asked, one-item-reads.Learnt, later-reads.Asked, later-reads.Learnt, plus-reads.Asked, plus-reads.Learnt, either-reads.Asked, either-reads.Learnt, larger-reads.Asked, larger-reads.Learnt, smaller-reads.Asked, smaller-reads.Learnt)
+item-claims t = (goes-on-reads.Asked, goes-on-reads.Learnt, part-at-reads.Asked, part-at-reads.Learnt, stop-reads.Asked, stop-reads.Learnt, is-series-reads.Asked, is-series-reads.Learnt, target-records-below t, target-records.Post, series-of-reads.Asked, series-of-reads.Learnt, one-item-reads.Asked, one-item-reads.Learnt, later-reads.Asked, later-reads.Learnt, plus-reads.Asked, plus-reads.Learnt, either-reads.Asked, either-reads.Learnt, larger-reads.Asked, larger-reads.Learnt, smaller-reads.Asked, smaller-reads.Learnt)
 
 abbrev target-claims : ℕ → target-records-lts.Claims
 target-claims t = (is-mark-reads.Asked, is-mark-reads.Learnt, target-at-reads.Asked, target-at-reads.Learnt, stop-reads.Asked, stop-reads.Learnt, run-reads.Asked, run-reads.Learnt, goes-on-reads.Asked, goes-on-reads.Learnt, item-records-below t, item-records.Post, later-reads.Asked, later-reads.Learnt, either-reads.Asked, either-reads.Learnt, oid-width-reads.Asked, oid-width-reads.Learnt, pack-sizes-reads.Asked, pack-sizes-reads.Learnt, plus-reads.Asked, plus-reads.Learnt, larger-reads.Asked, larger-reads.Learnt, smaller-reads.Asked, smaller-reads.Learnt)
@@ -95,7 +95,7 @@ item-records-μ-loop table s set alone p₀ sum₀ mark₀ top₀ low₀ p sum m
 
 -- a record, where it was read
 part-here : (t : ℕ) (a : item-records-lts.After-a (item-claims t) (item-records-at t) item-records.Post item-records-Inv-loop item-records-μ-loop)
-    → PartAt (a .before .before .before .before .before .before .before .before .before .before .before .args .set) (formOf (a .before .before .before .before .before .before .before .before .before .before .before .args .alone)) (a .before .before .before .before .before .before .before .before .before .before .before .args .s .now) (a .before .before .before .before .before .before .loop .p) (a .before .before .before .before .before .before .loop .sum) (a .before .before .before .before .before .before .loop .mark) (a .before .before .before .before .before .before .loop .top) (a .before .before .before .before .before .before .loop .low) (a .a .given .0 .0) (a .a .given .0 .1 .0) (a .a .given .0 .1 .1 .0) (a .a .given .0 .1 .1 .1 .0)
+    → PartAt (a .before .before .before .before .before .before .before .before .before .args .set) (formOf (a .before .before .before .before .before .before .before .before .before .args .alone)) (a .before .before .before .before .before .before .before .before .before .args .s .now) (a .before .before .before .before .before .before .loop .p) (a .before .before .before .before .before .before .loop .sum) (a .before .before .before .before .before .before .loop .mark) (a .before .before .before .before .before .before .loop .top) (a .before .before .before .before .before .before .loop .low) (a .a .given .0 .0) (a .a .given .0 .1 .0) (a .a .given .0 .1 .1 .0) (a .a .given .0 .1 .1 .1 .0)
 part-here t a = record {
   going = a .before .before .before .before .before .before .loop .inv;
   here = a .before .before .before .before .before .loop-test .taken;
@@ -103,8 +103,8 @@ part-here t a = record {
   it = a .before .before .part-at .result;
   told = a .before .before .part-at .ensures;
   whole = a .a .given .1;
-  bytes = λ i. a .before .before .before .before .before .before .before .before .before .shared-slice-known2 .given i .fits;
-  most = a .before .before .before .before .before .before .before .before .before .before .before .pre .1 .1;
+  bytes = λ i. a .before .before .before .before .before .before .before .shared-slice-known2 .given i .fits;
+  most = a .before .before .before .before .before .before .before .before .before .pre .1 .1;
 }
 
 -- what it says, whichever way it was walked
@@ -116,11 +116,8 @@ part-told-at t j =
     (λ x. item-told (part-here t a) (j .before .is-series .ensures) (x .0 .left) (x .2 ∙ x .1 .ensures))
     (j .if2 .came)
 
-item-records-run-requires : (t : ℕ) → item-records-lts.Need-run-requires (item-claims t) (item-records-at t) item-records.Post item-records-Inv-loop item-records-μ-loop
-item-records-run-requires t c κs = c .before .before .pre .1
-
 item-records-loop-holds : (t : ℕ) → item-records-lts.Need-loop-holds (item-claims t) (item-records-at t) item-records.Post item-records-Inv-loop item-records-μ-loop
-item-records-loop-holds t c = c .before .run .ensures
+item-records-loop-holds t c = records-start _ _ _
 
 item-records-goes-on-requires : (t : ℕ) → item-records-lts.Need-goes-on-requires (item-claims t) (item-records-at t) item-records.Post item-records-Inv-loop item-records-μ-loop
 item-records-goes-on-requires t c κs = search needs
@@ -129,7 +126,7 @@ item-records-returns : (t : ℕ) → item-records-lts.Need-returns (item-claims 
 item-records-returns t c = turn-over (c .before .before .before .loop .inv) (c .before .before .loop-test .taken) (sym (c .before .goes-on .ensures) ∙ not-true _ (c .if1 .taken))
 
 item-records-part-at-requires : (t : ℕ) → item-records-lts.Need-part-at-requires (item-claims t) (item-records-at t) item-records.Post item-records-Inv-loop item-records-μ-loop
-item-records-part-at-requires t c κs = (c .before .before .before .before .before .before .before .before .pre .1 .0, omega (arith, c .before .before .loop-test .taken))
+item-records-part-at-requires t c κs = (c .before .before .before .before .before .before .pre .1 .0, omega (arith, c .before .before .loop-test .taken))
 
 item-records-enum-known-a : (t : ℕ) → item-records-lts.Need-enum-known-a (item-claims t) (item-records-at t) item-records.Post item-records-Inv-loop item-records-μ-loop
 item-records-enum-known-a t c = search needs
@@ -149,28 +146,28 @@ item-records-is-series-requires t c κs = search needs
 item-records-add-target-records : (t : ℕ) → item-records-lts.Need-add-target-records (item-claims t) (item-records-at t) item-records.Post item-records-Inv-loop item-records-μ-loop
 item-records-add-target-records t c =
     let a = c .before .before .before in
-    omega (arith, series-room (part-here t a) (c .before .is-series .ensures) (c .if2 .taken), a .before .before .before .before .before .before .before .before .before .before .before .pre .1 .1)
+    omega (arith, series-room (part-here t a) (c .before .is-series .ensures) (c .if2 .taken), a .before .before .before .before .before .before .before .before .before .pre .1 .1)
 
 item-records-sub-target-records : (t : ℕ) → item-records-lts.Need-sub-target-records (item-claims t) (item-records-at t) item-records.Post item-records-Inv-loop item-records-μ-loop
 item-records-sub-target-records t c =
     let a = c .before .before .before in
-    omega (arith, series-room (part-here t a) (c .before .is-series .ensures) (c .if2 .taken), a .before .before .before .before .before .before .before .before .before .before .before .pre .1 .1)
+    omega (arith, series-room (part-here t a) (c .before .is-series .ensures) (c .if2 .taken), a .before .before .before .before .before .before .before .before .before .pre .1 .1)
 
 item-records-part-target-records-start : (t : ℕ) → item-records-lts.Need-part-target-records-start (item-claims t) (item-records-at t) item-records.Post item-records-Inv-loop item-records-μ-loop
 item-records-part-target-records-start t c =
     let a = c .before .before .before in
-    omega (arith, series-room (part-here t a) (c .before .is-series .ensures) (c .if2 .taken), a .before .before .before .before .before .before .before .before .before .before .before .pre .1 .1)
+    omega (arith, series-room (part-here t a) (c .before .is-series .ensures) (c .if2 .taken), a .before .before .before .before .before .before .before .before .before .pre .1 .1)
 
 item-records-part-target-records-end : (t : ℕ) → item-records-lts.Need-part-target-records-end (item-claims t) (item-records-at t) item-records.Post item-records-Inv-loop item-records-μ-loop
 item-records-part-target-records-end t c =
     let a = c .before .before .before in
-    omega (arith, series-room (part-here t a) (c .before .is-series .ensures) (c .if2 .taken), a .before .before .before .before .before .before .before .before .before .before .before .pre .1 .1)
+    omega (arith, series-room (part-here t a) (c .before .is-series .ensures) (c .if2 .taken), a .before .before .before .before .before .before .before .before .before .pre .1 .1)
 
 item-records-target-records-requires : (t : ℕ) → item-records-lts.Need-target-records-requires (item-claims t) (item-records-at t) item-records.Post item-records-Inv-loop item-records-μ-loop
 item-records-target-records-requires t c κs =
     let a = c .before .before .before .before in (
-      omega (arith, series-deep (a .before .before .before .before .before .before .before .before .before .before .before .args .set) (a .a .given .0 .0) (c .before .before .is-series .ensures) (c .before .if2 .taken), a .before .before .before .before .before .before .before .before .before .before .before .pre .0),
-      (a .before .before .before .before .before .before .before .before .before .before .before .pre .1 .0, lent-small (part-here t a) (c .before .before .is-series .ensures) (c .before .if2 .taken)),
+      omega (arith, series-deep (a .before .before .before .before .before .before .before .before .before .args .set) (a .a .given .0 .0) (c .before .before .is-series .ensures) (c .before .if2 .taken), a .before .before .before .before .before .before .before .before .before .pre .0),
+      (a .before .before .before .before .before .before .before .before .before .pre .1 .0, lent-small (part-here t a) (c .before .before .is-series .ensures) (c .before .if2 .taken)),
     )
 
 item-records-series-of-requires : (t : ℕ) → item-records-lts.Need-series-of-requires (item-claims t) (item-records-at t) item-records.Post item-records-Inv-loop item-records-μ-loop
@@ -216,7 +213,7 @@ item-records-smaller-requires t c κs = search needs
 item-records-add-p : (t : ℕ) → item-records-lts.Need-add-p (item-claims t) (item-records-at t) item-records.Post item-records-Inv-loop item-records-μ-loop
 item-records-add-p t c =
     let a = c .before .before .before .before .before .before .before .before .before .before .before in
-    omega (arith, part-room (part-here t a) (part-told-at t (c .before .before .before .before .before .before .before .before)) (c .before .before .before .before .before .before .w .given .1) .0, a .before .before .before .before .before .before .before .before .before .before .before .pre .1 .1)
+    omega (arith, part-room (part-here t a) (part-told-at t (c .before .before .before .before .before .before .before .before)) (c .before .before .before .before .before .before .w .given .1) .0, a .before .before .before .before .before .before .before .before .before .pre .1 .1)
 
 item-records-loop-less : (t : ℕ) → item-records-lts.Need-loop-less (item-claims t) (item-records-at t) item-records.Post item-records-Inv-loop item-records-μ-loop
 item-records-loop-less t c =
@@ -320,7 +317,7 @@ target-told : (t : ℕ) (j : target-records-lts.Joined2 (target-claims t) (targe
 target-told t j =
     ⊎-elim
     (λ x. told-as _ (x .2) (x .1 .ensures))
-    (λ x. told-as _ (x .1) (records-over (j .before .before .before .run .ensures) (sym (j .before .goes-on .ensures) ∙ x .0 .left)))
+    (λ x. told-as _ (x .1) (records-over (j .before .before .before .run .ensures .1) (sym (j .before .goes-on .ensures) ∙ x .0 .left)))
     (j .if2 .came)
 
 target-records-enum-known-w : (t : ℕ) → target-records-lts.Need-enum-known-w (target-claims t) (target-records-at t) target-records.Post target-records-Inv-loop target-records-μ-loop
@@ -390,7 +387,7 @@ pub +item-records+target-records-spec : {M : Type 1} → statement M
 +item-records+target-records-spec =
     close μ-item-records μ-target-records
     (λ t. item-records-lts.spec (item-claims t) (item-records-at t) item-records.Post item-records-Inv-loop item-records-μ-loop
-    (item-records-run-requires t) (item-records-loop-holds t) (item-records-goes-on-requires t) (item-records-returns t) (item-records-part-at-requires t)
+    (item-records-loop-holds t) (item-records-goes-on-requires t) (item-records-returns t) (item-records-part-at-requires t)
     (item-records-enum-known-a t) (item-records-enum-told t) (item-records-stop-requires t) (item-records-returns-2 t)
     (item-records-is-series-requires t) (item-records-add-target-records t) (item-records-sub-target-records t) (item-records-part-target-records-start t)
     (item-records-part-target-records-end t) (item-records-target-records-requires t) (item-records-series-of-requires t) (item-records-one-item-requires t)

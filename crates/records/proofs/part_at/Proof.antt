@@ -1,8 +1,15 @@
--- `records::part_at` meets its contract, by the mark.
+-- `records::part_at` meets its contract: told at a glance, or by the mark.
 use borrow.Author.Needs.{needs}
 use Rattle.records.proofs.Opens.{past-set, part-inner, part-value, part-series, part-unknown}
+use Rattle.records.proofs.Glances.{glance-piece}
 use Rattle.records.proofs.part_at.Statement.{statement}
 use Rattle.records.proofs.part_at.Tie as tie
+
+glance-requires : tie.Need-glance-requires
+glance-requires c κs = search needs
+
+returns : tie.Need-returns
+returns c = λ seen q. glance-piece (c .before .before .glance .ensures (c .if1 .taken)) seen q
 
 is-mark-requires : tie.Need-is-mark-requires
 is-mark-requires c κs = search needs
@@ -10,8 +17,8 @@ is-mark-requires c κs = search needs
 value-at-requires : tie.Need-value-at-requires
 value-at-requires c κs = search needs
 
-returns : tie.Need-returns
-returns c = λ seen q. part-value _ seen _ (c .before .before .before .if1 .taken) (c .before .before .is-mark .ensures) (c .before .if2 .taken) (c .value-at .ensures seen q)
+returns-2 : tie.Need-returns-2
+returns-2 c = λ seen q. part-value _ seen _ (c .before .before .before .if2 .taken) (c .before .before .is-mark .ensures) (c .before .if3 .taken) (c .value-at .ensures seen q)
 
 is-mark-requires-2 : tie.Need-is-mark-requires-2
 is-mark-requires-2 c κs = search needs
@@ -19,30 +26,32 @@ is-mark-requires-2 c κs = search needs
 series-at-requires : tie.Need-series-at-requires
 series-at-requires c κs = search needs
 
-returns-2 : tie.Need-returns-2
-returns-2 c =
-    let i = c .before .before .before .before .before in
-    λ seen q. part-series _ seen _ (i .if1 .taken) (c .before .before .before .before .is-mark .ensures) (c .before .before .before .if2 .left) (c .before .before .is-mark2 .ensures) (c .before .if3 .taken) (c .series-at .ensures seen (past-set (i .if1 .taken) q))
-
 returns-3 : tie.Need-returns-3
-returns-3 c = λ seen q. part-unknown _ seen _ (c .before .before .before .before .if1 .taken) (c .before .before .before .is-mark .ensures) (c .before .before .if2 .left) (c .before .is-mark2 .ensures) (c .if3 .left)
+returns-3 c =
+    let i = c .before .before .before .before .before in
+    λ seen q. part-series _ seen _ (i .if2 .taken) (c .before .before .before .before .is-mark .ensures) (c .before .before .before .if3 .left) (c .before .before .is-mark2 .ensures) (c .before .if4 .taken) (c .series-at .ensures seen (past-set (i .if2 .taken) q))
+
+returns-4 : tie.Need-returns-4
+returns-4 c = λ seen q. part-unknown _ seen _ (c .before .before .before .before .if2 .taken) (c .before .before .before .is-mark .ensures) (c .before .before .if3 .left) (c .before .is-mark2 .ensures) (c .if4 .left)
 
 value-at-requires-2 : tie.Need-value-at-requires-2
 value-at-requires-2 c κs = search needs
 
-returns-4 : tie.Need-returns-4
-returns-4 c = λ seen q. part-inner _ seen _ (c .before .if1 .left) (c .value-at2 .ensures seen q)
+returns-5 : tie.Need-returns-5
+returns-5 c = λ seen q. part-inner _ seen _ (c .before .if2 .left) (c .value-at2 .ensures seen q)
 
 pub part-at-spec : {M : Type 1} → statement M
 part-at-spec =
     tie.close
     (tie.spec
+    glance-requires
+    returns
     is-mark-requires
     value-at-requires
-    returns
+    returns-2
     is-mark-requires-2
     series-at-requires
-    returns-2
     returns-3
+    returns-4
     value-at-requires-2
-    returns-4)
+    returns-5)

@@ -1,13 +1,18 @@
--- `records::quick::glance` meets its contract: each 0 says nothing.
-use mathlib.Core.Path.{refl}
+-- `records::quick::glance` meets its contract: where it has nothing to tell it says nothing.
 use native.Mathlib.Omega.{arith}
 use borrow.Author.Needs.{needs}
 use Rattle.records.proofs.Glances.{glance-from}
 use Rattle.records.proofs.quick.glance.Statement.{statement}
 use Rattle.records.proofs.quick.glance.Tie as tie
 
+sub-left : tie.Need-sub-left
+sub-left c = search needs
+
+nothing-requires : tie.Need-nothing-requires
+nothing-requires c κs = search needs
+
 returns : tie.Need-returns
-returns c = λ h. absurd (omega arith)
+returns c = λ h. absurd (omega (arith, h, c .nothing .ensures))
 
 sub-number-of : tie.Need-sub-number-of
 sub-number-of c = search needs
@@ -24,17 +29,14 @@ number-of-requires c κs = search needs
 word-of-requires : tie.Need-word-of-requires
 word-of-requires c κs = search needs
 
-add-if2 : tie.Need-add-if2
-add-if2 c = omega (arith, c .word-of .ensures .1, c .before .before .before .before .before .before .pre .4)
+wrapping-sub-u64-requires : tie.Need-wrapping-sub-u64-requires
+wrapping-sub-u64-requires c κs = search needs
+
+nothing-requires-2 : tie.Need-nothing-requires-2
+nothing-requires-2 c κs = search needs
 
 returns-2 : tie.Need-returns-2
-returns-2 c = λ h. absurd (omega arith)
-
-sub-tag : tie.Need-sub-tag
-sub-tag c = search needs
-
-returns-3 : tie.Need-returns-3
-returns-3 c = λ h. absurd (omega arith)
+returns-2 c = λ h. absurd (omega (arith, h, c .nothing2 .ensures))
 
 add-number-of : tie.Need-add-number-of
 add-number-of c = search needs
@@ -51,18 +53,6 @@ part-number-of-end-2 c = search needs
 number-of-requires-2 : tie.Need-number-of-requires-2
 number-of-requires-2 c κs = search needs
 
-returns-4 : tie.Need-returns-4
-returns-4 c = λ h. absurd (omega arith)
-
-add-next : tie.Need-add-next
-add-next c = search needs
-
-add-next-2 : tie.Need-add-next-2
-add-next-2 c = search needs
-
-returns-5 : tie.Need-returns-5
-returns-5 c = λ h. absurd (omega arith)
-
 add-is-quick : tie.Need-add-is-quick
 add-is-quick c = search needs
 
@@ -72,39 +62,71 @@ shared-slice-read-is-quick c = search needs
 is-quick-requires : tie.Need-is-quick-requires
 is-quick-requires c κs = search needs
 
+nothing-requires-3 : tie.Need-nothing-requires-3
+nothing-requires-3 c κs = search needs
+
+returns-3 : tie.Need-returns-3
+returns-3 c = λ h. absurd (omega (arith, h, c .nothing3 .ensures))
+
+nothing-requires-4 : tie.Need-nothing-requires-4
+nothing-requires-4 c κs = search needs
+
+returns-4 : tie.Need-returns-4
+returns-4 c = λ h. absurd (omega (arith, h, c .nothing4 .ensures))
+
+sub-if6 : tie.Need-sub-if6
+sub-if6 c = search needs
+
+nothing-requires-5 : tie.Need-nothing-requires-5
+nothing-requires-5 c κs = search needs
+
+returns-5 : tie.Need-returns-5
+returns-5 c = λ h. absurd (omega (arith, h, c .nothing5 .ensures))
+
+begins-requires : tie.Need-begins-requires
+begins-requires c κs = search needs
+
 returns-6 : tie.Need-returns-6
 returns-6 c =
-    let i = c .before .before .before .before .before .before .before .before .before .before .before .before .if1 .left in
-    λ h. glance-from _ _ _ _ _ (λ i. c .before .before .before .before .before .before .before .before .before .before .before .before .before .shared-slice-known2 .given i .fits) (c .before .before .before .before .before .before .before .before .before .before .before .before .before .before .before .pre .3 (omega (arith, i))) (c .before .before .before .before .before .before .before .before .before .before .number-of .ensures) (c .before .before .before .before .before .before .before .before .before .word-of .ensures .0) (λ l. omega (arith, c .before .before .before .before .before .before .before .before .if2 .left, l)) refl (omega (arith, c .before .before .before .before .before .before .before .if3 .left)) (c .before .before .before .before .before .number-of2 .ensures) (omega (arith, c .before .before .before .before .if4 .left)) (omega (arith, c .before .before .before .if5 .left)) (c .before .is-quick .ensures (c .if6 .taken))
+    λ h. glance-from _ _ _ _ _ (λ i. c .before .before .before .before .before .before .before .before .before .before .before .before .before .before .before .before .shared-slice-known2 .given i .fits) (c .before .before .before .before .before .before .before .before .before .before .before .before .before .number-of .ensures) (c .before .before .before .before .before .before .before .before .before .before .before .before .word-of .ensures) (c .before .before .before .before .before .before .before .before .before .before .before .wrapping-sub-u64 .ensures) (omega (arith, c .before .before .before .before .before .before .before .before .before .before .if2 .left)) (omega (arith, c .before .before .before .before .if4 .left)) (c .before .before .before .before .before .before .before .before .number-of2 .ensures) (omega (arith, c .before .before .before .if5 .left)) (omega (arith, c .before .before .if6 .left, c .before .before .before .before .before .before .before .before .before .before .before .before .before .before .before .if1 .left)) (c .before .before .before .before .before .before .is-quick .ensures (c .before .before .before .before .before .if3 .taken)) (c .before .begins .ensures) (c .if7 .taken)
+
+nothing-requires-6 : tie.Need-nothing-requires-6
+nothing-requires-6 c κs = search needs
 
 returns-7 : tie.Need-returns-7
-returns-7 c = λ h. absurd (omega arith)
+returns-7 c = λ h. absurd (omega (arith, h, c .nothing6 .ensures))
 
 pub glance-spec : {M : Type 1} → statement M
 glance-spec =
     tie.close
     (tie.spec
+    sub-left
+    nothing-requires
     returns
     sub-number-of
     part-number-of-start
     part-number-of-end
     number-of-requires
     word-of-requires
-    add-if2
+    wrapping-sub-u64-requires
+    nothing-requires-2
     returns-2
-    sub-tag
-    returns-3
     add-number-of
     sub-number-of-2
     part-number-of-start-2
     part-number-of-end-2
     number-of-requires-2
-    returns-4
-    add-next
-    add-next-2
-    returns-5
     add-is-quick
     shared-slice-read-is-quick
     is-quick-requires
+    nothing-requires-3
+    returns-3
+    nothing-requires-4
+    returns-4
+    sub-if6
+    nothing-requires-5
+    returns-5
+    begins-requires
     returns-6
+    nothing-requires-6
     returns-7)

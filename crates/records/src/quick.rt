@@ -25,7 +25,7 @@ fn word_of(set: bool) -> u64
     if set { 0x49540000 } else { 0x54490000 }
 }
 
-// A level's record at p that is told at a glance, with tag and length below 128, its tag above top.
+// A level's record at p that is told at a glance, its tag above top.
 pub fn glance(table: &[u64], s: &[u8], p: usize, set: bool, alone: bool, top: u64) -> Told
     requires { ⌜ (now table ≡ itemTable) × (p ≤ length (now s)) ⌝ }
     ensures { λ r. ⌜ (0 < r .size → Glanced set (formOf alone) (now (s .entry)) p top (r .tag) (r .size)) ⌝ }
@@ -42,12 +42,6 @@ pub fn glance(table: &[u64], s: &[u8], p: usize, set: bool, alone: bool, top: u6
     }
     let n = coding::number_of(&s[p + 4..], 2);
     if items::quick::is_quick(table, set, alone, tag, n, s[p + 6]) {
-        if 127 < tag {
-            return nothing();
-        }
-        if 127 < n {
-            return nothing();
-        }
         let size = n as usize;
         if left - 6 < size {
             return nothing();

@@ -62,39 +62,28 @@ shared-slice-read-is-quick c = search needs
 is-quick-requires : tie.Need-is-quick-requires
 is-quick-requires c κs = search needs
 
+sub-if4 : tie.Need-sub-if4
+sub-if4 c = search needs
+
 nothing-requires-3 : tie.Need-nothing-requires-3
 nothing-requires-3 c κs = search needs
 
 returns-3 : tie.Need-returns-3
 returns-3 c = λ h. absurd (omega (arith, h, c .nothing3 .ensures))
 
-nothing-requires-4 : tie.Need-nothing-requires-4
-nothing-requires-4 c κs = search needs
-
-returns-4 : tie.Need-returns-4
-returns-4 c = λ h. absurd (omega (arith, h, c .nothing4 .ensures))
-
-sub-if6 : tie.Need-sub-if6
-sub-if6 c = search needs
-
-nothing-requires-5 : tie.Need-nothing-requires-5
-nothing-requires-5 c κs = search needs
-
-returns-5 : tie.Need-returns-5
-returns-5 c = λ h. absurd (omega (arith, h, c .nothing5 .ensures))
-
 begins-requires : tie.Need-begins-requires
 begins-requires c κs = search needs
 
-returns-6 : tie.Need-returns-6
-returns-6 c =
-    λ h. glance-from _ _ _ _ _ (λ i. c .before .before .before .before .before .before .before .before .before .before .before .before .before .before .before .before .shared-slice-known2 .given i .fits) (c .before .before .before .before .before .before .before .before .before .before .before .before .before .number-of .ensures) (c .before .before .before .before .before .before .before .before .before .before .before .before .word-of .ensures) (c .before .before .before .before .before .before .before .before .before .before .before .wrapping-sub-u64 .ensures) (omega (arith, c .before .before .before .before .before .before .before .before .before .before .if2 .left)) (omega (arith, c .before .before .before .before .if4 .left)) (c .before .before .before .before .before .before .before .before .number-of2 .ensures) (omega (arith, c .before .before .before .if5 .left)) (omega (arith, c .before .before .if6 .left, c .before .before .before .before .before .before .before .before .before .before .before .before .before .before .before .if1 .left)) (c .before .before .before .before .before .before .is-quick .ensures (c .before .before .before .before .before .if3 .taken)) (c .before .begins .ensures) (c .if7 .taken)
+returns-4 : tie.Need-returns-4
+returns-4 c =
+    let (small, few, q) = c .before .before .before .before .is-quick .ensures (c .before .before .before .if3 .taken) in
+    λ h. glance-from _ _ _ _ _ (λ i. c .before .before .before .before .before .before .before .before .before .before .before .before .before .before .shared-slice-known2 .given i .fits) (c .before .before .before .before .before .before .before .before .before .before .before .number-of .ensures) (c .before .before .before .before .before .before .before .before .before .before .word-of .ensures) (c .before .before .before .before .before .before .before .before .before .wrapping-sub-u64 .ensures) (omega (arith, c .before .before .before .before .before .before .before .before .if2 .left)) (omega (arith, small)) (c .before .before .before .before .before .before .number-of2 .ensures) (omega (arith, few)) (omega (arith, c .before .before .if4 .left, c .before .before .before .before .before .before .before .before .before .before .before .before .before .if1 .left)) q (c .before .begins .ensures) (c .if5 .taken)
 
-nothing-requires-6 : tie.Need-nothing-requires-6
-nothing-requires-6 c κs = search needs
+nothing-requires-4 : tie.Need-nothing-requires-4
+nothing-requires-4 c κs = search needs
 
-returns-7 : tie.Need-returns-7
-returns-7 c = λ h. absurd (omega (arith, h, c .nothing6 .ensures))
+returns-5 : tie.Need-returns-5
+returns-5 c = λ h. absurd (omega (arith, h, c .nothing4 .ensures))
 
 pub glance-spec : {M : Type 1} → statement M
 glance-spec =
@@ -119,14 +108,10 @@ glance-spec =
     add-is-quick
     shared-slice-read-is-quick
     is-quick-requires
+    sub-if4
     nothing-requires-3
     returns-3
-    nothing-requires-4
-    returns-4
-    sub-if6
-    nothing-requires-5
-    returns-5
     begins-requires
-    returns-6
-    nothing-requires-6
-    returns-7)
+    returns-4
+    nothing-requires-4
+    returns-5)

@@ -55,6 +55,14 @@ module _ (set : Bool) (s : List ℕ) where
     unfolding peek
     item-next t = rw (o, i, ← e, t) (refl, refl)
 
+-- the key at p, as the code reads it there
+module _ (set : Bool) (s : List ℕ) (p : ℕ) {h : Head} {k u w n : ℕ} (t : h ≡ Whole k u w n) where
+  pub item-key : itemHeadOf h ≡ headOf (levelOf set) (take (length s - p) (drop p s)) → k ≡ peek false false set (drop p s) .val
+  item-key e = item-next set (drop p s) refl refl (rw tail-part at e) t .0
+
+  pub pack-key : packHeadOf h ≡ packHead (take (length s - p) (drop p s)) → k ≡ peek false true set (drop p s) .val
+  pack-key e = pack-next set (drop p s) refl refl (rw tail-part at e) t .0
+
 -- what a look finds lies within the bytes
 abbrev pub Looks : (List ℕ → Got ℕ) → Type 0
 Looks look = (s : List ℕ) → look s .used ≤ length s
@@ -131,7 +139,7 @@ module _ (look : List ℕ → Got ℕ) (s : List ℕ) (p key q : ℕ) (l : Left 
 
 -- ---- the record that a walk keeps
 
-has-snoc : (j k : ℕ) (ks : List ℕ) → has j (ks ++ k ∷ []) ≡ has j (k ∷ ks)
+pub has-snoc : (j k : ℕ) (ks : List ℕ) → has j (ks ++ k ∷ []) ≡ has j (k ∷ ks)
 unfolding has
 has-snoc j k [] = refl
 has-snoc j k (i ∷ is) = rw (has-snoc j k is) (swap (eqb i j) (eqb k j) (has j is))
@@ -142,7 +150,7 @@ has-snoc j k (i ∷ is) = rw (has-snoc j k is) (swap (eqb i j) (eqb k j) (has j 
     swap false true c = refl
     swap false false c = refl
 
-heads-more : (look : List ℕ → Got ℕ) (ks s : List ℕ) (p k u : ℕ) → Heads look s p ks → look (drop p s) ≡ got k u → 0 < u → Heads look s (p + u) (ks ++ k ∷ [])
+pub heads-more : (look : List ℕ → Got ℕ) (ks s : List ℕ) (p k u : ℕ) → Heads look s p ks → look (drop p s) ≡ got k u → 0 < u → Heads look s (p + u) (ks ++ k ∷ [])
 heads-more look [] s p k u h e z = (u, rw h at e, z, omega arith, omega arith)
 heads-more look (j ∷ js) s p k u (v, q, y, x, h) e z =
     let a : v + (p - v) ≡ p = omega arith in

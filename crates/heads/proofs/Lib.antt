@@ -3,3 +3,5 @@ pub mod Heads
 pub mod Spans
 pub mod SheetRuns
 pub mod Before
+pub mod Marks
+pub mod Clears

@@ -66,3 +66,7 @@ pub record Past (look : List ℕ → Got ℕ) (s : List ℕ) (p top low : ℕ) (
   pub under : (k : ℕ) → top < k → has k seen ≡ false
   pub over : (k : ℕ) → k < low → has k seen ≡ false
   pub first : none? seen ≡ eqb p 0
+
+-- nothing that begins before r has a key that stood before it
+abbrev pub Clear : (List ℕ → Got ℕ) → List ℕ → ℕ → Type 0
+Clear look s r = (p : ℕ) → p < r → (ks : List ℕ) → Heads look s p ks → has (look (drop p s) .val) ks ≡ false

@@ -10,7 +10,7 @@ ghost use Rattle.format.specs.Lists.{has};
 ghost use Rattle.format.specs.Table.{isSet, isAlone};
 ghost use Rattle.format.specs.Read.{headOf, item, packHead};
 ghost use Rattle.items.specs.Meet.{formOf, levelOf};
-ghost use Rattle.heads.specs.Meet.{faultOf, itemHeadOf, packHeadOf, PackHeadIf, peek, Peeked, Heads, Past};
+ghost use Rattle.heads.specs.Meet.{faultOf, itemHeadOf, packHeadOf, PackHeadIf, peek, Peeked, Heads, Past, Clear};
 use coding::Num;
 
 // What heads an item or a pack: its key, how many bytes the key and the length take, and the length.
@@ -239,10 +239,11 @@ fn seen_before(s: &[u8], p: usize, key: u64, sheet: bool, ids: bool, set: bool) 
     false
 }
 
-// The same, where no key before p is above top or below low.
+// The same of the key at p, where no key before p is above top or below low, and none repeats before clear.
 pub fn is_seen(
     s: &[u8],
     p: usize,
+    clear: usize,
     top: u64,
     low: u64,
     key: u64,
@@ -250,7 +251,7 @@ pub fn is_seen(
     ids: bool,
     set: bool,
 ) -> bool
-    requires { ⌜ p ≤ length (now s) ⌝ }
+    requires { ⌜ (p ≤ length (now s)) × Clear (peek sheet ids set) (now s) clear × (key ≡ peek sheet ids set (drop p (now s)) .val) ⌝ }
     ensures { λ r. ⌜ ((seen : List ℕ) → Past (peek sheet ids set) (now (s .entry)) p top low seen → r ≡ has key seen) ⌝ }
 {
     if top < key {
@@ -259,7 +260,11 @@ pub fn is_seen(
     if key < low {
         return false;
     }
+    if p < clear {
+        return false;
+    }
     seen_before(s, p, key, sheet, ids, set)
 }
 
 pub mod records; // records.rt: what heads the records of a sheet
+pub mod clear; // clear.rt: how far no key repeats

@@ -1,0 +1,104 @@
+-- How far no key repeats: what the one pass keeps.
+use mathlib.Core.Path.{_≡_, refl, sym, ap, _∙_}
+use Prim.Native.Nat.{ℕ, _+_, _-_, _≤_, _<_}
+use native.Mathlib.Omega.{arith}
+use mathlib.Core.Bool.{Bool, true, false, _||_}
+use mathlib.Core.List.{List, [], _∷_, _++_}
+use lib.ListN.{length, take, drop, length-drop}
+use lib.Seq.{drop-drop}
+use lib.Dec.{ltb, eqb}
+use borrow.Author.Tests.{ltb-true, ltb-false, eqb-true, eqb-false}
+use Rattle.format.specs.Answer.{Got, got}
+use Rattle.format.specs.Lists.{has}
+use Rattle.format.proofs.words.Answers.{no-bool}
+use Rattle.coding.proofs.Rooms.{tail-part}
+use Rattle.heads.specs.Meet.{Peeked, Heads, Past, Clear}
+use Rattle.heads.specs.Marks.{marked, Marked}
+use Rattle.heads.proofs.Before.{Looks, has-snoc, heads-more}
+
+module _ (look : List ℕ → Got ℕ) where
+  -- one list of keys heads the first p bytes
+  heads-same : (js ks s : List ℕ) (p : ℕ) → Heads look s p js → Heads look s p ks → js ≡ ks
+  heads-same [] [] s p h g = refl
+  heads-same [] (k ∷ ks) s p h (v, f, z, y, g) = absurd (omega arith)
+  heads-same (j ∷ js) [] s p (u, e, z, y, h) g = absurd (omega arith)
+  heads-same (j ∷ js) (k ∷ ks) s p (u, e, z, y, h) (v, f, w, x, g) =
+      let a : u ≡ v = ap (λ (x : Got ℕ). x .used) (sym e ∙ f) in
+      let b : j ≡ k = ap (λ (x : Got ℕ). x .val) (sym e ∙ f) in
+      rw (b, heads-same js ks (drop v s) (p - v) (rw a at h) g)
+
+  -- and what begins after q begins after all that the key at q heads
+  heads-on : (js ks s : List ℕ) (p q k u : ℕ) → Heads look s q js → Peeked look (drop q s) k u → Heads look s p ks → q < p → q + u ≤ p
+  heads-on js [] s p q k u h n g l = absurd (omega arith)
+  heads-on [] (i ∷ ks) s p q k u h n (v, f, w, x, g) l =
+      let a : u ≡ v = rw h at (n .1) ∙ ap (λ (x : Got ℕ). x .used) f in
+      omega arith
+  heads-on (j ∷ js) (i ∷ ks) s p q k u (w, e, z, y, h) n (v, f, t, x, g) l =
+      let a : w ≡ v = ap (λ (x : Got ℕ). x .used) (sym e ∙ f) in
+      let b : v + (q - v) ≡ q = omega arith in
+      omega (arith, heads-on js ks (drop v s) (p - v) (q - v) k u (rw a at h) (rw (drop-drop (q - v) v s, b) n) g (omega arith))
+
+-- no key repeats before q, and what stood there is marked
+pub record Clearing (look : List ℕ → Got ℕ) (s marks : List ℕ) (q : ℕ) : Type 0 where
+  pub within : q ≤ length s
+  pub long : length marks ≡ 256
+  pub keys : List ℕ
+  pub heads : Heads look s q keys
+  pub kept : (k : ℕ) → has k keys ≡ true → marked marks k ≡ true
+  pub clear : Clear look s q
+
+pub clearing-start : (look : List ℕ → Got ℕ) (s marks : List ℕ) → length marks ≡ 256 → Clearing look s marks 0
+unfolding has
+clearing-start look s marks l = record { within = omega arith; long = l; keys = []; heads = refl; kept = λ k e. no-bool e; clear = λ p h ks g. absurd (omega arith) }
+
+pub not-marked : (marks ks : List ℕ) (key : ℕ) → (has key ks ≡ true → marked marks key ≡ true) → marked marks key ≡ false → has key ks ≡ false
+not-marked marks ks key m e = go (has key ks) refl
+  where
+    go : (b : Bool) → has key ks ≡ b → has key ks ≡ false
+    go false t = t
+    go true t = no-bool (sym (sym (m t) ∙ e))
+
+got-is : (x : Got ℕ) (k u : ℕ) → k ≡ x .val → u ≡ x .used → x ≡ got k u
+got-is x k u a b = rw (a, b)
+
+module _ (look : List ℕ → Got ℕ) (s marks : List ℕ) (q : ℕ) (c : Clearing look s marks q) where
+  pub clearing-kept : (ks : List ℕ) → Heads look s q ks → (k : ℕ) → has k ks ≡ true → marked marks k ≡ true
+  clearing-kept ks h k e = c .kept k (ap (has k) (heads-same look (c .keys) ks s q (c .heads) h) ∙ e)
+
+  -- as the code reads what is next
+  module _ (room : Looks look) (k u : ℕ) (n : Peeked look (take (length s - q) (drop q s)) k u) (z : 0 < u)
+      (new : (ks : List ℕ) → Heads look s q ks → has k ks ≡ false) where
+    next : Peeked look (drop q s) k u
+    next = rw tail-part at n
+
+    clear-on : Clear look s (q + u)
+    clear-on p h ks g = go (ltb p q) refl (eqb p q) refl
+      where
+        go : (a : Bool) → ltb p q ≡ a → (b : Bool) → eqb p q ≡ b → has (look (drop p s) .val) ks ≡ false
+        go true a b e = c .clear p (ltb-true _ _ a) ks g
+        go false a true e = let t : p ≡ q = eqb-true _ _ e in rw (t, ← next .0) (new ks (rw t at g))
+        go false a false e =
+            let o : q ≤ p = ltb-false p q a in
+            let t : p ≡ q → ⊥ = eqb-false _ _ e in
+            let l : q < p = omega arith in
+            absurd (omega (arith, heads-on look (c .keys) ks s p q k u (c .heads) next g l))
+
+    pub clearing-more : (after : List ℕ) → Marked marks after k → Clearing look s after (q + u)
+    unfolding has
+    clearing-more after m = record {
+      within = omega (arith, c .within, room (drop q s), next .1, length-drop q s);
+      long = m .long ∙ c .long;
+      keys = c .keys ++ k ∷ [];
+      heads = heads-more look (c .keys) s q k u (c .heads) (got-is _ _ _ (next .0) (next .1)) z;
+      kept = λ j e. go j (eqb k j) refl (sym (has-snoc j k (c .keys)) ∙ e);
+      clear = clear-on;
+    }
+      where
+        go : (j : ℕ) (b : Bool) → eqb k j ≡ b → eqb k j || has j (c .keys) ≡ true → marked after j ≡ true
+        go j true t e = rw (← eqb-true k j t) (m .new)
+        go j false t e = m .kept j (c .kept j (rw t at e))
+
+-- the key at p did not stand before it
+pub clear-past : (look : List ℕ → Got ℕ) (s : List ℕ) (r p top low key : ℕ) → Clear look s r → p < r → key ≡ look (drop p s) .val
+    → (seen : List ℕ) → Past look s p top low seen → false ≡ has key seen
+clear-past look s r p top low key c h e seen a = sym (a .same key ∙ ap (λ k. has k (a .keys)) e ∙ c p h (a .keys) (a .heads))

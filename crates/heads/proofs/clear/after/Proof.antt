@@ -1,0 +1,25 @@
+-- `clear::after` meets its contract: what was known, or what the pass tells.
+use borrow.Author.Needs.{needs}
+use Rattle.heads.proofs.clear.after.Statement.{statement}
+use Rattle.heads.proofs.clear.after.Tie as tie
+
+returns : tie.Need-returns
+returns c = c .before .before .pre
+
+returns-2 : tie.Need-returns-2
+returns-2 c = c .before .before .before .pre
+
+returns-3 : tie.Need-returns-3
+returns-3 c = c .before .before .before .before .pre
+
+returns-4 : tie.Need-returns-4
+returns-4 c = c .before .before .before .before .before .pre
+
+clear-to-requires : tie.Need-clear-to-requires
+clear-to-requires c κs = search needs
+
+returns-5 : tie.Need-returns-5
+returns-5 c = c .clear-to .ensures
+
+pub after-spec : {M : Type 1} → statement M
+after-spec = tie.close (tie.spec returns returns-2 returns-3 returns-4 clear-to-requires returns-5)

@@ -98,6 +98,10 @@ module _ (look : List ℕ → Got ℕ) (s marks : List ℕ) (q : ℕ) (c : Clear
         go j true t e = rw (← eqb-true k j t) (m .new)
         go j false t e = m .kept j (c .kept j (rw t at e))
 
+-- nothing begins before 0
+pub clear-none : (look : List ℕ → Got ℕ) (s : List ℕ) → Clear look s 0
+clear-none look s p h = absurd (omega arith)
+
 -- the key at p did not stand before it
 pub clear-past : (look : List ℕ → Got ℕ) (s : List ℕ) (r p top low key : ℕ) → Clear look s r → p < r → key ≡ look (drop p s) .val
     → (seen : List ℕ) → Past look s p top low seen → false ≡ has key seen

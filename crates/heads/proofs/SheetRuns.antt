@@ -7,7 +7,7 @@ use mathlib.Core.List.{List, [], _∷_}
 use lib.ListN.{length, take, drop, length-drop}
 use lib.Seq.{drop-nil, drop-drop}
 use borrow.Author.Tests.{leb-true}
-use Rattle.format.specs.Answer.{ok, Got, got}
+use Rattle.format.specs.Answer.{Ans, ok, refused, Got, got}
 use Rattle.format.specs.Coding.{bytesNumber}
 use Rattle.format.specs.Run.{Step, skip, run}
 use Rattle.format.specs.Table.{Form, Level, pack}
@@ -16,7 +16,9 @@ use Rattle.format.proofs.words.Answers.{bind-then, need-then, after-then, ok-in
 use Rattle.format.proofs.reading.Runs.{Stops, drop-pred}
 use Rattle.format.proofs.sheets.Values.{mark-says}
 use Rattle.items.specs.Meet.{levelOf}
-use Rattle.heads.specs.Records.{peekVal, recordSize, span, peekRecord}
+use Rattle.heads.specs.declared.records.Field.{Field}
+use Rattle.heads.specs.declared.records.Field.the-variants.{Whole, Fault}
+use Rattle.heads.specs.Records.{fieldAnswer, peekVal, recordSize, span, peekRecord}
 use Rattle.heads.proofs.Spans.{val-room, val-some, size-at, size-val, size-none, size-target, span-none, span-more, target-there, series-there, part-val}
 
 -- ---- an item
@@ -32,6 +34,14 @@ field-read l s v e =
     let g : 4 + n ≤ length (drop 2 s) = leb-true _ _ room in
     let z : 6 + bytesNumber (take 2 (drop 4 s)) ≡ 2 + (4 + n) = omega (arith, size-at s) in
     rw (← ok-inj _ _ e₃) (val-some s (omega (arith, length-drop 2 s)) ∙ ap (got (bytesNumber (take 2 (drop 2 s)))) z)
+
+-- as the code reads its tag
+pub field-key : (l : Level) (s : List ℕ) {h : Field} {k n : ℕ} → h ≡ fieldAnswer (field l (drop 2 s)) → h ≡ Whole k n → k ≡ peekVal s .val
+field-key l s {k = k} {n} e t = go (field l (drop 2 s)) refl (sym t ∙ e)
+  where
+    go : (a : Ans (Got Val)) → field l (drop 2 s) ≡ a → Whole k n ≡ fieldAnswer a → k ≡ peekVal s .val
+    go (ok v) ea z = let y : k ≡ v .val .tag = cc in y ∙ sym (ap (λ (x : Got ℕ). x .val) (field-read l s v ea))
+    go (refused m p) ea z = absurd (let y : _≡_ {A = ℕ} 0 1 = cc in omega arith)
 
 -- whatever its mark
 val-read : (l : Level) (f : Form) (seen s : List ℕ) (v : Got Val) → valueAt l f seen s ≡ ok v → (peekVal s ≡ got (v .val .tag) (v .used)) × (0 < v .used)

@@ -8,7 +8,7 @@ ghost use lib.Dec.{eqb};
 ghost use Rattle.format.specs.Table.{isSet, isAlone};
 ghost use Rattle.format.specs.Read.{item, parse};
 ghost use Rattle.items.specs.Meet.{formOf, levelOf, itemTable};
-ghost use Rattle.heads.specs.Meet.{peek, Past};
+ghost use Rattle.heads.specs.Meet.{peek, Past, Clear};
 ghost use Rattle.walks.specs.Meet.{pieceOf, pieceFault, itemSizes, stopAt, laterBy, seriesFrom, markTag, levelWalk, seriesWalk, Within};
 use heads::Head;
 
@@ -23,17 +23,18 @@ pub enum Piece {
     Fault(u64),
 }
 
-// The item at p of a level s; no tag before p is above top or below low.
+// The item at p of a level s; no tag before p is above top or below low, and none repeats before clear.
 pub fn item_at(
     table: &[u64],
     s: &[u8],
     p: usize,
+    clear: usize,
     set: bool,
     alone: bool,
     top: u64,
     low: u64,
 ) -> Piece
-    requires { ⌜ (now table ≡ itemTable) × (p ≤ length (now s)) ⌝ }
+    requires { ⌜ (now table ≡ itemTable) × (p ≤ length (now s)) × Clear (peek false false set) (now s) clear ⌝ }
     ensures { λ r. ⌜ ((seen : List ℕ) → Past (peek false false set) (now (s .entry)) p top low seen → r ≡ pieceOf (levelOf set) (item (levelOf set) (formOf alone) seen (drop p (now (s .entry))))) ⌝ }
 {
     let t = &s[p..];
@@ -52,7 +53,7 @@ pub fn item_at(
     }
     let from = used + width;
     let end = from + size;
-    let dup = heads::is_seen(s, p, top, low, key, false, false, set);
+    let dup = heads::is_seen(s, p, clear, top, low, key, false, false, set);
     let k = items::standing_of(set, alone, dup, p == 0, key, end == t.len());
     if k != 0 {
         return Piece::Fault(k);
@@ -211,8 +212,9 @@ pub fn item_walk(table: &[u64], s: &[u8], set: bool, alone: bool) -> Walked
     let mut mark = q.mark;
     let mut top = q.top;
     let mut low = q.low;
+    let mut clear: usize = 0;
     while p < s.len() {
-        let a = item_at(table, s, p, set, alone, top, low);
+        let a = item_at(table, s, p, clear, set, alone, top, low);
         let Piece::Whole {
             tag,
             from,
@@ -234,6 +236,7 @@ pub fn item_walk(table: &[u64], s: &[u8], set: bool, alone: bool) -> Walked
         };
         sum = weights::plus(sum, sizes);
         mark = either(mark, m);
+        clear = heads::clear::after(s, p, clear, top, low, tag, false, false, set);
         top = larger(top, tag);
         low = smaller(low, tag);
         p = next;
@@ -251,6 +254,7 @@ pub fn pack_walk(table: &[u64], s: &[u8], alone: bool) -> Walked
     let mut sum = q.sizes;
     let mut top = q.top;
     let mut low = q.low;
+    let mut clear: usize = 0;
     while p < s.len() {
         let h = heads::quick_pack_head(&s[p..]);
         let Head::Whole {
@@ -262,7 +266,7 @@ pub fn pack_walk(table: &[u64], s: &[u8], alone: bool) -> Walked
         else {
             return stop(piece_fault(h), p);
         };
-        if heads::is_seen(s, p, top, low, key, false, true, false) {
+        if heads::is_seen(s, p, clear, top, low, key, false, true, false) {
             return Walked::Bad {
                 number: 10,
                 place: p,
@@ -276,6 +280,7 @@ pub fn pack_walk(table: &[u64], s: &[u8], alone: bool) -> Walked
         };
         if either(!alone, mark) {
             sum = weights::plus(sum, weights::pack_sizes(used, sizes));
+            clear = heads::clear::after(s, p, clear, top, low, key, false, true, false);
             top = larger(top, key);
             low = smaller(low, key);
             p = next;

@@ -1,6 +1,7 @@
 -- `walks::item_walk` and `walks::pack_walk` meet their contracts: each turn moves one item or pack from what is to come to what was walked.
 -- In the item walk's answers `a` is where an item was read; in the pack walk's `a` is where a pack's head was, and `e` where its id was found to be new.
 use mathlib.Core.Path.{refl, ap, _∙_}
+use mathlib.Core.Bool.{false}
 use mathlib.Core.Logic.{⊎-elim}
 use Prim.Native.Nat.{ℕ, _+_, _-_, _≤_, _<_}
 use native.Mathlib.Omega.{arith}
@@ -9,6 +10,9 @@ use borrow.Author.Needs.{needs}
 use borrow.Fn.Kinds.{In}
 use borrow.Fn.PlainCycle.{Measures, is, falls, and}
 use Rattle.items.specs.Meet.{formOf}
+use Rattle.heads.specs.Meet.{peek, Clear}
+use Rattle.heads.proofs.Before.{pack-key}
+use Rattle.heads.proofs.Clears.{clear-none}
 use Rattle.walks.specs.Going.{LevelGoing, SeriesGoing}
 use Rattle.walks.specs.Meet.{plusSizes}
 use Rattle.walks.proofs.Turns.{turn-done}
@@ -20,6 +24,7 @@ use Rattle.walks.proofs.+item_walk+pack_walk.Lts-item_walk as item-walk
 use Rattle.walks.proofs.pack_walk.Reads as pack-walk
 use Rattle.walks.proofs.pack_walk.Kinds as pack-walk-kinds
 use Rattle.walks.proofs.+item_walk+pack_walk.Lts-pack_walk as pack-walk-lts
+use Rattle.heads.proofs.clear.after.Reads as after-reads
 use Rattle.heads.proofs.is_seen.Reads as is-seen-reads
 use Rattle.heads.proofs.quick_pack_head.Reads as quick-pack-head-reads
 use Rattle.walks.proofs.either.Reads as either-reads
@@ -63,24 +68,24 @@ pack-walk-below t =
 
 -- what is known of the callees, the other walk's at a smaller measure
 abbrev item-claims : ℕ → item-walk-lts.Claims
-item-claims t = (run-reads.Asked, run-reads.Learnt, onward-reads.Asked, onward-reads.Learnt, item-at-reads.Asked, item-at-reads.Learnt, stop-reads.Asked, stop-reads.Learnt, is-series-reads.Asked, is-series-reads.Learnt, pack-walk-below t, pack-walk.Post, series-of-reads.Asked, series-of-reads.Learnt, one-item-reads.Asked, one-item-reads.Learnt, later-reads.Asked, later-reads.Learnt, plus-reads.Asked, plus-reads.Learnt, either-reads.Asked, either-reads.Learnt, larger-reads.Asked, larger-reads.Learnt, smaller-reads.Asked, smaller-reads.Learnt)
+item-claims t = (run-reads.Asked, run-reads.Learnt, onward-reads.Asked, onward-reads.Learnt, item-at-reads.Asked, item-at-reads.Learnt, stop-reads.Asked, stop-reads.Learnt, is-series-reads.Asked, is-series-reads.Learnt, pack-walk-below t, pack-walk.Post, series-of-reads.Asked, series-of-reads.Learnt, one-item-reads.Asked, one-item-reads.Learnt, later-reads.Asked, later-reads.Learnt, plus-reads.Asked, plus-reads.Learnt, either-reads.Asked, either-reads.Learnt, after-reads.Asked, after-reads.Learnt, larger-reads.Asked, larger-reads.Learnt, smaller-reads.Asked, smaller-reads.Learnt)
 
 abbrev pack-claims : ℕ → pack-walk-lts.Claims
-pack-claims t = (packs-reads.Asked, packs-reads.Learnt, quick-pack-head-reads.Asked, quick-pack-head-reads.Learnt, piece-fault-reads.Asked, piece-fault-reads.Learnt, stop-reads.Asked, stop-reads.Learnt, is-seen-reads.Asked, is-seen-reads.Learnt, item-walk-below t, item-walk.Post, later-reads.Asked, later-reads.Learnt, either-reads.Asked, either-reads.Learnt, pack-sizes-reads.Asked, pack-sizes-reads.Learnt, plus-reads.Asked, plus-reads.Learnt, larger-reads.Asked, larger-reads.Learnt, smaller-reads.Asked, smaller-reads.Learnt)
+pack-claims t = (packs-reads.Asked, packs-reads.Learnt, quick-pack-head-reads.Asked, quick-pack-head-reads.Learnt, piece-fault-reads.Asked, piece-fault-reads.Learnt, stop-reads.Asked, stop-reads.Learnt, is-seen-reads.Asked, is-seen-reads.Learnt, item-walk-below t, item-walk.Post, later-reads.Asked, later-reads.Learnt, either-reads.Asked, either-reads.Learnt, pack-sizes-reads.Asked, pack-sizes-reads.Learnt, plus-reads.Asked, plus-reads.Learnt, after-reads.Asked, after-reads.Learnt, larger-reads.Asked, larger-reads.Learnt, smaller-reads.Asked, smaller-reads.Learnt)
 
 -- ---- the item walk
 
 abbrev item-walk-Inv-loop : item-walk-lts.InvT-loop
-item-walk-Inv-loop table s set alone p₀ sum₀ mark₀ top₀ low₀ p sum mark top low = LevelGoing set (formOf alone) s p sum mark top low
+item-walk-Inv-loop table s set alone p₀ sum₀ mark₀ top₀ low₀ clear₀ p sum mark top low clear = LevelGoing set (formOf alone) s p sum mark top low × Clear (peek false false set) s clear
 
 abbrev item-walk-μ-loop : item-walk-lts.MeasureT-loop
-item-walk-μ-loop table s set alone p₀ sum₀ mark₀ top₀ low₀ p sum mark top low = length s - p
+item-walk-μ-loop table s set alone p₀ sum₀ mark₀ top₀ low₀ clear₀ p sum mark top low clear = length s - p
 
 -- an item, where it was read
 item-here : (t : ℕ) (a : item-walk-lts.After-a (item-claims t) (item-walk-at t) item-walk.Post item-walk-Inv-loop item-walk-μ-loop)
     → ItemAt (a .before .before .before .before .before .before .before .before .before .before .args .set) (formOf (a .before .before .before .before .before .before .before .before .before .before .args .alone)) (a .before .before .before .before .before .before .before .before .before .before .args .s .now) (a .before .before .before .before .loop .p) (a .before .before .before .before .loop .sum) (a .before .before .before .before .loop .mark) (a .before .before .before .before .loop .top) (a .before .before .before .before .loop .low) (a .a .given .0 .0) (a .a .given .0 .1 .0) (a .a .given .0 .1 .1 .0) (a .a .given .0 .1 .1 .1 .0)
 item-here t a = record {
-  going = a .before .before .before .before .loop .inv;
+  going = a .before .before .before .before .loop .inv .0;
   here = a .before .before .before .loop-test .taken;
   it = a .before .before .item-at .result;
   told = a .before .before .item-at .ensures;
@@ -110,10 +115,10 @@ item-walk-onward-requires : (t : ℕ) → item-walk-lts.Need-onward-requires (it
 item-walk-onward-requires t c κs = (c .before .before .before .pre .1 .1, c .run .ensures)
 
 item-walk-loop-holds : (t : ℕ) → item-walk-lts.Need-loop-holds (item-claims t) (item-walk-at t) item-walk.Post item-walk-Inv-loop item-walk-μ-loop
-item-walk-loop-holds t c = c .before .onward .ensures
+item-walk-loop-holds t c = (c .before .onward .ensures, clear-none _ _)
 
 item-walk-item-at-requires : (t : ℕ) → item-walk-lts.Need-item-at-requires (item-claims t) (item-walk-at t) item-walk.Post item-walk-Inv-loop item-walk-μ-loop
-item-walk-item-at-requires t c κs = (c .before .before .before .before .before .before .before .pre .1 .0, omega (arith, c .loop-test .taken))
+item-walk-item-at-requires t c κs = (c .before .before .before .before .before .before .before .pre .1 .0, omega (arith, c .loop-test .taken), c .before .loop .inv .1)
 
 item-walk-enum-known-a : (t : ℕ) → item-walk-lts.Need-enum-known-a (item-claims t) (item-walk-at t) item-walk.Post item-walk-Inv-loop item-walk-μ-loop
 item-walk-enum-known-a t c = search needs
@@ -125,7 +130,7 @@ item-walk-stop-requires : (t : ℕ) → item-walk-lts.Need-stop-requires (item-c
 item-walk-stop-requires t c κs = search needs
 
 item-walk-returns : (t : ℕ) → item-walk-lts.Need-returns (item-claims t) (item-walk-at t) item-walk.Post item-walk-Inv-loop item-walk-μ-loop
-item-walk-returns t c = item-fault _ _ (c .before .before .before .before .before .loop .inv) (c .before .before .before .before .loop-test .taken) (c .before .before .before .item-at .ensures) (c .before .enum-told .given .1) (c .stop .ensures)
+item-walk-returns t c = item-fault _ _ (c .before .before .before .before .before .loop .inv .0) (c .before .before .before .before .loop-test .taken) (c .before .before .before .item-at .ensures) (c .before .enum-told .given .1) (c .stop .ensures)
 
 item-walk-add-at : (t : ℕ) → item-walk-lts.Need-add-at (item-claims t) (item-walk-at t) item-walk.Post item-walk-Inv-loop item-walk-μ-loop
 item-walk-add-at t c = omega (arith, item-room t (c .before), c .before .before .before .before .before .before .before .before .before .before .before .pre .1 .1)
@@ -187,6 +192,9 @@ item-walk-plus-requires t c κs =
 item-walk-either-requires : (t : ℕ) → item-walk-lts.Need-either-requires (item-claims t) (item-walk-at t) item-walk.Post item-walk-Inv-loop item-walk-μ-loop
 item-walk-either-requires t c κs = search needs
 
+item-walk-after-requires : (t : ℕ) → item-walk-lts.Need-after-requires (item-claims t) (item-walk-at t) item-walk.Post item-walk-Inv-loop item-walk-μ-loop
+item-walk-after-requires t c κs = c .before .before .before .before .before .before .before .before .before .before .before .before .loop .inv .1
+
 item-walk-larger-requires : (t : ℕ) → item-walk-lts.Need-larger-requires (item-claims t) (item-walk-at t) item-walk.Post item-walk-Inv-loop item-walk-μ-loop
 item-walk-larger-requires t c κs = search needs
 
@@ -195,31 +203,31 @@ item-walk-smaller-requires t c κs = search needs
 
 item-walk-loop-less : (t : ℕ) → item-walk-lts.Need-loop-less (item-claims t) (item-walk-at t) item-walk.Post item-walk-Inv-loop item-walk-μ-loop
 item-walk-loop-less t c =
-    let a = c .before .before .before .before .before .before .before .before .before .before in
+    let a = c .before .before .before .before .before .before .before .before .before .before .before in
     let k = piece-stood (item-here t a) in
     omega (arith, k .some, a .before .before .before .loop-test .taken)
 
 item-walk-loop-again : (t : ℕ) → item-walk-lts.Need-loop-again (item-claims t) (item-walk-at t) item-walk.Post item-walk-Inv-loop item-walk-μ-loop
 item-walk-loop-again t c =
-    let a = c .before .before .before .before .before .before .before .before .before .before in
-    entry-more (item-here t a) (item-told-at t (c .before .before .before .before .before .before .before)) (c .before .before .before .before .before .w .given .1) (c .before .before .before .plus .ensures) (c .before .before .either .ensures) (c .before .larger .ensures) (c .smaller .ensures)
+    let a = c .before .before .before .before .before .before .before .before .before .before .before in
+    (entry-more (item-here t a) (item-told-at t (c .before .before .before .before .before .before .before .before)) (c .before .before .before .before .before .before .w .given .1) (c .before .before .before .before .plus .ensures) (c .before .before .before .either .ensures) (c .before .larger .ensures) (c .smaller .ensures), c .before .before .after .ensures)
 
 item-walk-returns-3 : (t : ℕ) → item-walk-lts.Need-returns-3 (item-claims t) (item-walk-at t) item-walk.Post item-walk-Inv-loop item-walk-μ-loop
-item-walk-returns-3 t c = turn-done (c .before .loop .inv) (c .loop-test .left)
+item-walk-returns-3 t c = turn-done (c .before .loop .inv .0) (c .loop-test .left)
 
 -- ---- the pack walk
 
 abbrev pack-walk-Inv-loop : pack-walk-lts.InvT-loop
-pack-walk-Inv-loop table s alone p₀ sum₀ top₀ low₀ p sum top low = SeriesGoing (formOf alone) s p sum top low
+pack-walk-Inv-loop table s alone p₀ sum₀ top₀ low₀ clear₀ p sum top low clear = SeriesGoing (formOf alone) s p sum top low × Clear (peek false true false) s clear
 
 abbrev pack-walk-μ-loop : pack-walk-lts.MeasureT-loop
-pack-walk-μ-loop table s alone p₀ sum₀ top₀ low₀ p sum top low = length s - p
+pack-walk-μ-loop table s alone p₀ sum₀ top₀ low₀ clear₀ p sum top low clear = length s - p
 
 -- a pack, where its head was read
 pack-here : (t : ℕ) (a : pack-walk-lts.After-h (pack-claims t) (pack-walk-at t) pack-walk.Post pack-walk-Inv-loop pack-walk-μ-loop)
     → PackAt (formOf (a .before .before .before .before .before .before .before .before .before .before .args .alone)) (a .before .before .before .before .before .before .before .before .before .before .args .s .now) (a .before .before .before .before .before .loop .p) (a .before .before .before .before .before .loop .sum) (a .before .before .before .before .before .loop .top) (a .before .before .before .before .before .loop .low) (a .h .given .0 .0) (a .h .given .0 .1 .0) (a .h .given .0 .1 .1 .0) (a .h .given .0 .1 .1 .1 .0)
 pack-here t a = record {
-  going = a .before .before .before .before .before .loop .inv;
+  going = a .before .before .before .before .before .loop .inv .0;
   here = a .before .before .before .before .loop-test .taken;
   it = a .before .before .quick-pack-head .result;
   told = a .before .before .quick-pack-head .ensures;
@@ -237,7 +245,7 @@ pack-walk-packs-requires : (t : ℕ) → pack-walk-lts.Need-packs-requires (pack
 pack-walk-packs-requires t c κs = c .before .before .pre .1
 
 pack-walk-loop-holds : (t : ℕ) → pack-walk-lts.Need-loop-holds (pack-claims t) (pack-walk-at t) pack-walk.Post pack-walk-Inv-loop pack-walk-μ-loop
-pack-walk-loop-holds t c = c .before .packs .ensures
+pack-walk-loop-holds t c = (c .before .packs .ensures, clear-none _ _)
 
 pack-walk-sub-quick-pack-head : (t : ℕ) → pack-walk-lts.Need-sub-quick-pack-head (pack-claims t) (pack-walk-at t) pack-walk.Post pack-walk-Inv-loop pack-walk-μ-loop
 pack-walk-sub-quick-pack-head t c = search needs
@@ -264,10 +272,10 @@ pack-walk-stop-requires : (t : ℕ) → pack-walk-lts.Need-stop-requires (pack-c
 pack-walk-stop-requires t c κs = search needs
 
 pack-walk-returns : (t : ℕ) → pack-walk-lts.Need-returns (pack-claims t) (pack-walk-at t) pack-walk.Post pack-walk-Inv-loop pack-walk-μ-loop
-pack-walk-returns t c = head-fault _ (c .before .before .before .before .before .before .before .loop .inv) (c .before .before .before .before .before .before .loop-test .taken) _ (c .before .before .before .before .quick-pack-head .ensures) (c .before .before .enum-told .given .1) (c .before .piece-fault .ensures) (c .stop .ensures)
+pack-walk-returns t c = head-fault _ (c .before .before .before .before .before .before .before .loop .inv .0) (c .before .before .before .before .before .before .loop-test .taken) _ (c .before .before .before .before .quick-pack-head .ensures) (c .before .before .enum-told .given .1) (c .before .piece-fault .ensures) (c .stop .ensures)
 
 pack-walk-is-seen-requires : (t : ℕ) → pack-walk-lts.Need-is-seen-requires (pack-claims t) (pack-walk-at t) pack-walk.Post pack-walk-Inv-loop pack-walk-μ-loop
-pack-walk-is-seen-requires t c κs = search needs
+pack-walk-is-seen-requires t c κs = (c .before .before .before .before .before .before .loop .inv .0 .to, c .before .before .before .before .before .before .loop .inv .1, pack-key _ (c .before .before .before .before .before .before .before .before .before .before .before .args .s .now) (c .before .before .before .before .before .before .loop .p) (c .before .h .given .1) (c .before .before .before .quick-pack-head .ensures))
 
 pack-walk-returns-2 : (t : ℕ) → pack-walk-lts.Need-returns-2 (pack-claims t) (pack-walk-at t) pack-walk.Post pack-walk-Inv-loop pack-walk-μ-loop
 pack-walk-returns-2 t c = id-again (pack-here t (c .before .before .before)) (c .before .is-seen .ensures) (c .if1 .taken) refl
@@ -317,6 +325,9 @@ pack-walk-pack-sizes-requires t c κs = (head-stood (pack-here t (c .before .bef
 pack-walk-plus-requires : (t : ℕ) → pack-walk-lts.Need-plus-requires (pack-claims t) (pack-walk-at t) pack-walk.Post pack-walk-Inv-loop pack-walk-μ-loop
 pack-walk-plus-requires t c κs = pack-small (pack-here t (c .before .before .before .before .before .before .before .before .before .before .before)) (c .before .before .before .before .before .before .before .before .before .is-seen .ensures) (c .before .before .before .before .before .before .before .before .if1 .left) (c .before .before .before .before .before .before .item-walk .ensures) (c .before .before .before .before .w .given .1) (either-is (c .before .before .before .before .before .before .before .before .before .before .before .before .before .before .before .before .before .before .before .before .before .args .alone) _ (c .before .before .either .ensures)) (c .pack-sizes .ensures)
 
+pack-walk-after-requires : (t : ℕ) → pack-walk-lts.Need-after-requires (pack-claims t) (pack-walk-at t) pack-walk.Post pack-walk-Inv-loop pack-walk-μ-loop
+pack-walk-after-requires t c κs = c .before .before .before .before .before .before .before .before .before .before .before .before .before .before .before .before .before .loop .inv .1
+
 pack-walk-larger-requires : (t : ℕ) → pack-walk-lts.Need-larger-requires (pack-claims t) (pack-walk-at t) pack-walk.Post pack-walk-Inv-loop pack-walk-μ-loop
 pack-walk-larger-requires t c κs = search needs
 
@@ -324,16 +335,16 @@ pack-walk-smaller-requires : (t : ℕ) → pack-walk-lts.Need-smaller-requires (
 pack-walk-smaller-requires t c κs = search needs
 
 pack-walk-loop-less : (t : ℕ) → pack-walk-lts.Need-loop-less (pack-claims t) (pack-walk-at t) pack-walk.Post pack-walk-Inv-loop pack-walk-μ-loop
-pack-walk-loop-less t c = omega (arith, head-stood (pack-here t (c .before .before .before .before .before .before .before .before .before .before .before .before .before .before)) .len, c .before .before .before .before .before .before .before .before .before .before .before .before .before .before .before .before .before .before .loop-test .taken)
+pack-walk-loop-less t c = omega (arith, head-stood (pack-here t (c .before .before .before .before .before .before .before .before .before .before .before .before .before .before .before)) .len, c .before .before .before .before .before .before .before .before .before .before .before .before .before .before .before .before .before .before .before .loop-test .taken)
 
 pack-walk-loop-again : (t : ℕ) → pack-walk-lts.Need-loop-again (pack-claims t) (pack-walk-at t) pack-walk.Post pack-walk-Inv-loop pack-walk-μ-loop
-pack-walk-loop-again t c = pack-more (pack-here t (c .before .before .before .before .before .before .before .before .before .before .before .before .before .before)) (c .before .before .before .before .before .before .before .before .before .before .before .before .is-seen .ensures) (c .before .before .before .before .before .before .before .before .before .before .before .if1 .left) (c .before .before .before .before .before .before .before .before .before .item-walk .ensures) (c .before .before .before .before .before .before .before .w .given .1) (either-is (c .before .before .before .before .before .before .before .before .before .before .before .before .before .before .before .before .before .before .before .before .before .before .before .before .args .alone) _ (c .before .before .before .before .before .either .ensures)) (c .before .before .before .before .if2 .taken) (c .before .before .plus .ensures ∙ ap (plusSizes _) (c .before .before .before .pack-sizes .ensures)) (c .before .larger .ensures) (c .smaller .ensures)
+pack-walk-loop-again t c = (pack-more (pack-here t (c .before .before .before .before .before .before .before .before .before .before .before .before .before .before .before)) (c .before .before .before .before .before .before .before .before .before .before .before .before .before .is-seen .ensures) (c .before .before .before .before .before .before .before .before .before .before .before .before .if1 .left) (c .before .before .before .before .before .before .before .before .before .before .item-walk .ensures) (c .before .before .before .before .before .before .before .before .w .given .1) (either-is (c .before .before .before .before .before .before .before .before .before .before .before .before .before .before .before .before .before .before .before .before .before .before .before .before .before .args .alone) _ (c .before .before .before .before .before .before .either .ensures)) (c .before .before .before .before .before .if2 .taken) (c .before .before .before .plus .ensures ∙ ap (plusSizes _) (c .before .before .before .before .pack-sizes .ensures)) (c .before .larger .ensures) (c .smaller .ensures), c .before .before .after .ensures)
 
 pack-walk-returns-4 : (t : ℕ) → pack-walk-lts.Need-returns-4 (pack-claims t) (pack-walk-at t) pack-walk.Post pack-walk-Inv-loop pack-walk-μ-loop
 pack-walk-returns-4 t c = no-location (pack-here t (c .before .before .before .before .before .before .before .before .before .before)) (c .before .before .before .before .before .before .before .before .is-seen .ensures) (c .before .before .before .before .before .before .before .if1 .left) (c .before .before .before .before .before .item-walk .ensures) (c .before .before .before .w .given .1) (either-is (c .before .before .before .before .before .before .before .before .before .before .before .before .before .before .before .before .before .before .before .before .args .alone) _ (c .before .either .ensures)) (c .if2 .left) refl
 
 pack-walk-returns-5 : (t : ℕ) → pack-walk-lts.Need-returns-5 (pack-claims t) (pack-walk-at t) pack-walk.Post pack-walk-Inv-loop pack-walk-μ-loop
-pack-walk-returns-5 t c = turn-done (c .before .loop .inv) (c .loop-test .left)
+pack-walk-returns-5 t c = turn-done (c .before .loop .inv .0) (c .loop-test .left)
 
 pub +item-walk+pack-walk-spec : {M : Type 1} → statement M
 +item-walk+pack-walk-spec =
@@ -344,7 +355,7 @@ pub +item-walk+pack-walk-spec : {M : Type 1} → statement M
     (item-walk-is-series-requires t) (item-walk-sub-pack-walk t) (item-walk-part-pack-walk-start t) (item-walk-part-pack-walk-end t)
     (item-walk-pack-walk-requires t) (item-walk-series-of-requires t) (item-walk-one-item-requires t) (item-walk-enum-known-w t)
     (item-walk-enum-told-2 t) (item-walk-later-requires t) (item-walk-returns-2 t) (item-walk-plus-requires t)
-    (item-walk-either-requires t) (item-walk-larger-requires t) (item-walk-smaller-requires t) (item-walk-loop-less t)
+    (item-walk-either-requires t) (item-walk-after-requires t) (item-walk-larger-requires t) (item-walk-smaller-requires t) (item-walk-loop-less t)
     (item-walk-loop-again t) (item-walk-returns-3 t))
     (λ t. pack-walk-lts.spec (pack-claims t) (pack-walk-at t) pack-walk.Post pack-walk-Inv-loop pack-walk-μ-loop
     (pack-walk-packs-requires t) (pack-walk-loop-holds t) (pack-walk-sub-quick-pack-head t) (pack-walk-part-quick-pack-head-start t)
@@ -354,5 +365,5 @@ pub +item-walk+pack-walk-spec : {M : Type 1} → statement M
     (pack-walk-add-next-2 t) (pack-walk-sub-item-walk t) (pack-walk-part-item-walk-start t) (pack-walk-part-item-walk-end t)
     (pack-walk-item-walk-requires t) (pack-walk-enum-known-w t) (pack-walk-enum-told-2 t) (pack-walk-later-requires t)
     (pack-walk-returns-3 t) (pack-walk-either-requires t) (pack-walk-pack-sizes-requires t) (pack-walk-plus-requires t)
-    (pack-walk-larger-requires t) (pack-walk-smaller-requires t) (pack-walk-loop-less t) (pack-walk-loop-again t)
-    (pack-walk-returns-4 t) (pack-walk-returns-5 t))
+    (pack-walk-after-requires t) (pack-walk-larger-requires t) (pack-walk-smaller-requires t) (pack-walk-loop-less t)
+    (pack-walk-loop-again t) (pack-walk-returns-4 t) (pack-walk-returns-5 t))

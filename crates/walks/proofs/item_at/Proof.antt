@@ -3,6 +3,7 @@
 use mathlib.Core.Path.{sym}
 use native.Mathlib.Omega.{arith}
 use borrow.Author.Needs.{needs}
+use Rattle.heads.proofs.Before.{item-key}
 use Rattle.walks.proofs.Pieces.{piece-tail, piece-head, piece-within, piece-empty, piece-standing, piece-valued, piece-whole}
 use Rattle.walks.proofs.item_at.Statement.{statement}
 use Rattle.walks.proofs.item_at.Tie as tie
@@ -47,7 +48,10 @@ add-end c =
     omega (arith, piece-within _ _ (h .before .before .item-head .ensures) (h .h .given .1))
 
 is-seen-requires : tie.Need-is-seen-requires
-is-seen-requires c κs = search needs
+is-seen-requires c κs =
+    let h = c .before .before in
+    let q = h .before .before .before .before .before .before in
+    (search needs, q .pre .2, item-key _ (q .args .s .now) (q .args .p) (h .h .given .1) (h .before .before .item-head .ensures))
 
 standing-of-requires : tie.Need-standing-of-requires
 standing-of-requires c κs = search needs

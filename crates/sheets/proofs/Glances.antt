@@ -11,7 +11,7 @@ use borrow.Author.Tests.{ne-eqb, ltb-true, ltb-false, leb-true, leb-false}
 use Rattle.format.specs.Answer.{refused, _>>=_, need}
 use Rattle.format.specs.Coding.{Bytes, tagOf, oid, oidGo, lenOf}
 use Rattle.format.specs.Lists.{none?}
-use Rattle.format.specs.Table.{Form, Rule, ruleOf, isNumber, strip, short}
+use Rattle.format.specs.Table.{Form, Rule, pack, ruleOf, isNumber, strip, short}
 use Rattle.format.specs.Read.{headOf}
 use Rattle.format.specs.Sheet.{valBytes}
 use Rattle.coding.specs.Code.{numOf}
@@ -19,46 +19,15 @@ use Rattle.coding.specs.declared.Num.the-variants.{Value, Refused}
 use Rattle.coding.proofs.Lens.{len-small}
 use Rattle.coding.proofs.Oid.{tag-one}
 use Rattle.coding.proofs.Rooms.{tail-part}
-use Rattle.items.specs.Meet.{levelOf}
 use Rattle.heads.specs.declared.Head.the-variants as heads
 use Rattle.heads.specs.Meet.{itemHeadOf}
 use Rattle.heads.proofs.Heads.{mid-part, item-head-tag, item-head-over, item-head-short}
 use Rattle.stores.proofs.Puts.{Puts}
-use Rattle.stores.proofs.Shortest.{NoSeal, other-tag}
 use Rattle.stores.proofs.Entries.{valueAt, value-long, entry-fault, entry-room}
 use Rattle.sheets.specs.Meet.{itemSheet, levelSheet}
 use Rattle.sheets.specs.Quick.{LevelPassed, Glanced}
 use Rattle.sheets.proofs.Records.{val-long}
 use Rattle.sheets.proofs.Turns.{LevelSheets, SheetEntry, one-room, one-more}
-
--- ---- what the code finds
-
--- neither the set's checksum nor the series
-abbrev pub Plain : Bool → ℕ → Type 0
-Plain b tag = NoSeal b tag × (b && eqb tag 101 ≡ false)
-
-pub plain-tag : (b : Bool) (tag : ℕ) → (tag ≡ 1 → ⊥) → (tag ≡ 101 → ⊥) → Plain b tag
-plain-tag b tag h k = (other-tag b tag h, series b)
-  where
-    series : (b : Bool) → b && eqb tag 101 ≡ false
-    series true = ne-eqb tag 101 k
-    series false = refl
-
-pub plain-pack : (b : Bool) (tag : ℕ) → b ≡ false → Plain b tag
-plain-pack b tag e = rw e (refl, refl)
-
-pub glance-from : {b : Bool} (s : List ℕ) (p : ℕ) {tag n : ℕ} → p + 2 < length s → tag ≡ getD s p 0 → tag < 128 → Plain b tag → n ≡ getD s (p + 1) 0 → n < 128 → 0 < n
-    → (getD s (p + 2) 0 ≡ 0 → n ≡ 1) → Glanced b s p n
-glance-from s p here et small plain en few some shortest = record {
-  here = here;
-  small = omega arith;
-  size-is = en;
-  few = few;
-  some = some;
-  no-seal = rw et at (plain .0);
-  no-series = rw et at (plain .1);
-  shortest = shortest;
-}
 
 -- ---- its value is shortest
 
@@ -86,13 +55,23 @@ unfolding tagOf oid oidGo _>>=_ need
 zero-tag [] h e = absurd (omega arith)
 zero-tag (b ∷ s) h e = rw e
 
-module _ {b : Bool} (f : Form) {s out₀ out : List ℕ} {p k n : ℕ} (g : LevelPassed b f s out₀ out p k) (q : Glanced b s p n) (bytes : Bytes s) (most : length s ≤ 8192)
-    (room : length (levelSheet (levelOf b) f s) ≤ length out) where
+-- the turn at such an item
+pub record Turn (f : Form) (s out₀ out : List ℕ) (p k n : ℕ) : Type 0 where
+  pub passed : LevelPassed false f s out₀ out p k
+  pub glanced : Glanced s p n
+  pub bytes : Bytes s
+  pub most : length s ≤ 8192
+  pub room : length (levelSheet pack f s) ≤ length out₀
+
+module _ {f : Form} {s out₀ out : List ℕ} {p k n : ℕ} (i : Turn f s out₀ out p k n) where
+  abbrev q : Glanced s p n
+  q = i .glanced
+
   abbrev tag : ℕ
   tag = getD s p 0
 
   tag-is : tag ≡ getD (drop p s) 0 0
-  tag-is = sym (getD-drop p s 0 0 ∙ ap (λ i. getD s i 0) (omega arith))
+  tag-is = sym (getD-drop p s 0 0 ∙ ap (λ j. getD s j 0) (omega arith))
 
   size-is : n ≡ getD (drop 1 (drop p s)) 0 0
   size-is = q .size-is ∙ sym (getD-drop 1 (drop p s) 0 0 ∙ getD-drop p s 1 0)
@@ -100,11 +79,11 @@ module _ {b : Bool} (f : Form) {s out₀ out : List ℕ} {p k n : ℕ} (g : Leve
   long : 2 < length (drop p s)
   long = rw length-drop (omega (arith, q .here))
 
-  going : LevelSheets b f s out₀ out p k
-  going = record { writes = g }
+  going : LevelSheets false f s out₀ out p k
+  going = record { writes = i .passed }
 
   -- what stands there was accepted: no head is at fault
-  no-fault : {X : Type 0} (m : ℕ) → refused m 0 ≡ headOf (levelOf b) (drop p s) → X
+  no-fault : {X : Type 0} (m : ℕ) → refused m 0 ≡ headOf pack (drop p s) → X
   no-fault m e = entry-fault going (omega (arith, q .here)) {a = heads.Fault m} (rw tail-part e) refl
 
   some-tag : 0 < tag
@@ -112,7 +91,7 @@ module _ {b : Bool} (f : Form) {s out₀ out : List ℕ} {p k n : ℕ} (g : Leve
     where
       go : (t : Bool) → ltb 0 tag ≡ t → 0 < tag
       go true e = ltb-true 0 tag e
-      go false e = no-fault 4 (item-head-tag (drop p s) {a = Refused 4} (zero-tag (drop p s) (omega (arith, long)) (omega (arith, tag-is, ltb-false 0 tag e))) (levelOf b) refl refl)
+      go false e = no-fault 4 (item-head-tag (drop p s) {a = Refused 4} (zero-tag (drop p s) (omega (arith, long)) (omega (arith, tag-is, ltb-false 0 tag e))) pack refl refl)
 
   fits : 1 + 1 + n ≤ length (drop p s)
   fits = go (leb (1 + 1 + n) (length (drop p s))) refl
@@ -123,78 +102,51 @@ module _ {b : Bool} (f : Form) {s out₀ out : List ℕ} {p k n : ℕ} (g : Leve
       go : (t : Bool) → leb (1 + 1 + n) (length (drop p s)) ≡ t → 1 + 1 + n ≤ length (drop p s)
       go true e = leb-true (1 + 1 + n) (length (drop p s)) e
       go false e =
-          no-fault 6 (item-head-over (drop p s) {a = Value tag 1} (tag-one (drop p s) (omega (arith, long)) tag tag-is (q .small) some-tag) refl {b = Value n 1} eb refl (levelOf b)
-          {x = false} (rw (q .no-seal)) refl (omega (arith, long)) (omega (arith, leb-false (1 + 1 + n) (length (drop p s)) e)))
+          no-fault 6 (item-head-over (drop p s) {a = Value tag 1} (tag-one (drop p s) (omega (arith, long)) tag tag-is (q .small) some-tag) refl {b = Value n 1} eb refl pack
+          {x = false} refl refl (omega (arith, long)) (omega (arith, leb-false (1 + 1 + n) (length (drop p s)) e)))
 
-  entry : SheetEntry b f s out₀ out p k tag 1 1 n
+  entry : SheetEntry false f s out₀ out p k tag 1 1 n
   entry = record {
     going = going;
     here = omega (arith, q .here);
     head = heads.Whole tag 1 1 n;
-    reads = rw tail-part (item-head-short (levelOf b) (drop p s) tag n tag-is size-is some-tag (q .small) (q .few) fits (q .no-seal));
+    reads = rw tail-part (item-head-short pack (drop p s) tag n tag-is size-is some-tag (q .small) (q .few) fits refl);
     whole = refl;
-    bytes = bytes;
-    most = most;
-    room = omega (arith, room, g .same);
+    bytes = i .bytes;
+    most = i .most;
+    room = i .room;
   }
 
   two : p + 1 + 1 ≡ p + 2
   two = omega arith
 
-  pub glanced-room : (p + 2 + n ≤ length s) × (0 < n) × (length s ≤ 8192)
-  glanced-room = rw two at (entry-room entry)
+  pub turn-fits : (p + 2 + n ≤ length s) × (0 < n) × (length s ≤ 8192)
+  turn-fits = rw two at (entry-room entry)
 
   -- its value, as it is lent
   abbrev value : List ℕ
   value = take (p + 2 + n - (p + 2)) (drop (p + 2) s)
 
   value-is : valueAt entry ≡ value
-  value-is = ap (λ i. take (i + n - i) (drop i s)) two
+  value-is = ap (λ j. take (j + n - j) (drop j s)) two
 
-  record-is : valBytes (levelOf b) (record { tag = tag; value = value }) ≡ itemSheet (levelOf b) tag (valueAt entry)
+  record-is : valBytes pack (record { tag = tag; value = value }) ≡ itemSheet pack tag (valueAt entry)
   unfolding itemSheet
-  record-is = rw (q .no-seal, itemSheet) (ap (λ x. valBytes (levelOf b) (record { tag = tag; value = x })) (sym value-is ∙ sym (one-kept (ruleOf (levelOf b) tag) (valueAt entry) one)))
+  record-is = ap (λ x. valBytes pack (record { tag = tag; value = x })) (sym value-is ∙ sym (one-kept (ruleOf pack tag) (valueAt entry) one))
     where
       head : getD (valueAt entry) 0 0 ≡ getD s (p + 2) 0
-      head = ap (λ v. getD v 0 0) (value-is ∙ mid-part (p + 2) n s) ∙ getD-take n _ 0 0 (q .some) ∙ getD-drop (p + 2) s 0 0 ∙ ap (λ i. getD s i 0) (omega arith)
+      head = ap (λ v. getD v 0 0) (value-is ∙ mid-part (p + 2) n s) ∙ getD-take n _ 0 0 (q .some) ∙ getD-drop (p + 2) s 0 0 ∙ ap (λ j. getD s j 0) (omega arith)
 
       one : getD (valueAt entry) 0 0 ≡ 0 → length (valueAt entry) ≡ 1
       one e = value-long entry ∙ q .shortest (sym head ∙ e)
 
   -- x is its tag as the code read it
   module _ {x : ℕ} (ex : x ≡ tag) where
-    pub put-room : (x ≤ 16383) × (k + (6 + length value) ≤ length out)
-    put-room = (omega (arith, ex, q .small), omega (arith, one-room entry {x = b && eqb tag 101} refl (q .no-series) .1, val-long (levelOf b) tag value, ap length record-is))
+    pub turn-room : (x ≤ 16383) × (k + (6 + length value) ≤ length out)
+    turn-room = (omega (arith, ex, q .small), omega (arith, one-room entry {x = false} refl refl .1, val-long pack tag value, ap length record-is))
 
-    pub glanced-more : {k′ : ℕ} {out′ : List ℕ} → (k′ ≡ k + (6 + length value)) × (out′ ≡ sets out k (valBytes (levelOf b) (record { tag = x; value = value }))) → LevelPassed b f s out₀ out′ (p + 2 + n) k′
-    glanced-more {k′ = k′} {out′ = out′} e =
-        let e′ : Puts out k (itemSheet (levelOf b) tag (valueAt entry)) k′ out′ =
-        (omega (arith, e .0, val-long (levelOf b) tag value, ap length record-is), e .1 ∙ ap (λ y. sets out k (valBytes (levelOf b) (record { tag = y; value = value }))) ex ∙ ap (sets out k) record-is) in
-        rw two at (one-more entry {x = b && eqb tag 101} refl (q .no-series) e′ .writes)
-
--- a turn of the run that began where from bytes were passed and at were stored
-pub record Turn (b : Bool) (f : Form) (s out₁ out : List ℕ) (from at p k n : ℕ) : Type 0 where
-  pub begun : (o : List ℕ) × LevelPassed b f s o out₁ from at
-  pub passed : (o : List ℕ) → LevelPassed b f s o out₁ from at → LevelPassed b f s o out p k
-  pub glanced : Glanced b s p n
-  pub bytes : Bytes s
-  pub most : length s ≤ 8192
-  pub room : length (levelSheet (levelOf b) f s) ≤ length out₁
-
-module _ {b : Bool} {f : Form} {s out₁ out : List ℕ} {from at p k n : ℕ} (i : Turn b f s out₁ out from at p k n) where
-  here : LevelPassed b f s (i .begun .0) out p k
-  here = i .passed (i .begun .0) (i .begun .1)
-
-  out-room : length (levelSheet (levelOf b) f s) ≤ length out
-  out-room = omega (arith, i .room, i .begun .1 .same, here .same)
-
-  pub turn-fits : (p + 2 + n ≤ length s) × (0 < n) × (length s ≤ 8192)
-  turn-fits = glanced-room f here (i .glanced) (i .bytes) (i .most) out-room
-
-  pub turn-room : {x : ℕ} → x ≡ getD s p 0 → (x ≤ 16383) × (k + (6 + length (take (p + 2 + n - (p + 2)) (drop (p + 2) s))) ≤ length out)
-  turn-room ex = put-room f here (i .glanced) (i .bytes) (i .most) out-room ex
-
-  pub turn-more : {x : ℕ} → x ≡ getD s p 0 → {k′ : ℕ} {out′ : List ℕ}
-      → (k′ ≡ k + (6 + length (take (p + 2 + n - (p + 2)) (drop (p + 2) s)))) × (out′ ≡ sets out k (valBytes (levelOf b) (record { tag = x; value = take (p + 2 + n - (p + 2)) (drop (p + 2) s) })))
-      → (o : List ℕ) → LevelPassed b f s o out₁ from at → LevelPassed b f s o out′ (p + 2 + n) k′
-  turn-more ex e o g = glanced-more f (i .passed o g) (i .glanced) (i .bytes) (i .most) out-room ex e
+    pub turn-more : {k′ : ℕ} {out′ : List ℕ} → (k′ ≡ k + (6 + length value)) × (out′ ≡ sets out k (valBytes pack (record { tag = x; value = value }))) → LevelPassed false f s out₀ out′ (p + 2 + n) k′
+    turn-more {k′ = k′} {out′ = out′} e =
+        let e′ : Puts out k (itemSheet pack tag (valueAt entry)) k′ out′ =
+        (omega (arith, e .0, val-long pack tag value, ap length record-is), e .1 ∙ ap (λ y. sets out k (valBytes pack (record { tag = y; value = value }))) ex ∙ ap (sets out k) record-is) in
+        rw two at (one-more entry {x = false} refl refl e′ .writes)

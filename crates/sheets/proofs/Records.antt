@@ -65,6 +65,17 @@ target-stored id o a {o₁ = o₁} {a₁ = a₁} p q =
     let whole = puts-then o a (fixed 2 21575) (fixed 8 id) (puts-fixed o a 2 21575 p) (puts-fixed o₁ a₁ 8 id q) in
     (omega (arith, p .0, q .0), rw target-mark at (whole .1))
 
+short-target : (id : ℕ) → id < 65536 → fixed 8 6072822622532403200 ++ fixed 2 id ≡ TG .0 ∷ TG .1 ∷ fixed 8 id
+unfolding fixed
+short-target id h = let e : id / 256 / 256 ≡ 0 = omega arith in rw e
+
+-- an id of two bytes: the zeros before them are stored with the mark
+pub short-target-stored : (id : ℕ) → id < 65536 → (o : List ℕ) (a : ℕ) {o₁ o₂ : List ℕ} {a₁ r : ℕ} → (a₁ ≡ a + 8) × (o₁ ≡ sets o a (fixed 8 6072822622532403200))
+    → (r ≡ a₁ + 2) × (o₂ ≡ sets o₁ a₁ (fixed 2 id)) → (r ≡ a + 10) × (o₂ ≡ sets o a (TG .0 ∷ TG .1 ∷ fixed 8 id))
+short-target-stored id h o a {o₁ = o₁} {a₁ = a₁} p q =
+    let whole = puts-then o a (fixed 8 6072822622532403200) (fixed 2 id) (puts-fixed o a 8 6072822622532403200 p) (puts-fixed o₁ a₁ 2 id q) in
+    (omega (arith, p .0, q .0), whole .1 ∙ ap (sets o a) (short-target id h))
+
 -- ---- an item of a packet
 
 -- the set's checksum has no record

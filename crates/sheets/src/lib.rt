@@ -1,13 +1,15 @@
 // A packet's sheet, written into a lent output as the item walk and the pack walk go over a packet that was checked.
 ghost use mathlib.Core.Path.{_≡_};
-ghost use Prim.Native.Nat.{_+_, _*_, _≤_, _<_};
+ghost use Prim.Native.Nat.{ℕ, _+_, _*_, _≤_, _<_};
 ghost use lib.ListN.{length};
 ghost use lib.Seq.{sets};
-ghost use mathlib.Core.List.{_∷_};
+ghost use mathlib.Core.List.{List, _∷_};
 ghost use Rattle.format.specs.Coding.{fixed};
 ghost use Rattle.format.specs.Sheet.{valBytes, markOf, TG};
 ghost use Rattle.items.specs.Meet.{formOf, levelOf, itemTable};
+ghost use Rattle.format.specs.Table.{pack};
 ghost use Rattle.sheets.specs.Meet.{itemSheet, levelSheet, seriesSheet};
+ghost use Rattle.sheets.specs.Quick.{LevelPassed};
 ghost use Rattle.walks.specs.Runs.{Ran, levelRun, seriesRun};
 use heads::Head;
 
@@ -44,31 +46,37 @@ fn put_plain(table: &[u64], out: &mut [u8], at: usize, set: bool, tag: u64, v: &
     put_item(out, at, set, tag, &v[v.len() - n..])
 }
 
-// A target's mark and id; where they end.
+// A target's mark and id; where they end. Of most ids the mark and all bytes but the last two are one number, which is one store.
 fn put_target(out: &mut [u8], at: usize, id: u64) -> usize
     requires { ⌜ at + 10 ≤ length (now out) ⌝ }
     ensures { λ r. ⌜ (r ≡ at + 10) × (now (out .exit) ≡ sets (now (out .entry)) at (TG .0 ∷ TG .1 ∷ fixed 8 id)) ⌝ }
 {
+    if id < 65536 {
+        let b = stores::put_number(out, at, 6072822622532403200, 8);
+        return stores::put_number(out, b, id, 2);
+    }
     let a = stores::put_number(out, at, 21575, 2);
     stores::put_number(out, a, id, 8)
 }
 
 // ---- the walks
 
-// The items of a level: the set, or a pack; how many bytes.
-pub fn item_sheet(table: &[u64], s: &[u8], set: bool, alone: bool, out: &mut [u8]) -> usize
-    requires { ⌜ (now table ≡ itemTable) × ((length (now s) ≤ 8192) × Ran (levelRun (levelOf set) (formOf alone) (now s)) × (length (levelSheet (levelOf set) (formOf alone) (now s)) ≤ length (now out))) ⌝ }
-    ensures { λ r. ⌜ (r ≡ length (levelSheet (levelOf set) (formOf alone) (now (s .entry)))) × (now (out .exit) ≡ sets (now (out .entry)) 0 (levelSheet (levelOf set) (formOf alone) (now (s .entry)))) ⌝ }
+// The items of a level from a place on, where at bytes of its sheet are written; how many bytes the sheet has.
+fn rest_sheet(
+    table: &[u64],
+    s: &[u8],
+    from: usize,
+    at: usize,
+    set: bool,
+    alone: bool,
+    out: &mut [u8],
+) -> usize
+    requires { ⌜ (now table ≡ itemTable) × ((length (now s) ≤ 8192) × (length (levelSheet (levelOf set) (formOf alone) (now s)) ≤ length (now out)) × ((o : List ℕ) × LevelPassed set (formOf alone) (now s) o (now out) from at)) ⌝ }
+    ensures { λ r. ⌜ (r ≡ length (levelSheet (levelOf set) (formOf alone) (now (s .entry)))) × ((o : List ℕ) → LevelPassed set (formOf alone) (now (s .entry)) o (now (out .entry)) from at → now (out .exit) ≡ sets o 0 (levelSheet (levelOf set) (formOf alone) (now (s .entry)))) ⌝ }
 {
-    let mut p: usize = 0;
-    let mut k: usize = 0;
-    loop {
-        let q = quick::run(s, p, k, set, alone, out);
-        p = q.used;
-        k = q.wrote;
-        if s.len() <= p {
-            return k;
-        }
+    let mut p = from;
+    let mut k = at;
+    while p < s.len() {
         let h = heads::item_head(&s[p..], set);
         let Head::Whole {
             key,
@@ -89,6 +97,20 @@ pub fn item_sheet(table: &[u64], s: &[u8], set: bool, alone: bool, out: &mut [u8
         };
         p = next;
     }
+    k
+}
+
+// The items of a pack, the quick way first; how many bytes.
+fn pack_items(table: &[u64], s: &[u8], alone: bool, out: &mut [u8]) -> usize
+    requires { ⌜ (now table ≡ itemTable) × ((length (now s) ≤ 8192) × Ran (levelRun pack (formOf alone) (now s)) × (length (levelSheet pack (formOf alone) (now s)) ≤ length (now out))) ⌝ }
+    ensures { λ r. ⌜ (r ≡ length (levelSheet pack (formOf alone) (now (s .entry)))) × (now (out .exit) ≡ sets (now (out .entry)) 0 (levelSheet pack (formOf alone) (now (s .entry)))) ⌝ }
+{
+    let q = quick::run(s, alone, out);
+    let p = q.used;
+    if s.len() <= p {
+        return q.wrote;
+    }
+    rest_sheet(table, s, p, q.wrote, false, alone, out)
 }
 
 // The packs of a series; how many bytes.
@@ -112,10 +134,18 @@ pub fn pack_sheet(table: &[u64], s: &[u8], alone: bool, out: &mut [u8]) -> usize
         let from = p + width + used;
         let next = p + width + size;
         let m = put_target(out, k, key);
-        k = m + item_sheet(table, &s[from..next], false, alone, &mut out[m..]);
+        k = m + pack_items(table, &s[from..next], alone, &mut out[m..]);
         p = next;
     }
     k
+}
+
+// The items of a level: the set, or a pack; how many bytes.
+pub fn item_sheet(table: &[u64], s: &[u8], set: bool, alone: bool, out: &mut [u8]) -> usize
+    requires { ⌜ (now table ≡ itemTable) × ((length (now s) ≤ 8192) × Ran (levelRun (levelOf set) (formOf alone) (now s)) × (length (levelSheet (levelOf set) (formOf alone) (now s)) ≤ length (now out))) ⌝ }
+    ensures { λ r. ⌜ (r ≡ length (levelSheet (levelOf set) (formOf alone) (now (s .entry)))) × (now (out .exit) ≡ sets (now (out .entry)) 0 (levelSheet (levelOf set) (formOf alone) (now (s .entry)))) ⌝ }
+{
+    rest_sheet(table, s, 0, 0, set, alone, out)
 }
 
 pub mod quick; // quick.rt: the records of items told at a glance

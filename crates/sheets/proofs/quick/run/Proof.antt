@@ -1,11 +1,14 @@
 -- `sheets::quick::run` meets its contract: each turn is a turn of the item walk.
-use mathlib.Core.Path.{sym, _∙_}
-use Prim.Native.Nat.{ℕ, _-_, _≤_}
+use Prim.Native.Nat.{_-_}
 use native.Mathlib.Omega.{arith}
-use mathlib.Core.List.{List}
+use mathlib.Core.Bool.{false}
 use lib.ListN.{length}
 use borrow.Author.Needs.{needs}
+use Rattle.format.specs.Table.{pack}
 use Rattle.items.specs.Meet.{formOf}
+use Rattle.stores.proofs.Writing.{each}
+use Rattle.stores.proofs.Entries.{level-start}
+use Rattle.sheets.specs.Meet.{entrySheet}
 use Rattle.sheets.specs.Quick.{LevelPassed}
 use Rattle.sheets.proofs.Glances.{Turn, turn-fits, turn-room, turn-more}
 use Rattle.sheets.proofs.quick.run.Statement.{statement}
@@ -17,31 +20,30 @@ use Rattle.sheets.proofs.put_item.Reads as put-item-reads
 use Rattle.sheets.proofs.quick.glance.Reads as glance-reads
 
 abbrev Inv-loop : tie.InvT-loop
-Inv-loop s from at set alone out₀ p₀ k₀ out p k = (from ≤ p) × ((o : List ℕ) → LevelPassed set (formOf alone) s o out₀ from at → LevelPassed set (formOf alone) s o out p k)
+Inv-loop s alone out₀ p₀ k₀ out p k = LevelPassed false (formOf alone) s out₀ out p k
 
 abbrev μ-loop : tie.MeasureT-loop
-μ-loop s from at set alone out₀ p₀ k₀ out p k = length s - p
+μ-loop s alone out₀ p₀ k₀ out p k = length s - p
 
 -- the turn at an item told at a glance
 turn : (a : lts.Else1 (glance-reads.Asked, glance-reads.Learnt, wide-reads.Asked, wide-reads.Learnt, put-item-reads.Asked, put-item-reads.Learnt) reads.Pre reads.Post Inv-loop μ-loop)
-    → Turn (a .before .before .before .before .before .args .set) (formOf (a .before .before .before .before .before .args .alone)) (a .before .before .before .before .before .args .s .now) (a .before .before .before .before .before .args .out .now) (a .before .before .loop .out) (a .before .before .before .before .before .args .from) (a .before .before .before .before .before .args .at) (a .before .before .loop .p) (a .before .before .loop .k) (a .before .glance .result)
+    → Turn (formOf (a .before .before .before .before .before .args .alone)) (a .before .before .before .before .before .args .s .now) (a .before .before .before .before .before .args .out .now) (a .before .before .loop .out) (a .before .before .loop .p) (a .before .before .loop .k) (a .before .glance .result)
 turn a = record {
-  begun = a .before .before .before .before .before .pre .2;
-  passed = a .before .before .loop .inv .1;
+  passed = a .before .before .loop .inv;
   glanced = a .before .glance .ensures (omega (arith, a .if1 .left));
   bytes = λ i. a .before .before .before .before .shared-slice-known .given i .fits;
   most = a .before .before .before .before .before .pre .0;
-  room = a .before .before .before .before .before .pre .1;
+  room = a .before .before .before .before .before .pre .2;
 }
 
 loop-holds : tie.Need-loop-holds Inv-loop μ-loop
-loop-holds c = (omega arith, λ o g. g)
+loop-holds c = level-start (each (entrySheet pack)) false _ tt _ _ (c .before .before .pre .1) .writes
 
 glance-requires : tie.Need-glance-requires Inv-loop μ-loop
-glance-requires c κs = (c .loop .inv .1 (c .before .before .before .pre .2 .0) (c .before .before .before .pre .2 .1) .to, c .before .before .before .pre .0)
+glance-requires c κs = (c .loop .inv .to, c .before .before .before .pre .0)
 
 same-length : tie.Need-same-length Inv-loop μ-loop
-same-length c = let i = c .before .before .before .before .before .pre .2 in c .before .before .loop .inv .1 (i .0) (i .1) .same ∙ sym (i .1 .same)
+same-length c = c .before .before .loop .inv .same
 
 returns : tie.Need-returns Inv-loop μ-loop
 returns c = c .before .before .loop .inv
@@ -74,7 +76,7 @@ loop-less : tie.Need-loop-less Inv-loop μ-loop
 loop-less c = omega (arith, turn-fits (turn (c .before .before .before .before .before .before .before)))
 
 loop-again : tie.Need-loop-again Inv-loop μ-loop
-loop-again c = (omega (arith, c .before .before .before .before .before .before .before .before .before .loop .inv .0), turn-more (turn (c .before .before .before .before .before .before .before)) (c .before .before .before .before .before .wide .ensures .0) (c .before .before .put-item .ensures))
+loop-again c = turn-more (turn (c .before .before .before .before .before .before .before)) (c .before .before .before .before .before .wide .ensures .0) (c .before .before .put-item .ensures)
 
 pub run-spec : {M : Type 1} → statement M
 run-spec =

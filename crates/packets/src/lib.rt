@@ -1,6 +1,6 @@
 // The entries of a packet's set in normal form, written into a lent output from a sheet that was checked, record by record.
 ghost use mathlib.Core.Path.{_≡_};
-ghost use Prim.Native.Nat.{_+_, _≤_};
+ghost use Prim.Native.Nat.{_+_, _-_, _≤_};
 ghost use lib.ListN.{length, take, drop};
 ghost use lib.Seq.{sets};
 ghost use Rattle.items.specs.Meet.{formOf, levelOf, itemTable};
@@ -25,21 +25,22 @@ fn two_at(s: &[u8], p: usize) -> u64
     coding::number_of(&s[p..], 2)
 }
 
-// What `put_short` stores. Most tags and lengths have one byte: the rest is kept out of the loop over a target's records.
-fn put_val(out: &mut [u8], at: usize, tag: u64, v: &[u8]) -> usize
-    requires { ⌜ (tag ≤ 16383) × (length (now v) ≤ 65536) × (at + length (flatItem (itemOf (record { tag = tag; value = now v }))) ≤ length (now out)) ⌝ }
-    ensures { λ r. ⌜ (r ≡ at + length (flatItem (itemOf (record { tag = tag; value = now (v .entry) })))) × (now (out .exit) ≡ sets (now (out .entry)) at (flatItem (itemOf (record { tag = tag; value = now (v .entry) })))) ⌝ }
+// The item of a tag whose value is the bytes from `from` to `to`; where it ends. Most tags and lengths have one byte: what is left is kept
+// out of the loop over a target's records.
+fn put_val(s: &[u8], from: usize, to: usize, tag: u64, out: &mut [u8], at: usize) -> usize
+    requires { ⌜ (from ≤ to) × (to ≤ length (now s)) × ((tag ≤ 16383) × (length (take (to - from) (drop from (now s))) ≤ 65536) × (at + length (flatItem (itemOf (record { tag = tag; value = take (to - from) (drop from (now s)) }))) ≤ length (now out))) ⌝ }
+    ensures { λ r. ⌜ (r ≡ at + length (flatItem (itemOf (record { tag = tag; value = take (to - from) (drop from (now (s .entry))) })))) × (now (out .exit) ≡ sets (now (out .entry)) at (flatItem (itemOf (record { tag = tag; value = take (to - from) (drop from (now (s .entry))) })))) ⌝ }
 {
     if 127 < tag {
-        return stores::coded::put_short(out, at, tag, v);
+        return stores::coded::put_short(out, at, tag, &s[from..to]);
     }
-    if 127 < v.len() {
-        return stores::coded::put_short(out, at, tag, v);
+    if 127 < to - from {
+        return stores::coded::put_short(out, at, tag, &s[from..to]);
     }
     out[at] = tag as u8;
     let a = at + 1;
-    out[a] = v.len() as u8;
-    stores::copy(out, a + 1, v)
+    out[a] = (to - from) as u8;
+    stores::copy(out, a + 1, &s[from..to])
 }
 
 // The records of a target.
@@ -56,7 +57,7 @@ fn put_vals(s: &[u8], alone: bool, out: &mut [u8]) -> Passed
         let tag = two_at(s, p + 2);
         let n = two_at(s, p + 4);
         let next = p + 6 + n as usize;
-        k = put_val(out, k, tag, &s[p + 6..next]);
+        k = put_val(s, p + 6, next, tag, out, k);
         p = next;
     }
 }

@@ -75,25 +75,18 @@ add-next-2 : tie.Need-add-next-2 Inv-loop μ-loop
 add-next-2 c = omega (arith, item-room (here (c .before .before)) (no-series (c .before .before)) (c .before .two-at .ensures) (c .two-at2 .ensures))
 
 add-put-val : tie.Need-add-put-val Inv-loop μ-loop
-add-put-val c = omega (arith, item-room (here (c .before .before .before)) (no-series (c .before .before .before)) (c .before .before .two-at .ensures) (c .before .two-at2 .ensures))
-
-sub-put-val : tie.Need-sub-put-val Inv-loop μ-loop
-sub-put-val c = omega (arith, item-room (here (c .before .before .before)) (no-series (c .before .before .before)) (c .before .before .two-at .ensures) (c .before .two-at2 .ensures))
-
-part-put-val-start : tie.Need-part-put-val-start Inv-loop μ-loop
-part-put-val-start c = omega (arith, item-room (here (c .before .before .before)) (no-series (c .before .before .before)) (c .before .before .two-at .ensures) (c .before .two-at2 .ensures))
-
-part-put-val-end : tie.Need-part-put-val-end Inv-loop μ-loop
-part-put-val-end c = omega (arith, item-room (here (c .before .before .before)) (no-series (c .before .before .before)) (c .before .before .two-at .ensures) (c .before .two-at2 .ensures))
+add-put-val c = omega (arith, item-room (here (c .before .before)) (no-series (c .before .before)) (c .before .two-at .ensures) (c .two-at2 .ensures))
 
 put-val-requires : tie.Need-put-val-requires Inv-loop μ-loop
-put-val-requires c κs = item-asked (here (c .before .before .before .before)) (no-series (c .before .before .before .before)) (c .before .before .before .two-at .ensures) (c .before .before .two-at2 .ensures)
+put-val-requires c κs =
+    let r = item-room (here (c .before .before .before)) (no-series (c .before .before .before)) (c .before .before .two-at .ensures) (c .before .two-at2 .ensures) in
+    (r .0, r .1, item-asked (here (c .before .before .before)) (no-series (c .before .before .before)) (c .before .before .two-at .ensures) (c .before .two-at2 .ensures))
 
 loop-less : tie.Need-loop-less Inv-loop μ-loop
-loop-less c = omega (arith, item-room (here (c .before .before .before .before .before .before .before)) (no-series (c .before .before .before .before .before .before .before)) (c .before .before .before .before .before .before .two-at .ensures) (c .before .before .before .before .before .two-at2 .ensures))
+loop-less c = omega (arith, item-room (here (c .before .before .before .before .before .before)) (no-series (c .before .before .before .before .before .before)) (c .before .before .before .before .before .two-at .ensures) (c .before .before .before .before .two-at2 .ensures))
 
 loop-again : tie.Need-loop-again Inv-loop μ-loop
-loop-again c = item-more (here (c .before .before .before .before .before .before .before)) (no-series (c .before .before .before .before .before .before .before)) (c .before .before .before .before .before .before .two-at .ensures) (c .before .before .before .before .before .two-at2 .ensures) (c .before .before .put-val .ensures)
+loop-again c = item-more (here (c .before .before .before .before .before .before)) (no-series (c .before .before .before .before .before .before)) (c .before .before .before .before .before .two-at .ensures) (c .before .before .before .before .two-at2 .ensures) (c .before .before .put-val .ensures)
 
 pub put-vals-spec : {M : Type 1} → statement M
 put-vals-spec =
@@ -112,9 +105,6 @@ put-vals-spec =
     add-next
     add-next-2
     add-put-val
-    sub-put-val
-    part-put-val-start
-    part-put-val-end
     put-val-requires
     loop-less
     loop-again)

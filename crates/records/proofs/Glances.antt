@@ -49,6 +49,10 @@ marked : (b : Bool) (x y t tag : ℕ) → x * 16777216 + y * 65536 + t ≡ wordO
 marked true x y t tag e yh th h = (omega arith, omega arith, omega arith)
 marked false x y t tag e yh th h = (omega arith, omega arith, omega arith)
 
+word-small : (b : Bool) → wordOf b < 2147483648
+word-small true = omega arith
+word-small false = omega arith
+
 head-is : (b : Bool) (u : List ℕ) {tag : ℕ} → 4 ≤ length u → Bytes u → bytesNumber (take 4 u) ≡ wordOf b + tag → tag < 128
     → (is (markOf (levelOf b)) u ≡ true) × (tag ≡ bytesNumber (take 2 (drop 2 u)))
 unfolding number
@@ -60,12 +64,26 @@ head-is b (x ∷ y ∷ z ∷ w ∷ s) {tag} h bytes e l =
     let t = marked b x y (z * 256 + w) tag (omega (arith, e)) (bytes 1) (omega (arith, bytes 2, bytes 3)) l in
     (rw (eq-eqb x _ (t .0), eq-eqb y _ (t .1)), omega (arith, t .2))
 
+head-small : (u : List ℕ) → 4 ≤ length u → Bytes u → bytesNumber (take 4 u) < 4294967296
+unfolding number
+head-small [] h bytes = absurd (omega arith)
+head-small (x ∷ []) h bytes = absurd (omega arith)
+head-small (x ∷ y ∷ []) h bytes = absurd (omega arith)
+head-small (x ∷ y ∷ z ∷ []) h bytes = absurd (omega arith)
+head-small (x ∷ y ∷ z ∷ w ∷ s) h bytes = omega (arith, bytes 0, bytes 1, bytes 2, bytes 3)
+
 -- how what it marks is read
 mark-piece : (b : Bool) (f : Form) (seen u : List ℕ) → is (markOf (levelOf b)) u ≡ true → {r : Piece} → r ≡ pieceBy valueWhole (valueAt (levelOf b) f seen u) → r ≡ partPiece (levelOf b) f seen u
 mark-piece true f seen u m e = part-value f seen u refl refl m e
 mark-piece false f seen u m e = part-inner f seen u refl e
 
 -- ---- as the code finds it
+
+pub head-fits : (s : List ℕ) (p : ℕ) → Bytes s → p + 6 < length s → {head : ℕ} → head ≡ bytesNumber (take 4 (take (length s - p) (drop p s))) → head < 4294967296
+head-fits s p bytes h {head} e =
+    let l : bytesNumber (take 4 (drop p s)) < 4294967296 = head-small (drop p s) (rw length-drop (omega arith)) (bytes-drop p s bytes) in
+    let z : head ≡ bytesNumber (take 4 (drop p s)) = rw tail-part at e in
+    omega (arith, l, z)
 
 named : (l : Level) (f : Form) (tag n first : ℕ) → 0 < tag → tag < 128 → Quick l f tag n first → true ≡ nameable l tag
 unfolding nameable
@@ -78,13 +96,13 @@ named l f tag n first z h q = rw (lt-ltb 0 tag z, le-leb tag 16383 (omega arith)
     neither true false true e g = sym g
 
 pub glance-from : (b : Bool) (f : Form) (s : List ℕ) (p top : ℕ) → Bytes s
-    → {head word tag : ℕ} → head ≡ bytesNumber (take 4 (take (length s - p) (drop p s))) → (word ≡ wordOf b) × (word < 4294967296) → (tag + word) % 18446744073709551616 ≡ head → top < tag → tag < 128
+    → {head word tag : ℕ} → head ≡ bytesNumber (take 4 (take (length s - p) (drop p s))) → word ≡ wordOf b → (tag + word) % 4294967296 ≡ head → top < tag → tag < 128
     → {n : ℕ} → n ≡ bytesNumber (take 2 (take (length s - (p + 4)) (drop (p + 4) s))) → n < 128 → p + 6 + n ≤ length s
     → Quick (levelOf b) f tag n (getD s (p + 6) 0) → {x : Bool} → x ≡ (not (isSet (levelOf b)) || not (isAlone f) || not (eqb p 0) || eqb tag 2) → x ≡ true → Glanced b f s p top tag n
 glance-from b f s p top bytes {head} {word} {tag} eh ew et above th {n} en nh room q ex tx =
     let u : List ℕ = drop p s in
     let long : 6 + n ≤ length u = rw length-drop (omega arith) in
-    let e : bytesNumber (take 4 u) ≡ wordOf b + tag = sym (rw tail-part at eh) ∙ omega (arith, ew .0, ew .1, et) in
+    let e : bytesNumber (take 4 u) ≡ wordOf b + tag = sym (rw tail-part at eh) ∙ omega (arith, ew, word-small b, et) in
     let (mark, is-tag) = head-is b u (omega arith) (bytes-drop p s bytes) e th in
     let size : n ≡ bytesNumber (take 2 (take (length u - 4) (drop 4 u))) = rw (tail-part, drop-drop 4 p s) (rw tail-part at en) in
     let tagged : tag ≡ bytesNumber (take 2 (take (length u - 2) (drop 2 u))) = rw tail-part is-tag in

@@ -83,7 +83,7 @@ pub fn part_at(
     top: u64,
     low: u64,
 ) -> Piece
-    requires { ⌜ (now table ≡ itemTable) × (p ≤ length (now s)) ⌝ }
+    requires { ⌜ (now table ≡ itemTable) × (length (now s) ≤ 65536) × (p ≤ length (now s)) ⌝ }
     ensures { λ r. ⌜ ((seen : List ℕ) → Past (peek true false set) (now (s .entry)) p top low seen → r ≡ partPiece (levelOf set) (formOf alone) seen (drop p (now (s .entry)))) ⌝ }
 {
     let g = quick::glance(table, s, p, set, alone, top);
@@ -116,8 +116,7 @@ fn target_at(s: &[u8], p: usize, top: u64, low: u64) -> Piece
         return Piece::Fault(17);
     }
     let id = coding::number_of(&s[p + 2..], 8);
-    // 2^63 or more: twice that wraps. Asked this way, its bytes are still read as one number
-    if std::num::wrapping_add_u64(id, id) < id {
+    if 9223372036854775807 < id {
         return Piece::Fault(17);
     }
     if heads::is_seen(s, p, top, low, id, true, true, false) {

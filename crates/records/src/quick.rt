@@ -19,31 +19,31 @@ fn nothing() -> Told
 }
 
 // `IT` or `TI`, before a tag of 0, as one number.
-fn word_of(set: bool) -> u64
-    ensures { λ r. ⌜ (r ≡ wordOf set) × (r < 4294967296) ⌝ }
+fn word_of(set: bool) -> u32
+    ensures { λ r. ⌜ r ≡ wordOf set ⌝ }
 {
     if set { 0x49540000 } else { 0x54490000 }
 }
 
 // A level's record at p that is told at a glance, its tag above top.
 pub fn glance(table: &[u64], s: &[u8], p: usize, set: bool, alone: bool, top: u64) -> Told
-    requires { ⌜ (now table ≡ itemTable) × (p ≤ length (now s)) ⌝ }
+    requires { ⌜ (now table ≡ itemTable) × (length (now s) ≤ 65536) × (p ≤ length (now s)) ⌝ }
     ensures { λ r. ⌜ (0 < r .size → Glanced set (formOf alone) (now (s .entry)) p top (r .tag) (r .size)) ⌝ }
 {
-    let left = s.len() - p;
-    if left < 7 {
+    let from = p + 6;
+    if s.len() <= from {
         return nothing();
     }
     // mark and tag are read as one number; after another mark the tag is none of the table's
     let head = coding::number_of(&s[p..], 4);
-    let tag = std::num::wrapping_sub_u64(head, word_of(set));
+    let tag = std::num::wrapping_sub_u32(head as u32, word_of(set)) as u64;
     if tag <= top {
         return nothing();
     }
     let n = coding::number_of(&s[p + 4..], 2);
-    if items::quick::is_quick(table, set, alone, tag, n, s[p + 6]) {
+    if items::quick::is_quick(table, set, alone, tag, n, s[from]) {
         let size = n as usize;
-        if left - 6 < size {
+        if s.len() < from + size {
             return nothing();
         }
         if items::begins(set, alone, tag, p == 0) {

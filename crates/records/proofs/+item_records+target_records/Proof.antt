@@ -126,7 +126,7 @@ item-records-returns : (t : ℕ) → item-records-lts.Need-returns (item-claims 
 item-records-returns t c = turn-over (c .before .before .before .loop .inv) (c .before .before .loop-test .taken) (sym (c .before .goes-on .ensures) ∙ not-true _ (c .if1 .taken))
 
 item-records-part-at-requires : (t : ℕ) → item-records-lts.Need-part-at-requires (item-claims t) (item-records-at t) item-records.Post item-records-Inv-loop item-records-μ-loop
-item-records-part-at-requires t c κs = (c .before .before .before .before .before .before .pre .1 .0, omega (arith, c .before .before .loop-test .taken))
+item-records-part-at-requires t c κs = (c .before .before .before .before .before .before .pre .1 .0, c .before .before .before .before .before .before .pre .1 .1, omega (arith, c .before .before .loop-test .taken))
 
 item-records-enum-known-a : (t : ℕ) → item-records-lts.Need-enum-known-a (item-claims t) (item-records-at t) item-records.Post item-records-Inv-loop item-records-μ-loop
 item-records-enum-known-a t c = search needs

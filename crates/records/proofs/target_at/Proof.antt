@@ -1,5 +1,4 @@
 -- `records::target_at` meets its contract: each way out is a case of `targetOpens`.
-use native.Mathlib.Omega.{arith}
 use borrow.Author.Needs.{needs}
 use Rattle.records.proofs.Opens.{target-cut, target-high, target-again, target-whole}
 use Rattle.records.proofs.target_at.Statement.{statement}
@@ -28,26 +27,23 @@ part-number-of-end c = search needs
 number-of-requires : tie.Need-number-of-requires
 number-of-requires c κs = search needs
 
-wrapping-add-u64-requires : tie.Need-wrapping-add-u64-requires
-wrapping-add-u64-requires c κs = search needs
-
 returns-2 : tie.Need-returns-2
 returns-2 c =
-    let a = c .before .before .before .before .before .before .args in
-    λ seen q. target-high (a .s .now) (a .p) seen (c .before .before .before .before .if1 .left) (c .before .before .number-of .ensures) (omega (arith, c .before .wrapping-add-u64 .ensures, c .if2 .taken))
+    let a = c .before .before .before .before .before .args in
+    λ seen q. target-high (a .s .now) (a .p) seen (c .before .before .before .if1 .left) (c .before .number-of .ensures) (c .if2 .taken)
 
 is-seen-requires : tie.Need-is-seen-requires
 is-seen-requires c κs = search needs
 
 returns-3 : tie.Need-returns-3
 returns-3 c =
-    let a = c .before .before .before .before .before .before .before .before .args in
-    λ seen q. target-again (a .s .now) (a .p) seen (c .before .before .before .before .before .before .if1 .left) (c .before .before .before .before .number-of .ensures) (omega (arith, c .before .before .before .wrapping-add-u64 .ensures, c .before .before .if2 .left)) (c .before .is-seen .ensures seen q) (c .if3 .taken)
+    let a = c .before .before .before .before .before .before .before .args in
+    λ seen q. target-again (a .s .now) (a .p) seen (c .before .before .before .before .before .if1 .left) (c .before .before .before .number-of .ensures) (c .before .before .if2 .left) (c .before .is-seen .ensures seen q) (c .if3 .taken)
 
 returns-4 : tie.Need-returns-4
 returns-4 c =
-    let a = c .before .before .before .before .before .before .before .before .args in
-    λ seen q. target-whole (a .s .now) (a .p) seen (c .before .before .before .before .before .before .if1 .left) (c .before .before .before .before .number-of .ensures) (omega (arith, c .before .before .before .wrapping-add-u64 .ensures, c .before .before .if2 .left)) (c .before .is-seen .ensures seen q) (c .if3 .left)
+    let a = c .before .before .before .before .before .before .before .args in
+    λ seen q. target-whole (a .s .now) (a .p) seen (c .before .before .before .before .before .if1 .left) (c .before .before .before .number-of .ensures) (c .before .before .if2 .left) (c .before .is-seen .ensures seen q) (c .if3 .left)
 
 pub target-at-spec : {M : Type 1} → statement M
 target-at-spec =
@@ -60,7 +56,6 @@ target-at-spec =
     part-number-of-start
     part-number-of-end
     number-of-requires
-    wrapping-add-u64-requires
     returns-2
     is-seen-requires
     returns-3

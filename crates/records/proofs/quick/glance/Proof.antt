@@ -1,12 +1,12 @@
 -- `records::quick::glance` meets its contract: where it has nothing to tell it says nothing.
 use native.Mathlib.Omega.{arith}
 use borrow.Author.Needs.{needs}
-use Rattle.records.proofs.Glances.{glance-from}
+use Rattle.records.proofs.Glances.{head-fits, glance-from}
 use Rattle.records.proofs.quick.glance.Statement.{statement}
 use Rattle.records.proofs.quick.glance.Tie as tie
 
-sub-left : tie.Need-sub-left
-sub-left c = search needs
+add-from : tie.Need-add-from
+add-from c = search needs
 
 nothing-requires : tie.Need-nothing-requires
 nothing-requires c κs = search needs
@@ -26,11 +26,19 @@ part-number-of-end c = search needs
 number-of-requires : tie.Need-number-of-requires
 number-of-requires c κs = search needs
 
+cast-wrapping-sub-u32 : tie.Need-cast-wrapping-sub-u32
+cast-wrapping-sub-u32 c =
+    let a = c .before .before .before .before .before .args in
+    omega (arith, head-fits (a .s .now) (a .p) (λ i. c .before .before .before .shared-slice-known2 .given i .fits) (omega (arith, c .before .before .if1 .left)) (c .number-of .ensures))
+
 word-of-requires : tie.Need-word-of-requires
 word-of-requires c κs = search needs
 
-wrapping-sub-u64-requires : tie.Need-wrapping-sub-u64-requires
-wrapping-sub-u64-requires c κs = search needs
+wrapping-sub-u32-requires : tie.Need-wrapping-sub-u32-requires
+wrapping-sub-u32-requires c κs = search needs
+
+cast-tag : tie.Need-cast-tag
+cast-tag c = search needs
 
 nothing-requires-2 : tie.Need-nothing-requires-2
 nothing-requires-2 c κs = search needs
@@ -53,17 +61,14 @@ part-number-of-end-2 c = search needs
 number-of-requires-2 : tie.Need-number-of-requires-2
 number-of-requires-2 c κs = search needs
 
-add-is-quick : tie.Need-add-is-quick
-add-is-quick c = search needs
-
 shared-slice-read-is-quick : tie.Need-shared-slice-read-is-quick
 shared-slice-read-is-quick c = search needs
 
 is-quick-requires : tie.Need-is-quick-requires
 is-quick-requires c κs = search needs
 
-sub-if4 : tie.Need-sub-if4
-sub-if4 c = search needs
+add-if4 : tie.Need-add-if4
+add-if4 c = search needs
 
 nothing-requires-3 : tie.Need-nothing-requires-3
 nothing-requires-3 c κs = search needs
@@ -77,7 +82,7 @@ begins-requires c κs = search needs
 returns-4 : tie.Need-returns-4
 returns-4 c =
     let (small, few, q) = c .before .before .before .before .is-quick .ensures (c .before .before .before .if3 .taken) in
-    λ h. glance-from _ _ _ _ _ (λ i. c .before .before .before .before .before .before .before .before .before .before .before .before .before .before .shared-slice-known2 .given i .fits) (c .before .before .before .before .before .before .before .before .before .before .before .number-of .ensures) (c .before .before .before .before .before .before .before .before .before .before .word-of .ensures) (c .before .before .before .before .before .before .before .before .before .wrapping-sub-u64 .ensures) (omega (arith, c .before .before .before .before .before .before .before .before .if2 .left)) (omega (arith, small)) (c .before .before .before .before .before .before .number-of2 .ensures) (omega (arith, few)) (omega (arith, c .before .before .if4 .left, c .before .before .before .before .before .before .before .before .before .before .before .before .before .if1 .left)) q (c .before .begins .ensures) (c .if5 .taken)
+    λ h. glance-from _ _ _ _ _ (λ i. c .before .before .before .before .before .before .before .before .before .before .before .before .before .before .shared-slice-known2 .given i .fits) (c .before .before .before .before .before .before .before .before .before .before .before .number-of .ensures) (c .before .before .before .before .before .before .before .before .before .before .word-of .ensures) (c .before .before .before .before .before .before .before .before .before .wrapping-sub-u32 .ensures) (omega (arith, c .before .before .before .before .before .before .before .before .if2 .left)) (omega (arith, small)) (c .before .before .before .before .before .before .number-of2 .ensures) (omega (arith, few)) (omega (arith, c .before .before .if4 .left)) q (c .before .begins .ensures) (c .if5 .taken)
 
 nothing-requires-4 : tie.Need-nothing-requires-4
 nothing-requires-4 c κs = search needs
@@ -89,15 +94,17 @@ pub glance-spec : {M : Type 1} → statement M
 glance-spec =
     tie.close
     (tie.spec
-    sub-left
+    add-from
     nothing-requires
     returns
     sub-number-of
     part-number-of-start
     part-number-of-end
     number-of-requires
+    cast-wrapping-sub-u32
     word-of-requires
-    wrapping-sub-u64-requires
+    wrapping-sub-u32-requires
+    cast-tag
     nothing-requires-2
     returns-2
     add-number-of
@@ -105,10 +112,9 @@ glance-spec =
     part-number-of-start-2
     part-number-of-end-2
     number-of-requires-2
-    add-is-quick
     shared-slice-read-is-quick
     is-quick-requires
-    sub-if4
+    add-if4
     nothing-requires-3
     returns-3
     begins-requires

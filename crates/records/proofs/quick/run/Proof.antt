@@ -21,7 +21,7 @@ loop-holds : tie.Need-loop-holds Inv-loop μ-loop
 loop-holds c = (records-start _ _ _, omega arith)
 
 glance-requires : tie.Need-glance-requires Inv-loop μ-loop
-glance-requires c κs = (c .before .before .before .pre .0, c .loop .inv .0 .to)
+glance-requires c κs = (c .before .before .before .pre .0, c .before .before .before .pre .1, c .loop .inv .0 .to)
 
 mul-t11 : tie.Need-mul-t11 Inv-loop μ-loop
 mul-t11 c = omega (arith, c .before .before .before .loop .inv .1, c .before .before .before .loop .inv .0 .to, c .before .before .before .before .before .before .pre .1)

@@ -1,5 +1,5 @@
 -- A `TS` or a `TG` before what it holds, and a record of either level, as the code reads them.
-use mathlib.Core.Path.{_≡_, sym, ap, _∙_}
+use mathlib.Core.Path.{_≡_, refl, sym, ap, _∙_}
 use Prim.Native.Nat.{ℕ, _+_, _-_, _^_, _≤_, _<_}
 use native.Mathlib.Omega.{arith}
 use mathlib.Core.Bool.{Bool, true, false, not}
@@ -8,15 +8,21 @@ use lib.ListN.{length, take, drop, length-drop}
 use lib.Seq.{drop-drop}
 use lib.Dec.{ltb}
 use borrow.Author.Tests.{le-leb, lt-leb, lt-ltb, le-ltb}
-use Rattle.format.specs.Answer.{ok, _>>=_, need}
+use Rattle.format.specs.Answer.{ok, Got, _>>=_, need}
 use Rattle.format.specs.Coding.{bytesNumber}
 use Rattle.format.specs.Lists.{has}
 use Rattle.format.specs.Table.{Form, set, standing}
-use Rattle.format.specs.Sheet.{IT, TS, TG, is, valueAt}
+use Rattle.format.specs.Sheet.{IT, TS, TG, is, field, valueAt}
+use Rattle.format.proofs.sheets.Values.{mark-says}
 use Rattle.coding.proofs.Rooms.{tail-part}
 use Rattle.items.specs.Meet.{answerOf, levelOf}
 use Rattle.items.proofs.Tests.{need-so, need-not}
-use Rattle.heads.specs.Meet.{peek, Past}
+use Rattle.heads.specs.Meet.{peek, Past, Clear}
+use Rattle.heads.specs.Records.{fieldAnswer, peekVal, peekRecord}
+use Rattle.heads.specs.declared.records.Field.{Field}
+use Rattle.heads.specs.declared.records.Field.the-variants as fields
+use Rattle.heads.proofs.Spans.{target-there, series-there, part-val}
+use Rattle.heads.proofs.SheetRuns.{field-key}
 use Rattle.walks.specs.declared.Piece.{Piece}
 use Rattle.walks.specs.declared.Piece.the-variants as piece
 use Rattle.walks.proofs.Pieces.{answer-none, answer-some}
@@ -64,6 +70,10 @@ module _ (s : List ℕ) (p : ℕ) (seen : List ℕ) where
       id-is : idAt ≡ i
       id-is = ap (λ t. bytesNumber (take 8 t)) (drop-drop 2 p s ∙ sym (tail-part (p + 2) s)) ∙ sym ei
 
+      pub target-key : i ≡ peek true true false (drop p s) .val
+      unfolding peek peekRecord
+      target-key = sym (ap (λ (x : Got ℕ). x .val) (target-there (drop p s) (rw length-drop h)) ∙ id-is)
+
       pub target-high : 9223372036854775807 < i → piece.Fault 17 ≡ pieceBy targetWhole (targetOpens seen (drop p s))
       target-high g = sym (ap (pieceBy targetWhole) (ten ∙ need-not _ _ _ (le-ltb idAt (2 ^ 63) (omega (arith, id-is)))))
 
@@ -80,7 +90,30 @@ module _ (s : List ℕ) (p : ℕ) (seen : List ℕ) where
             ap targetWhole (sym id-is)
             ∙ sym (ap (pieceBy targetWhole) (low-is ∙ need-so _ _ _ (ap (λ k. not (has k seen)) id-is ∙ ap not (sym ex ∙ tx))))
 
+-- ---- the key at p, where the mark says what stands there
+
+pub value-key : (b : Bool) (s : List ℕ) (p : ℕ) {h : Field} {k n : ℕ} → h ≡ fieldAnswer (field (levelOf b) (drop 2 (take (length s - p) (drop p s)))) → h ≡ fields.Whole k n
+    → peek true false b (drop p s) ≡ peekVal (drop p s) → k ≡ peek true false b (drop p s) .val
+value-key b s p e t z = field-key (levelOf b) (drop p s) (rw tail-part at e) t ∙ sym (ap (λ (x : Got ℕ). x .val) z)
+
+pub series-key : (s : List ℕ) → is TS s ≡ true → 101 ≡ peek true false true s .val
+unfolding peek peekRecord
+series-key s m = sym (ap (λ (x : Got ℕ). x .val) (series-there s m))
+
+module _ {b : Bool} (s : List ℕ) where
+  pub value-inner : b ≡ false → peek true false b s ≡ peekVal s
+  unfolding peek peekRecord
+  value-inner tb = rw tb refl
+
+  pub value-set : b ≡ true → {x : Bool} → x ≡ is IT s → x ≡ true → peek true false b s ≡ peekVal s
+  unfolding peek peekRecord
+  value-set tb ex tx = rw tb (part-val s (ap (is TS) (mark-says IT s (sym ex ∙ tx))))
+
 -- ---- a record of the set, or a `TI`; b: it is the set's
+
+pub clear-set : {b : Bool} {s : List ℕ} {r : ℕ} → b ≡ true → Clear (peek true false b) s r → Clear (peek true false true) s r
+clear-set {b = true} tb q = q
+clear-set {b = false} tb q = absurd (let z : _≡_ {A = ℕ} 0 1 = cc in omega arith)
 
 pub past-set : {b : Bool} {s : List ℕ} {p top low : ℕ} {seen : List ℕ} → b ≡ true → Past (peek true false b) s p top low seen → Past (peek true false true) s p top low seen
 past-set {b = true} tb q = q

@@ -4,9 +4,10 @@ ghost use Prim.Native.Nat.{ℕ, _≤_};
 ghost use mathlib.Core.List.{List};
 ghost use mathlib.Core.Bool.{true, false};
 ghost use lib.ListN.{length, drop};
-ghost use Rattle.format.specs.Sheet.{valueAt};
+ghost use Rattle.format.specs.Sheet.{TS, is, valueAt};
 ghost use Rattle.items.specs.Meet.{formOf, levelOf, itemTable};
-ghost use Rattle.heads.specs.Meet.{peek, Past};
+ghost use Rattle.heads.specs.Meet.{peek, Past, Clear};
+ghost use Rattle.heads.specs.Records.{peekVal};
 ghost use Rattle.walks.specs.Meet.{Within};
 ghost use Rattle.records.specs.Meet.{pieceBy, valueWhole, seriesWhole, targetWhole, seriesOpens, targetOpens, partPiece, moreAt, recordsWalk, targetsWalk};
 use heads::records::Field;
@@ -14,11 +15,20 @@ use walks::Piece;
 use walks::Sizes;
 use walks::Walked;
 
-// ---- one record; no key before p is above top or below low
+// ---- one record; no key before p is above top or below low, and none repeats before clear
 
 // An `IT` or a `TI`, its mark passed over: 17, 7, 9, 13, 14, 11, 12, and 17 for a number that is not shortest.
-fn value_at(table: &[u64], s: &[u8], p: usize, set: bool, alone: bool, top: u64, low: u64) -> Piece
-    requires { ⌜ (now table ≡ itemTable) × (p ≤ length (now s)) ⌝ }
+fn value_at(
+    table: &[u64],
+    s: &[u8],
+    p: usize,
+    clear: usize,
+    set: bool,
+    alone: bool,
+    top: u64,
+    low: u64,
+) -> Piece
+    requires { ⌜ (now table ≡ itemTable) × (p ≤ length (now s)) × Clear (peek true false set) (now s) clear × (peek true false set (drop p (now s)) ≡ peekVal (drop p (now s))) ⌝ }
     ensures { λ r. ⌜ ((seen : List ℕ) → Past (peek true false set) (now (s .entry)) p top low seen → r ≡ pieceBy valueWhole (valueAt (levelOf set) (formOf alone) seen (drop p (now (s .entry))))) ⌝ }
 {
     let t = &s[p..];
@@ -29,7 +39,7 @@ fn value_at(table: &[u64], s: &[u8], p: usize, set: bool, alone: bool, top: u64,
     if size == 0 {
         return Piece::Fault(7);
     }
-    let dup = heads::is_seen(s, p, top, low, tag, true, false, set);
+    let dup = heads::is_seen(s, p, clear, top, low, tag, true, false, set);
     let k = items::standing_of(set, alone, dup, p == 0, tag, true);
     if k != 0 {
         return Piece::Fault(k);
@@ -53,12 +63,12 @@ fn value_at(table: &[u64], s: &[u8], p: usize, set: bool, alone: bool, top: u64,
 }
 
 // A `TS`, before its targets: 17 if no `TG` follows, 9, 14.
-fn series_at(s: &[u8], p: usize, alone: bool, top: u64, low: u64) -> Piece
-    requires { ⌜ p ≤ length (now s) ⌝ }
+fn series_at(s: &[u8], p: usize, clear: usize, alone: bool, top: u64, low: u64) -> Piece
+    requires { ⌜ (p ≤ length (now s)) × Clear (peek true false true) (now s) clear × (is TS (drop p (now s)) ≡ true) ⌝ }
     ensures { λ r. ⌜ ((seen : List ℕ) → Past (peek true false true) (now (s .entry)) p top low seen → r ≡ pieceBy seriesWhole (seriesOpens (formOf alone) seen (drop p (now (s .entry))))) ⌝ }
 {
     if heads::records::is_mark(s, p + 2, b'T', b'G') {
-        let dup = heads::is_seen(s, p, top, low, 101, true, false, true);
+        let dup = heads::is_seen(s, p, clear, top, low, 101, true, false, true);
         let k = items::standing_of(true, alone, dup, p == 0, 101, true);
         if k != 0 {
             return Piece::Fault(k);
@@ -78,12 +88,13 @@ pub fn part_at(
     table: &[u64],
     s: &[u8],
     p: usize,
+    clear: usize,
     set: bool,
     alone: bool,
     top: u64,
     low: u64,
 ) -> Piece
-    requires { ⌜ (now table ≡ itemTable) × (length (now s) ≤ 65536) × (p ≤ length (now s)) ⌝ }
+    requires { ⌜ (now table ≡ itemTable) × (length (now s) ≤ 65536) × (p ≤ length (now s)) × Clear (peek true false set) (now s) clear ⌝ }
     ensures { λ r. ⌜ ((seen : List ℕ) → Past (peek true false set) (now (s .entry)) p top low seen → r ≡ partPiece (levelOf set) (formOf alone) seen (drop p (now (s .entry)))) ⌝ }
 {
     let g = quick::glance(table, s, p, set, alone, top);
@@ -97,19 +108,19 @@ pub fn part_at(
     }
     if set {
         if heads::records::is_mark(s, p, b'I', b'T') {
-            return value_at(table, s, p, set, alone, top, low);
+            return value_at(table, s, p, clear, set, alone, top, low);
         }
         if heads::records::is_mark(s, p, b'T', b'S') {
-            return series_at(s, p, alone, top, low);
+            return series_at(s, p, clear, alone, top, low);
         }
         return Piece::Fault(17);
     }
-    value_at(table, s, p, set, alone, top, low)
+    value_at(table, s, p, clear, set, alone, top, low)
 }
 
 // The `TG` at p, before its `TI`s: 17, 10. Its id stands for a tag.
-fn target_at(s: &[u8], p: usize, top: u64, low: u64) -> Piece
-    requires { ⌜ p ≤ length (now s) ⌝ }
+fn target_at(s: &[u8], p: usize, clear: usize, top: u64, low: u64) -> Piece
+    requires { ⌜ (p ≤ length (now s)) × Clear (peek true true false) (now s) clear ⌝ }
     ensures { λ r. ⌜ ((seen : List ℕ) → Past (peek true true false) (now (s .entry)) p top low seen → r ≡ pieceBy targetWhole (targetOpens seen (drop p (now (s .entry))))) ⌝ }
 {
     if s.len() - p < 10 {
@@ -119,7 +130,7 @@ fn target_at(s: &[u8], p: usize, top: u64, low: u64) -> Piece
     if 9223372036854775807 < id {
         return Piece::Fault(17);
     }
-    if heads::is_seen(s, p, top, low, id, true, true, false) {
+    if heads::is_seen(s, p, clear, top, low, id, true, true, false) {
         return Piece::Fault(10);
     }
     Piece::Whole {
@@ -157,11 +168,12 @@ pub fn item_records(table: &[u64], s: &[u8], set: bool, alone: bool) -> Walked
     let mut mark = false;
     let mut top: u64 = 0;
     let mut low: u64 = 18446744073709551615;
+    let mut clear: usize = 0;
     while p < s.len() {
         if !goes_on(s, p, set) {
             return Walked::Good { sizes: sum, mark };
         }
-        let a = part_at(table, s, p, set, alone, top, low);
+        let a = part_at(table, s, p, clear, set, alone, top, low);
         let Piece::Whole {
             tag,
             from: _,
@@ -181,6 +193,7 @@ pub fn item_records(table: &[u64], s: &[u8], set: bool, alone: bool) -> Walked
         };
         sum = walks::weights::plus(sum, sizes);
         mark = walks::either(mark, m);
+        clear = heads::clear::after(s, p, clear, top, low, tag, true, false, set);
         top = walks::larger(top, tag);
         low = walks::smaller(low, tag);
         p += sizes.sheet;
@@ -202,6 +215,7 @@ pub fn target_records(table: &[u64], s: &[u8], alone: bool) -> Walked
     };
     let mut top: u64 = 0;
     let mut low: u64 = 18446744073709551615;
+    let mut clear: usize = 0;
     while p < s.len() {
         if !heads::records::is_mark(s, p, b'T', b'G') {
             return Walked::Good {
@@ -209,7 +223,7 @@ pub fn target_records(table: &[u64], s: &[u8], alone: bool) -> Walked
                 mark: false,
             };
         }
-        let a = target_at(s, p, top, low);
+        let a = target_at(s, p, clear, top, low);
         let Piece::Whole {
             tag: id,
             from: _,
@@ -245,6 +259,7 @@ pub fn target_records(table: &[u64], s: &[u8], alone: bool) -> Walked
                 sum,
                 walks::weights::pack_sizes(coding::widths::oid_width(id), sizes),
             );
+            clear = heads::clear::after(s, p, clear, top, low, id, true, true, false);
             top = walks::larger(top, id);
             low = walks::smaller(low, id);
             p = from + sizes.sheet;

@@ -12,11 +12,14 @@ use borrow.Fn.Kinds.{In}
 use borrow.Fn.PlainCycle.{Measures, is, falls, and}
 use Rattle.format.specs.Table.{pack, isAlone}
 use Rattle.items.specs.Meet.{formOf}
+use Rattle.heads.specs.Meet.{peek, Clear}
+use Rattle.heads.proofs.Clears.{clear-none}
 use Rattle.walks.specs.Meet.{plusSizes, Within}
 use Rattle.walks.proofs.Turns.{within-more, told-as, turn-done, turn-over}
 use Rattle.records.specs.Meet.{recordsWalk}
 use Rattle.records.specs.Going.{RecordsGoing}
 use Rattle.walks.proofs.ItemTurns.{depth, series-deep}
+use Rattle.walks.proofs.PackTurns.{either-is}
 use Rattle.records.proofs.PartTurns.{PartAt, records-start, piece-fault, PartTold, item-small, item-told, series-room, lent-small, series-told, part-bad, bad-within, part-room, good-small, part-more}
 use Rattle.records.proofs.TargetTurns.{TargetAt, TargetsGoing, targets-start, records-over, head-fault, target-room, vals-within, vals-fault, next-room, vals-small, no-location, target-small, target-more}
 use Rattle.records.proofs.TargetTurns as target-turns
@@ -27,6 +30,7 @@ use Rattle.records.proofs.target_records.Reads as target-records
 use Rattle.records.proofs.target_records.Kinds as target-records-kinds
 use Rattle.records.proofs.+item_records+target_records.Lts-target_records as target-records-lts
 use Rattle.coding.proofs.widths.oid_width.Reads as oid-width-reads
+use Rattle.heads.proofs.clear.after.Reads as after-reads
 use Rattle.heads.proofs.records.is_mark.Reads as is-mark-reads
 use Rattle.records.proofs.goes_on.Reads as goes-on-reads
 use Rattle.records.proofs.quick.run.Reads as run-reads
@@ -82,22 +86,22 @@ target-records-below t =
 
 -- what is known of the callees, the other walk's at a smaller measure
 abbrev item-claims : ℕ → item-records-lts.Claims
-item-claims t = (goes-on-reads.Asked, goes-on-reads.Learnt, part-at-reads.Asked, part-at-reads.Learnt, stop-reads.Asked, stop-reads.Learnt, is-series-reads.Asked, is-series-reads.Learnt, target-records-below t, target-records.Post, series-of-reads.Asked, series-of-reads.Learnt, one-item-reads.Asked, one-item-reads.Learnt, later-reads.Asked, later-reads.Learnt, plus-reads.Asked, plus-reads.Learnt, either-reads.Asked, either-reads.Learnt, larger-reads.Asked, larger-reads.Learnt, smaller-reads.Asked, smaller-reads.Learnt)
+item-claims t = (goes-on-reads.Asked, goes-on-reads.Learnt, part-at-reads.Asked, part-at-reads.Learnt, stop-reads.Asked, stop-reads.Learnt, is-series-reads.Asked, is-series-reads.Learnt, target-records-below t, target-records.Post, series-of-reads.Asked, series-of-reads.Learnt, one-item-reads.Asked, one-item-reads.Learnt, later-reads.Asked, later-reads.Learnt, plus-reads.Asked, plus-reads.Learnt, either-reads.Asked, either-reads.Learnt, after-reads.Asked, after-reads.Learnt, larger-reads.Asked, larger-reads.Learnt, smaller-reads.Asked, smaller-reads.Learnt)
 
 abbrev target-claims : ℕ → target-records-lts.Claims
-target-claims t = (is-mark-reads.Asked, is-mark-reads.Learnt, target-at-reads.Asked, target-at-reads.Learnt, stop-reads.Asked, stop-reads.Learnt, run-reads.Asked, run-reads.Learnt, goes-on-reads.Asked, goes-on-reads.Learnt, item-records-below t, item-records.Post, later-reads.Asked, later-reads.Learnt, either-reads.Asked, either-reads.Learnt, oid-width-reads.Asked, oid-width-reads.Learnt, pack-sizes-reads.Asked, pack-sizes-reads.Learnt, plus-reads.Asked, plus-reads.Learnt, larger-reads.Asked, larger-reads.Learnt, smaller-reads.Asked, smaller-reads.Learnt)
+target-claims t = (is-mark-reads.Asked, is-mark-reads.Learnt, target-at-reads.Asked, target-at-reads.Learnt, stop-reads.Asked, stop-reads.Learnt, run-reads.Asked, run-reads.Learnt, goes-on-reads.Asked, goes-on-reads.Learnt, item-records-below t, item-records.Post, later-reads.Asked, later-reads.Learnt, either-reads.Asked, either-reads.Learnt, oid-width-reads.Asked, oid-width-reads.Learnt, pack-sizes-reads.Asked, pack-sizes-reads.Learnt, plus-reads.Asked, plus-reads.Learnt, after-reads.Asked, after-reads.Learnt, larger-reads.Asked, larger-reads.Learnt, smaller-reads.Asked, smaller-reads.Learnt)
 
 abbrev item-records-Inv-loop : item-records-lts.InvT-loop
-item-records-Inv-loop table s set alone p₀ sum₀ mark₀ top₀ low₀ p sum mark top low = RecordsGoing set (formOf alone) s p sum mark top low
+item-records-Inv-loop table s set alone p₀ sum₀ mark₀ top₀ low₀ clear₀ p sum mark top low clear = RecordsGoing set (formOf alone) s p sum mark top low × Clear (peek true false set) s clear
 
 abbrev item-records-μ-loop : item-records-lts.MeasureT-loop
-item-records-μ-loop table s set alone p₀ sum₀ mark₀ top₀ low₀ p sum mark top low = length s - p
+item-records-μ-loop table s set alone p₀ sum₀ mark₀ top₀ low₀ clear₀ p sum mark top low clear = length s - p
 
 -- a record, where it was read
 part-here : (t : ℕ) (a : item-records-lts.After-a (item-claims t) (item-records-at t) item-records.Post item-records-Inv-loop item-records-μ-loop)
     → PartAt (a .before .before .before .before .before .before .before .before .before .args .set) (formOf (a .before .before .before .before .before .before .before .before .before .args .alone)) (a .before .before .before .before .before .before .before .before .before .args .s .now) (a .before .before .before .before .before .before .loop .p) (a .before .before .before .before .before .before .loop .sum) (a .before .before .before .before .before .before .loop .mark) (a .before .before .before .before .before .before .loop .top) (a .before .before .before .before .before .before .loop .low) (a .a .given .0 .0) (a .a .given .0 .1 .0) (a .a .given .0 .1 .1 .0) (a .a .given .0 .1 .1 .1 .0)
 part-here t a = record {
-  going = a .before .before .before .before .before .before .loop .inv;
+  going = a .before .before .before .before .before .before .loop .inv .0;
   here = a .before .before .before .before .before .loop-test .taken;
   more = sym (a .before .before .before .before .goes-on .ensures) ∙ not-false _ (a .before .before .before .if1 .left);
   it = a .before .before .part-at .result;
@@ -117,16 +121,16 @@ part-told-at t j =
     (j .if2 .came)
 
 item-records-loop-holds : (t : ℕ) → item-records-lts.Need-loop-holds (item-claims t) (item-records-at t) item-records.Post item-records-Inv-loop item-records-μ-loop
-item-records-loop-holds t c = records-start _ _ _
+item-records-loop-holds t c = (records-start _ _ _, clear-none _ _)
 
 item-records-goes-on-requires : (t : ℕ) → item-records-lts.Need-goes-on-requires (item-claims t) (item-records-at t) item-records.Post item-records-Inv-loop item-records-μ-loop
 item-records-goes-on-requires t c κs = search needs
 
 item-records-returns : (t : ℕ) → item-records-lts.Need-returns (item-claims t) (item-records-at t) item-records.Post item-records-Inv-loop item-records-μ-loop
-item-records-returns t c = turn-over (c .before .before .before .loop .inv) (c .before .before .loop-test .taken) (sym (c .before .goes-on .ensures) ∙ not-true _ (c .if1 .taken))
+item-records-returns t c = turn-over (c .before .before .before .loop .inv .0) (c .before .before .loop-test .taken) (sym (c .before .goes-on .ensures) ∙ not-true _ (c .if1 .taken))
 
 item-records-part-at-requires : (t : ℕ) → item-records-lts.Need-part-at-requires (item-claims t) (item-records-at t) item-records.Post item-records-Inv-loop item-records-μ-loop
-item-records-part-at-requires t c κs = (c .before .before .before .before .before .before .pre .1 .0, c .before .before .before .before .before .before .pre .1 .1, omega (arith, c .before .before .loop-test .taken))
+item-records-part-at-requires t c κs = (c .before .before .before .before .before .before .pre .1 .0, c .before .before .before .before .before .before .pre .1 .1, omega (arith, c .before .before .loop-test .taken), c .before .before .before .loop .inv .1)
 
 item-records-enum-known-a : (t : ℕ) → item-records-lts.Need-enum-known-a (item-claims t) (item-records-at t) item-records.Post item-records-Inv-loop item-records-μ-loop
 item-records-enum-known-a t c = search needs
@@ -138,7 +142,7 @@ item-records-stop-requires : (t : ℕ) → item-records-lts.Need-stop-requires (
 item-records-stop-requires t c κs = search needs
 
 item-records-returns-2 : (t : ℕ) → item-records-lts.Need-returns-2 (item-claims t) (item-records-at t) item-records.Post item-records-Inv-loop item-records-μ-loop
-item-records-returns-2 t c = piece-fault _ _ (c .before .before .before .before .before .before .before .loop .inv) (c .before .before .before .before .before .before .loop-test .taken) (sym (c .before .before .before .before .before .goes-on .ensures) ∙ not-false _ (c .before .before .before .before .if1 .left)) (c .before .before .before .part-at .ensures) (c .before .enum-told .given .1) (c .stop .ensures)
+item-records-returns-2 t c = piece-fault _ _ (c .before .before .before .before .before .before .before .loop .inv .0) (c .before .before .before .before .before .before .loop-test .taken) (sym (c .before .before .before .before .before .goes-on .ensures) ∙ not-false _ (c .before .before .before .before .if1 .left)) (c .before .before .before .part-at .ensures) (c .before .enum-told .given .1) (c .stop .ensures)
 
 item-records-is-series-requires : (t : ℕ) → item-records-lts.Need-is-series-requires (item-claims t) (item-records-at t) item-records.Post item-records-Inv-loop item-records-μ-loop
 item-records-is-series-requires t c κs = search needs
@@ -204,6 +208,9 @@ item-records-plus-requires t c κs =
 item-records-either-requires : (t : ℕ) → item-records-lts.Need-either-requires (item-claims t) (item-records-at t) item-records.Post item-records-Inv-loop item-records-μ-loop
 item-records-either-requires t c κs = search needs
 
+item-records-after-requires : (t : ℕ) → item-records-lts.Need-after-requires (item-claims t) (item-records-at t) item-records.Post item-records-Inv-loop item-records-μ-loop
+item-records-after-requires t c κs = c .before .before .before .before .before .before .before .before .before .before .before .before .before .before .loop .inv .1
+
 item-records-larger-requires : (t : ℕ) → item-records-lts.Need-larger-requires (item-claims t) (item-records-at t) item-records.Post item-records-Inv-loop item-records-μ-loop
 item-records-larger-requires t c κs = search needs
 
@@ -212,34 +219,34 @@ item-records-smaller-requires t c κs = search needs
 
 item-records-add-p : (t : ℕ) → item-records-lts.Need-add-p (item-claims t) (item-records-at t) item-records.Post item-records-Inv-loop item-records-μ-loop
 item-records-add-p t c =
-    let a = c .before .before .before .before .before .before .before .before .before .before .before in
-    omega (arith, part-room (part-here t a) (part-told-at t (c .before .before .before .before .before .before .before .before)) (c .before .before .before .before .before .before .w .given .1) .0, a .before .before .before .before .before .before .before .before .before .pre .1 .1)
+    let a = c .before .before .before .before .before .before .before .before .before .before .before .before in
+    omega (arith, part-room (part-here t a) (part-told-at t (c .before .before .before .before .before .before .before .before .before)) (c .before .before .before .before .before .before .before .w .given .1) .0, a .before .before .before .before .before .before .before .before .before .pre .1 .1)
 
 item-records-loop-less : (t : ℕ) → item-records-lts.Need-loop-less (item-claims t) (item-records-at t) item-records.Post item-records-Inv-loop item-records-μ-loop
 item-records-loop-less t c =
-    let a = c .before .before .before .before .before .before .before .before .before .before .before in
-    let r = part-room (part-here t a) (part-told-at t (c .before .before .before .before .before .before .before .before)) (c .before .before .before .before .before .before .w .given .1) in
+    let a = c .before .before .before .before .before .before .before .before .before .before .before .before in
+    let r = part-room (part-here t a) (part-told-at t (c .before .before .before .before .before .before .before .before .before)) (c .before .before .before .before .before .before .before .w .given .1) in
     omega (arith, r .0, r .1, a .before .before .before .before .before .loop-test .taken)
 
 item-records-loop-again : (t : ℕ) → item-records-lts.Need-loop-again (item-claims t) (item-records-at t) item-records.Post item-records-Inv-loop item-records-μ-loop
 item-records-loop-again t c =
-    let a = c .before .before .before .before .before .before .before .before .before .before .before in
-    part-more (part-here t a) (part-told-at t (c .before .before .before .before .before .before .before .before)) (c .before .before .before .before .before .before .w .given .1) (c .before .before .before .before .plus .ensures) (c .before .before .before .either .ensures) (c .before .before .larger .ensures) (c .before .smaller .ensures)
+    let a = c .before .before .before .before .before .before .before .before .before .before .before .before in
+    (part-more (part-here t a) (part-told-at t (c .before .before .before .before .before .before .before .before .before)) (c .before .before .before .before .before .before .before .w .given .1) (c .before .before .before .before .before .plus .ensures) (c .before .before .before .before .either .ensures) (c .before .before .larger .ensures) (c .before .smaller .ensures), c .before .before .before .after .ensures)
 
 item-records-returns-4 : (t : ℕ) → item-records-lts.Need-returns-4 (item-claims t) (item-records-at t) item-records.Post item-records-Inv-loop item-records-μ-loop
-item-records-returns-4 t c = turn-done (c .before .loop .inv) (c .loop-test .left)
+item-records-returns-4 t c = turn-done (c .before .loop .inv .0) (c .loop-test .left)
 
 abbrev target-records-Inv-loop : target-records-lts.InvT-loop
-target-records-Inv-loop table s alone p₀ sum₀ top₀ low₀ p sum top low = TargetsGoing (formOf alone) s p sum top low
+target-records-Inv-loop table s alone p₀ sum₀ top₀ low₀ clear₀ p sum top low clear = TargetsGoing (formOf alone) s p sum top low × Clear (peek true true false) s clear
 
 abbrev target-records-μ-loop : target-records-lts.MeasureT-loop
-target-records-μ-loop table s alone p₀ sum₀ top₀ low₀ p sum top low = length s - p
+target-records-μ-loop table s alone p₀ sum₀ top₀ low₀ clear₀ p sum top low clear = length s - p
 
 -- a target, where it was found
 target-here : (t : ℕ) (a : target-records-lts.After-a (target-claims t) (target-records-at t) target-records.Post target-records-Inv-loop target-records-μ-loop)
     → TargetAt (formOf (a .before .before .before .before .before .before .before .before .before .args .alone)) (a .before .before .before .before .before .before .before .before .before .args .s .now) (a .before .before .before .before .before .before .loop .p) (a .before .before .before .before .before .before .loop .sum) (a .before .before .before .before .before .before .loop .top) (a .before .before .before .before .before .before .loop .low) (a .a .given .0 .0) (a .a .given .0 .1 .0) (a .a .given .0 .1 .1 .0) (a .a .given .0 .1 .1 .1 .0)
 target-here t a = record {
-  going = a .before .before .before .before .before .before .loop .inv;
+  going = a .before .before .before .before .before .before .loop .inv .0;
   here = a .before .before .before .before .before .loop-test .taken;
   more = sym (a .before .before .before .before .is-mark .ensures) ∙ not-false _ (a .before .before .before .if1 .left);
   it = a .before .before .target-at .result;
@@ -249,22 +256,17 @@ target-here t a = record {
   most = a .before .before .before .before .before .before .before .before .before .pre .1 .1;
 }
 
--- `either(!alone, mark)`, of the form
-either-is : (alone m : Bool) {v : Bool} → v ≡ (not alone || m) → v ≡ (not (isAlone (formOf alone)) || m)
-either-is true m e = e
-either-is false m e = e
-
 target-records-loop-holds : (t : ℕ) → target-records-lts.Need-loop-holds (target-claims t) (target-records-at t) target-records.Post target-records-Inv-loop target-records-μ-loop
-target-records-loop-holds t c = targets-start _ _
+target-records-loop-holds t c = (targets-start _ _, clear-none _ _)
 
 target-records-is-mark-requires : (t : ℕ) → target-records-lts.Need-is-mark-requires (target-claims t) (target-records-at t) target-records.Post target-records-Inv-loop target-records-μ-loop
 target-records-is-mark-requires t c κs = search needs
 
 target-records-returns : (t : ℕ) → target-records-lts.Need-returns (target-claims t) (target-records-at t) target-records.Post target-records-Inv-loop target-records-μ-loop
-target-records-returns t c = turn-over (c .before .before .before .loop .inv) (c .before .before .loop-test .taken) (sym (c .before .is-mark .ensures) ∙ not-true _ (c .if1 .taken))
+target-records-returns t c = turn-over (c .before .before .before .loop .inv .0) (c .before .before .loop-test .taken) (sym (c .before .is-mark .ensures) ∙ not-true _ (c .if1 .taken))
 
 target-records-target-at-requires : (t : ℕ) → target-records-lts.Need-target-at-requires (target-claims t) (target-records-at t) target-records.Post target-records-Inv-loop target-records-μ-loop
-target-records-target-at-requires t c κs = search needs
+target-records-target-at-requires t c κs = (omega (arith, c .before .before .loop-test .taken), c .before .before .before .loop .inv .1)
 
 target-records-enum-known-a : (t : ℕ) → target-records-lts.Need-enum-known-a (target-claims t) (target-records-at t) target-records.Post target-records-Inv-loop target-records-μ-loop
 target-records-enum-known-a t c = search needs
@@ -276,7 +278,7 @@ target-records-stop-requires : (t : ℕ) → target-records-lts.Need-stop-requir
 target-records-stop-requires t c κs = search needs
 
 target-records-returns-2 : (t : ℕ) → target-records-lts.Need-returns-2 (target-claims t) (target-records-at t) target-records.Post target-records-Inv-loop target-records-μ-loop
-target-records-returns-2 t c = head-fault _ (c .before .before .before .before .before .before .before .loop .inv) (c .before .before .before .before .before .before .loop-test .taken) (sym (c .before .before .before .before .before .is-mark .ensures) ∙ not-false _ (c .before .before .before .before .if1 .left)) (c .before .before .before .target-at .ensures) (c .before .enum-told .given .1) (c .stop .ensures)
+target-records-returns-2 t c = head-fault _ (c .before .before .before .before .before .before .before .loop .inv .0) (c .before .before .before .before .before .before .loop-test .taken) (sym (c .before .before .before .before .before .is-mark .ensures) ∙ not-false _ (c .before .before .before .before .if1 .left)) (c .before .before .before .target-at .ensures) (c .before .enum-told .given .1) (c .stop .ensures)
 
 target-records-add-from : (t : ℕ) → target-records-lts.Need-add-from (target-claims t) (target-records-at t) target-records.Post target-records-Inv-loop target-records-μ-loop
 target-records-add-from t c =
@@ -354,6 +356,9 @@ target-records-plus-requires t c κs =
     let a = c .before .before .before .before .before .before .before .before .before .before .before .before .before in
     target-small (target-here t a) (target-told t (c .before .before .before .before .before .before .before)) (c .before .before .before .before .before .w .given .1) (c .before .oid-width .ensures) (c .pack-sizes .ensures)
 
+target-records-after-requires : (t : ℕ) → target-records-lts.Need-after-requires (target-claims t) (target-records-at t) target-records.Post target-records-Inv-loop target-records-μ-loop
+target-records-after-requires t c κs = c .before .before .before .before .before .before .before .before .before .before .before .before .before .before .before .before .before .before .before .before .loop .inv .1
+
 target-records-larger-requires : (t : ℕ) → target-records-lts.Need-larger-requires (target-claims t) (target-records-at t) target-records.Post target-records-Inv-loop target-records-μ-loop
 target-records-larger-requires t c κs = search needs
 
@@ -362,18 +367,18 @@ target-records-smaller-requires t c κs = search needs
 
 target-records-add-p : (t : ℕ) → target-records-lts.Need-add-p (target-claims t) (target-records-at t) target-records.Post target-records-Inv-loop target-records-μ-loop
 target-records-add-p t c =
-    let a = c .before .before .before .before .before .before .before .before .before .before .before .before .before .before .before .before .before in
-    omega (arith, next-room (target-here t a) (target-told t (c .before .before .before .before .before .before .before .before .before .before .before)) (c .before .before .before .before .before .before .before .before .before .w .given .1), a .before .before .before .before .before .before .before .before .before .pre .1 .1)
+    let a = c .before .before .before .before .before .before .before .before .before .before .before .before .before .before .before .before .before .before in
+    omega (arith, next-room (target-here t a) (target-told t (c .before .before .before .before .before .before .before .before .before .before .before .before)) (c .before .before .before .before .before .before .before .before .before .before .w .given .1), a .before .before .before .before .before .before .before .before .before .pre .1 .1)
 
 target-records-loop-less : (t : ℕ) → target-records-lts.Need-loop-less (target-claims t) (target-records-at t) target-records.Post target-records-Inv-loop target-records-μ-loop
 target-records-loop-less t c =
-    let a = c .before .before .before .before .before .before .before .before .before .before .before .before .before .before .before .before .before in
-    omega (arith, next-room (target-here t a) (target-told t (c .before .before .before .before .before .before .before .before .before .before .before)) (c .before .before .before .before .before .before .before .before .before .w .given .1), a .before .before .before .before .before .loop-test .taken)
+    let a = c .before .before .before .before .before .before .before .before .before .before .before .before .before .before .before .before .before .before in
+    omega (arith, next-room (target-here t a) (target-told t (c .before .before .before .before .before .before .before .before .before .before .before .before)) (c .before .before .before .before .before .before .before .before .before .before .w .given .1), a .before .before .before .before .before .loop-test .taken)
 
 target-records-loop-again : (t : ℕ) → target-records-lts.Need-loop-again (target-claims t) (target-records-at t) target-records.Post target-records-Inv-loop target-records-μ-loop
 target-records-loop-again t c =
-    let a = c .before .before .before .before .before .before .before .before .before .before .before .before .before .before .before .before .before in
-    target-more (target-here t a) (target-told t (c .before .before .before .before .before .before .before .before .before .before .before)) (c .before .before .before .before .before .before .before .before .before .w .given .1) (c .before .before .before .before .before .oid-width .ensures) (either-is (a .before .before .before .before .before .before .before .before .before .args .alone) _ (c .before .before .before .before .before .before .before .either .ensures)) (c .before .before .before .before .before .before .if3 .taken) (c .before .before .before .plus .ensures ∙ ap (plusSizes _) (c .before .before .before .before .pack-sizes .ensures)) (c .before .before .larger .ensures) (c .before .smaller .ensures)
+    let a = c .before .before .before .before .before .before .before .before .before .before .before .before .before .before .before .before .before .before in
+    (target-more (target-here t a) (target-told t (c .before .before .before .before .before .before .before .before .before .before .before .before)) (c .before .before .before .before .before .before .before .before .before .before .w .given .1) (c .before .before .before .before .before .before .oid-width .ensures) (either-is (a .before .before .before .before .before .before .before .before .before .args .alone) _ (c .before .before .before .before .before .before .before .before .either .ensures)) (c .before .before .before .before .before .before .before .if3 .taken) (c .before .before .before .before .plus .ensures ∙ ap (plusSizes _) (c .before .before .before .before .before .pack-sizes .ensures)) (c .before .before .larger .ensures) (c .before .smaller .ensures), c .before .before .before .after .ensures)
 
 target-records-returns-4 : (t : ℕ) → target-records-lts.Need-returns-4 (target-claims t) (target-records-at t) target-records.Post target-records-Inv-loop target-records-μ-loop
 target-records-returns-4 t c =
@@ -381,7 +386,7 @@ target-records-returns-4 t c =
     no-location (target-here t a) (target-told t (c .before .before .before .before .before)) (c .before .before .before .w .given .1) (either-is (a .before .before .before .before .before .before .before .before .before .args .alone) _ (c .before .either .ensures)) (c .if3 .left) refl
 
 target-records-returns-5 : (t : ℕ) → target-records-lts.Need-returns-5 (target-claims t) (target-records-at t) target-records.Post target-records-Inv-loop target-records-μ-loop
-target-records-returns-5 t c = turn-done (c .before .loop .inv) (c .loop-test .left)
+target-records-returns-5 t c = turn-done (c .before .loop .inv .0) (c .loop-test .left)
 
 pub +item-records+target-records-spec : {M : Type 1} → statement M
 +item-records+target-records-spec =
@@ -392,7 +397,7 @@ pub +item-records+target-records-spec : {M : Type 1} → statement M
     (item-records-is-series-requires t) (item-records-add-target-records t) (item-records-sub-target-records t) (item-records-part-target-records-start t)
     (item-records-part-target-records-end t) (item-records-target-records-requires t) (item-records-series-of-requires t) (item-records-one-item-requires t)
     (item-records-enum-known-w t) (item-records-enum-told-2 t) (item-records-later-requires t) (item-records-returns-3 t)
-    (item-records-plus-requires t) (item-records-either-requires t) (item-records-larger-requires t) (item-records-smaller-requires t)
+    (item-records-plus-requires t) (item-records-either-requires t) (item-records-after-requires t) (item-records-larger-requires t) (item-records-smaller-requires t)
     (item-records-add-p t) (item-records-loop-less t) (item-records-loop-again t) (item-records-returns-4 t))
     (λ t. target-records-lts.spec (target-claims t) (target-records-at t) target-records.Post target-records-Inv-loop target-records-μ-loop
     (target-records-loop-holds t) (target-records-is-mark-requires t) (target-records-returns t) (target-records-target-at-requires t)
@@ -401,5 +406,5 @@ pub +item-records+target-records-spec : {M : Type 1} → statement M
     (target-records-run-requires t) (target-records-goes-on-requires t)
     (target-records-item-records-requires t) (target-records-enum-known-w t) (target-records-enum-told-2 t) (target-records-later-requires t)
     (target-records-returns-3 t) (target-records-either-requires t) (target-records-oid-width-requires t) (target-records-pack-sizes-requires t)
-    (target-records-plus-requires t) (target-records-larger-requires t) (target-records-smaller-requires t) (target-records-add-p t)
+    (target-records-plus-requires t) (target-records-after-requires t) (target-records-larger-requires t) (target-records-smaller-requires t) (target-records-add-p t)
     (target-records-loop-less t) (target-records-loop-again t) (target-records-returns-4 t) (target-records-returns-5 t))

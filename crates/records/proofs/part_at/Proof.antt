@@ -1,6 +1,7 @@
 -- `records::part_at` meets its contract: told at a glance, or by the mark.
+use mathlib.Core.Path.{sym, _∙_}
 use borrow.Author.Needs.{needs}
-use Rattle.records.proofs.Opens.{past-set, part-inner, part-value, part-series, part-unknown}
+use Rattle.records.proofs.Opens.{value-inner, value-set, clear-set, past-set, part-inner, part-value, part-series, part-unknown}
 use Rattle.records.proofs.Glances.{glance-piece}
 use Rattle.records.proofs.part_at.Statement.{statement}
 use Rattle.records.proofs.part_at.Tie as tie
@@ -15,7 +16,9 @@ is-mark-requires : tie.Need-is-mark-requires
 is-mark-requires c κs = search needs
 
 value-at-requires : tie.Need-value-at-requires
-value-at-requires c κs = search needs
+value-at-requires c κs =
+    let k = c .before .before .before .before .before .before .before .before .pre in
+    (k .0, k .2, k .3, value-set _ (c .before .before .if2 .taken) (c .before .is-mark .ensures) (c .if3 .taken))
 
 returns-2 : tie.Need-returns-2
 returns-2 c = λ seen q. part-value _ seen _ (c .before .before .before .if2 .taken) (c .before .before .is-mark .ensures) (c .before .if3 .taken) (c .value-at .ensures seen q)
@@ -24,7 +27,9 @@ is-mark-requires-2 : tie.Need-is-mark-requires-2
 is-mark-requires-2 c κs = search needs
 
 series-at-requires : tie.Need-series-at-requires
-series-at-requires c κs = search needs
+series-at-requires c κs =
+    let k = c .before .before .before .before .before .before .before .before .before .before .pre in
+    (k .2, clear-set (c .before .before .before .before .if2 .taken) (k .3), sym (c .before .is-mark2 .ensures) ∙ c .if4 .taken)
 
 returns-3 : tie.Need-returns-3
 returns-3 c =
@@ -35,7 +40,9 @@ returns-4 : tie.Need-returns-4
 returns-4 c = λ seen q. part-unknown _ seen _ (c .before .before .before .before .if2 .taken) (c .before .before .before .is-mark .ensures) (c .before .before .if3 .left) (c .before .is-mark2 .ensures) (c .if4 .left)
 
 value-at-requires-2 : tie.Need-value-at-requires-2
-value-at-requires-2 c κs = search needs
+value-at-requires-2 c κs =
+    let k = c .before .before .before .before .before .before .pre in
+    (k .0, k .2, k .3, value-inner _ (c .if2 .left))
 
 returns-5 : tie.Need-returns-5
 returns-5 c = λ seen q. part-inner _ seen _ (c .before .if2 .left) (c .value-at2 .ensures seen q)

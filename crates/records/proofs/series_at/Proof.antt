@@ -1,7 +1,7 @@
 -- `records::series_at` meets its contract: each way out is a case of `seriesOpens`.
 use mathlib.Core.Path.{sym}
 use borrow.Author.Needs.{needs}
-use Rattle.records.proofs.Opens.{series-alone, series-standing, series-whole}
+use Rattle.records.proofs.Opens.{series-key, series-alone, series-standing, series-whole}
 use Rattle.records.proofs.series_at.Statement.{statement}
 use Rattle.records.proofs.series_at.Tie as tie
 
@@ -12,7 +12,9 @@ is-mark-requires : tie.Need-is-mark-requires
 is-mark-requires c κs = search needs
 
 is-seen-requires : tie.Need-is-seen-requires
-is-seen-requires c κs = search needs
+is-seen-requires c κs =
+    let k = c .before .before .before .pre in
+    (k .0, k .1, series-key _ (k .2))
 
 standing-of-requires : tie.Need-standing-of-requires
 standing-of-requires c κs = search needs

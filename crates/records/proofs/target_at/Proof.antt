@@ -1,6 +1,7 @@
 -- `records::target_at` meets its contract: each way out is a case of `targetOpens`.
+use mathlib.Core.List.{[]}
 use borrow.Author.Needs.{needs}
-use Rattle.records.proofs.Opens.{target-cut, target-high, target-again, target-whole}
+use Rattle.records.proofs.Opens.{target-key, target-cut, target-high, target-again, target-whole}
 use Rattle.records.proofs.target_at.Statement.{statement}
 use Rattle.records.proofs.target_at.Tie as tie
 
@@ -33,7 +34,9 @@ returns-2 c =
     λ seen q. target-high (a .s .now) (a .p) seen (c .before .before .before .if1 .left) (c .before .number-of .ensures) (c .if2 .taken)
 
 is-seen-requires : tie.Need-is-seen-requires
-is-seen-requires c κs = search needs
+is-seen-requires c κs =
+    let a = c .before .before .before .before .before in
+    (a .pre .0, a .pre .1, target-key (a .args .s .now) (a .args .p) [] (c .before .before .before .if1 .left) (c .before .number-of .ensures))
 
 returns-3 : tie.Need-returns-3
 returns-3 c =

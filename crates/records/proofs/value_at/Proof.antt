@@ -5,6 +5,7 @@ use Prim.Native.Nat.{_-_}
 use native.Mathlib.Omega.{arith}
 use lib.ListN.{length, take, drop}
 use borrow.Author.Needs.{needs}
+use Rattle.records.proofs.Opens.{value-key}
 use Rattle.records.proofs.Values.{value-tail, value-cut, value-within, value-empty, value-standing, value-valued, value-long, value-whole}
 use Rattle.records.proofs.value_at.Statement.{statement}
 use Rattle.records.proofs.value_at.Tie as tie
@@ -36,7 +37,10 @@ returns-2 c =
     λ seen q. value-tail q _ _ (value-empty _ _ (h .before .before .field-of .ensures) (h .h .given .1) _ seen (c .if1 .taken))
 
 is-seen-requires : tie.Need-is-seen-requires
-is-seen-requires c κs = search needs
+is-seen-requires c κs =
+    let h = c .before .before in
+    let q = h .before .before .before .before .before .before in
+    (search needs, q .pre .2, value-key _ (q .args .s .now) (q .args .p) (h .before .before .field-of .ensures) (h .h .given .1) (q .pre .3))
 
 standing-of-requires : tie.Need-standing-of-requires
 standing-of-requires c κs = search needs

@@ -68,7 +68,9 @@ is-quick-requires : tie.Need-is-quick-requires
 is-quick-requires c κs = search needs
 
 add-if4 : tie.Need-add-if4
-add-if4 c = search needs
+add-if4 c =
+    let (small, few, q) = c .before .is-quick .ensures (c .if3 .taken) in
+    omega (arith, few, c .before .before .before .before .before .before .before .before .before .before .if1 .left, c .before .before .before .before .before .before .before .before .before .before .before .before .before .pre .1)
 
 nothing-requires-3 : tie.Need-nothing-requires-3
 nothing-requires-3 c κs = search needs

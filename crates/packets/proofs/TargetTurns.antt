@@ -17,7 +17,7 @@ use Rattle.format.proofs.coding.Lengths.{length-len}
 use Rattle.coding.proofs.Counts.{len-one}
 use Rattle.coding.proofs.Rooms.{tail-part}
 use Rattle.walks.specs.Meet.{total, weightOfVal}
-use Rattle.walks.specs.Runs.{Ran, madeOf}
+use Rattle.walks.specs.Runs.{madeOf}
 use Rattle.records.proofs.Runs.{vals-used}
 use Rattle.stores.specs.Writing.{Writing}
 use Rattle.stores.proofs.Puts.{Puts, Parted, head-room, head-behind, rest-room, rest-put}

@@ -20,7 +20,6 @@ use Rattle.coding.proofs.Lens.{len-small}
 use Rattle.coding.proofs.Oid.{tag-one}
 use Rattle.coding.proofs.Rooms.{tail-part}
 use Rattle.heads.specs.declared.Head.the-variants as heads
-use Rattle.heads.specs.Meet.{itemHeadOf}
 use Rattle.heads.proofs.Heads.{mid-part, item-head-tag, item-head-over, item-head-short}
 use Rattle.stores.proofs.Puts.{Puts}
 use Rattle.stores.proofs.Entries.{valueAt, value-long, entry-fault, entry-room}

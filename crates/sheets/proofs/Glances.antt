@@ -139,11 +139,11 @@ module _ {f : Form} {s out₀ out : List ℕ} {p k n : ℕ} (i : Turn f s out₀
       one : getD (valueAt entry) 0 0 ≡ 0 → length (valueAt entry) ≡ 1
       one e = value-long entry ∙ q .shortest (sym head ∙ e)
 
+  pub turn-room : k + (6 + length value) ≤ length out
+  turn-room = omega (arith, one-room entry {x = false} refl refl .1, val-long pack tag value, ap length record-is)
+
   -- x is its tag as the code read it
   module _ {x : ℕ} (ex : x ≡ tag) where
-    pub turn-room : (x ≤ 16383) × (k + (6 + length value) ≤ length out)
-    turn-room = (omega (arith, ex, q .small), omega (arith, one-room entry {x = false} refl refl .1, val-long pack tag value, ap length record-is))
-
     pub turn-more : {k′ : ℕ} {out′ : List ℕ} → (k′ ≡ k + (6 + length value)) × (out′ ≡ sets out k (valBytes pack (record { tag = x; value = value }))) → LevelPassed false f s out₀ out′ (p + 2 + n) k′
     turn-more {k′ = k′} {out′ = out′} e =
         let e′ : Puts out k (itemSheet pack tag (valueAt entry)) k′ out′ =

@@ -1,6 +1,6 @@
 -- The sheet's records, as they are stored one field after another.
 use mathlib.Core.Path.{_≡_, refl, sym, ap, _∙_}
-use Prim.Native.Nat.{ℕ, _+_, _*_, _/_, _%_, _≤_, _<_}
+use Prim.Native.Nat.{ℕ, _+_, _*_, _/_, _≤_, _<_}
 use native.Mathlib.Omega.{arith}
 use mathlib.Core.Bool.{Bool, true, false}
 use mathlib.Core.List.{List, [], _∷_, _++_}
@@ -28,30 +28,16 @@ unfolding fixed
 mark-bytes true = refl
 mark-bytes false = refl
 
--- it is a number of two bytes
-pub mark-small : (b : Bool) {m : ℕ} → m ≡ 256 * (markOf (levelOf b) .0) + markOf (levelOf b) .1 → m < 65536
-mark-small true e = omega arith
-mark-small false e = omega arith
-
--- two numbers of two bytes each, as one
-two-numbers : (m n : ℕ) → n < 65536 → fixed 4 (m * 65536 + n) ≡ fixed 2 m ++ fixed 2 n
-unfolding fixed
-two-numbers m n h =
-    let e₀ : (m * 65536 + n) % 256 ≡ n % 256 = omega arith in
-    let e₁ : (m * 65536 + n) / 256 ≡ m * 256 + n / 256 = omega arith in
-    let e₂ : (m * 256 + n / 256) % 256 ≡ n / 256 % 256 = omega arith in
-    let e₃ : (m * 256 + n / 256) / 256 ≡ m = omega arith in
-    rw (e₀, e₁, e₂, e₃)
-
-pub item-stored : (b : Bool) (tag : ℕ) (v o : List ℕ) (a : ℕ) {m : ℕ} → m ≡ 256 * (markOf (levelOf b) .0) + markOf (levelOf b) .1 → tag ≤ 16383
-    → {o₁ o₂ o₃ : List ℕ} {a₁ a₂ r : ℕ} → (a₁ ≡ a + 4) × (o₁ ≡ sets o a (fixed 4 (m * 65536 + tag))) → (a₂ ≡ a₁ + 2) × (o₂ ≡ sets o₁ a₁ (fixed 2 (length v))) → Puts o₂ a₂ v r o₃
-    → (r ≡ a + (6 + length v)) × (o₃ ≡ sets o a (valBytes (levelOf b) (record { tag = tag; value = v })))
+pub item-stored : (b : Bool) (tag : ℕ) (v o : List ℕ) (a : ℕ) {m : ℕ} → m ≡ 256 * (markOf (levelOf b) .0) + markOf (levelOf b) .1
+    → {o₁ o₂ o₃ o₄ : List ℕ} {a₁ a₂ a₃ r : ℕ} → (a₁ ≡ a + 2) × (o₁ ≡ sets o a (fixed 2 m)) → (a₂ ≡ a₁ + 2) × (o₂ ≡ sets o₁ a₁ (fixed 2 tag))
+    → (a₃ ≡ a₂ + 2) × (o₃ ≡ sets o₂ a₂ (fixed 2 (length v))) → Puts o₃ a₃ v r o₄
+    → (r ≡ a + (6 + length v)) × (o₄ ≡ sets o a (valBytes (levelOf b) (record { tag = tag; value = v })))
 unfolding valBytes
-item-stored b tag v o a {m = m} em t {o₁ = o₁} {a₁ = a₁} p₁ p₂ p₃ =
-    let second = puts-then o₁ a₁ (fixed 2 (length v)) v (puts-fixed o₁ a₁ 2 (length v) p₂) p₃ in
-    let first = puts-then o a (fixed 4 (m * 65536 + tag)) (fixed 2 (length v) ++ v) (puts-fixed o a 4 (m * 65536 + tag) p₁) second in
-    let parts : fixed 4 (m * 65536 + tag) ≡ markOf (levelOf b) .0 ∷ markOf (levelOf b) .1 ∷ fixed 2 tag = two-numbers m tag (omega arith) ∙ ap (λ x. fixed 2 x ++ fixed 2 tag) em ∙ ap (λ x. x ++ fixed 2 tag) (mark-bytes b) in
-    (omega (arith, p₁ .0, p₂ .0, p₃ .0), rw parts at (first .1))
+item-stored b tag v o a {m = m} em {o₁ = o₁} {o₂ = o₂} {a₁ = a₁} {a₂ = a₂} p₁ p₂ p₃ p₄ =
+    let third = puts-then o₂ a₂ (fixed 2 (length v)) v (puts-fixed o₂ a₂ 2 (length v) p₃) p₄ in
+    let second = puts-then o₁ a₁ (fixed 2 tag) (fixed 2 (length v) ++ v) (puts-fixed o₁ a₁ 2 tag p₂) third in
+    let first = puts-then o a (fixed 2 m) (fixed 2 tag ++ (fixed 2 (length v) ++ v)) (puts-fixed o a 2 m p₁) second in
+    (omega (arith, p₁ .0, p₂ .0, p₃ .0, p₄ .0), rw (em, mark-bytes b) at (first .1))
 
 -- ---- a target
 

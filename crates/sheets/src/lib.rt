@@ -22,19 +22,20 @@ fn mark_of(set: bool) -> u64
     if set { 18772 } else { 21577 }
 }
 
-// An item's record; where it ends. Mark and tag go as one number, which is one store.
+// An item's record; where it ends.
 fn put_item(out: &mut [u8], at: usize, set: bool, tag: u64, v: &[u8]) -> usize
-    requires { ⌜ (tag ≤ 16383) × (at + (6 + length (now v)) ≤ length (now out)) ⌝ }
+    requires { ⌜ at + (6 + length (now v)) ≤ length (now out) ⌝ }
     ensures { λ r. ⌜ (r ≡ at + (6 + length (now (v .entry)))) × (now (out .exit) ≡ sets (now (out .entry)) at (valBytes (levelOf set) (record { tag = tag; value = now (v .entry) }))) ⌝ }
 {
-    let a = stores::put_number(out, at, mark_of(set) * 65536 + tag, 4);
-    let b = stores::put_number(out, a, v.len() as u64, 2);
-    stores::copy(out, b, v)
+    let a = stores::put_number(out, at, mark_of(set), 2);
+    let b = stores::put_number(out, a, tag, 2);
+    let c = stores::put_number(out, b, v.len() as u64, 2);
+    stores::copy(out, c, v)
 }
 
 // An item's record from its value as it stands in the packet; where it ends. The set's checksum has none.
 fn put_plain(table: &[u64], out: &mut [u8], at: usize, set: bool, tag: u64, v: &[u8]) -> usize
-    requires { ⌜ (now table ≡ itemTable) × ((tag ≤ 16383) × (0 < length (now v)) × (at + length (itemSheet (levelOf set) tag (now v)) ≤ length (now out))) ⌝ }
+    requires { ⌜ (now table ≡ itemTable) × ((0 < length (now v)) × (at + length (itemSheet (levelOf set) tag (now v)) ≤ length (now out))) ⌝ }
     ensures { λ r. ⌜ (r ≡ at + length (itemSheet (levelOf set) tag (now (v .entry)))) × (now (out .exit) ≡ sets (now (out .entry)) at (itemSheet (levelOf set) tag (now (v .entry)))) ⌝ }
 {
     if set {
@@ -46,7 +47,7 @@ fn put_plain(table: &[u64], out: &mut [u8], at: usize, set: bool, tag: u64, v: &
     put_item(out, at, set, tag, &v[v.len() - n..])
 }
 
-// A target's mark and id; where they end. Of most ids the mark and all bytes but the last two are one number, which is one store.
+// A target's mark and id; where they end. Most ids have at most two bytes: the zeros before those go with the mark.
 fn put_target(out: &mut [u8], at: usize, id: u64) -> usize
     requires { ⌜ at + 10 ≤ length (now out) ⌝ }
     ensures { λ r. ⌜ (r ≡ at + 10) × (now (out .exit) ≡ sets (now (out .entry)) at (TG .0 ∷ TG .1 ∷ fixed 8 id)) ⌝ }

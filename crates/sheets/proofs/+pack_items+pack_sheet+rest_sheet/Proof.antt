@@ -12,7 +12,7 @@ use borrow.Fn.PlainCycle.{Measures, is, falls, and}
 use Rattle.items.specs.Meet.{formOf}
 use Rattle.walks.proofs.ItemTurns.{depth, series-deep}
 use Rattle.stores.proofs.Writing.{each}
-use Rattle.stores.proofs.Entries.{level-done, entry-fault, entry-tag, entry-room}
+use Rattle.stores.proofs.Entries.{level-done, entry-fault, entry-room}
 use Rattle.stores.proofs.Packs.{series-start, series-done, pack-fault, pack-room}
 use Rattle.sheets.specs.Meet.{packSheet}
 use Rattle.sheets.specs.Quick.{LevelPassed}
@@ -178,7 +178,7 @@ rest-sheet-part-put-plain-end : (t : ℕ) → rest-sheet-lts.Need-part-put-plain
 rest-sheet-part-put-plain-end t c = omega (arith, entry-room (item-at t (c .before .before .before .before)))
 
 rest-sheet-put-plain-requires : (t : ℕ) → rest-sheet-lts.Need-put-plain-requires (rest-claims t) (rest-sheet-at t) rest-sheet.Post rest-sheet-Inv-loop rest-sheet-μ-loop
-rest-sheet-put-plain-requires t c κs = (c .before .before .before .before .before .before .before .before .before .before .before .before .before .before .pre .1 .0, (entry-tag (item-at t (c .before .before .before .before .before)), one-room (item-at t (c .before .before .before .before .before)) (c .before .before .before .is-series .ensures) (c .before .before .if1 .left) .0, one-room (item-at t (c .before .before .before .before .before)) (c .before .before .before .is-series .ensures) (c .before .before .if1 .left) .1))
+rest-sheet-put-plain-requires t c κs = (c .before .before .before .before .before .before .before .before .before .before .before .before .before .before .pre .1 .0, one-room (item-at t (c .before .before .before .before .before)) (c .before .before .before .is-series .ensures) (c .before .before .if1 .left))
 
 rest-sheet-loop-less : (t : ℕ) → rest-sheet-lts.Need-loop-less (rest-claims t) (rest-sheet-at t) rest-sheet.Post rest-sheet-Inv-loop rest-sheet-μ-loop
 rest-sheet-loop-less t c = omega (arith, entry-room (item-at t (c .before .before .before .before .before .before .before .before .before .before .before .before)))

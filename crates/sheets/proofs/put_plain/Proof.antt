@@ -37,7 +37,7 @@ put-item-requires : tie.Need-put-item-requires
 put-item-requires c κs =
     let a = c .before .before in
     let i = a .before .before .before .before .before .args in
-    (a .before .before .before .before .before .pre .1 .0, plain-room (i .set) (i .tag) (i .v .now) (no-seal (a .before)) refl (a .short-of .ensures) (i .at) (a .before .before .before .before .before .pre .1 .2))
+    plain-room (i .set) (i .tag) (i .v .now) (no-seal (a .before)) refl (a .short-of .ensures) (i .at) (a .before .before .before .before .before .pre .1 .1)
 
 same-length : tie.Need-same-length
 same-length c = search needs

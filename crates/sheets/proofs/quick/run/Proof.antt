@@ -70,7 +70,7 @@ part-put-item-end : tie.Need-part-put-item-end Inv-loop μ-loop
 part-put-item-end c = omega (arith, turn-fits (turn (c .before .before .before)))
 
 put-item-requires : tie.Need-put-item-requires Inv-loop μ-loop
-put-item-requires c κs = turn-room (turn (c .before .before .before .before)) (c .before .before .wide .ensures .0)
+put-item-requires c κs = turn-room (turn (c .before .before .before .before))
 
 loop-less : tie.Need-loop-less Inv-loop μ-loop
 loop-less c = omega (arith, turn-fits (turn (c .before .before .before .before .before .before .before)))

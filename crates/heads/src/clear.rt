@@ -110,5 +110,9 @@ pub fn after(
     if 0 < clear {
         return clear;
     }
-    clear_to(s, sheet, ids, set)
+    // two calls: the pass, with its array, then stays a function of its own, and only these tests stand in the walks
+    if sheet {
+        return clear_to(s, true, ids, set);
+    }
+    clear_to(s, false, ids, set)
 }

@@ -19,7 +19,13 @@ clear-to-requires : tie.Need-clear-to-requires
 clear-to-requires c κs = search needs
 
 returns-5 : tie.Need-returns-5
-returns-5 c = c .clear-to .ensures
+returns-5 c = rw (c .before .if5 .taken) (c .clear-to .ensures)
+
+clear-to-requires-2 : tie.Need-clear-to-requires-2
+clear-to-requires-2 c κs = search needs
+
+returns-6 : tie.Need-returns-6
+returns-6 c = rw (c .before .if5 .left) (c .clear-to2 .ensures)
 
 pub after-spec : {M : Type 1} → statement M
-after-spec = tie.close (tie.spec returns returns-2 returns-3 returns-4 clear-to-requires returns-5)
+after-spec = tie.close (tie.spec returns returns-2 returns-3 returns-4 clear-to-requires returns-5 clear-to-requires-2 returns-6)

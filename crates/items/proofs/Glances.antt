@@ -208,8 +208,8 @@ module _ (b a : Bool) (tag : ℕ) (few : tag < 24) {x : ℕ} (ex : x ≡ quickTa
       go true h = omega arith
       go false h = omega arith
 
-  pub quick-from : (table : List ℕ) → table ≡ itemTable → (n first : ℕ) {r : Bool} → r ≡ glanced (getD table (y + tag) 0) n first → r ≡ true → (tag < 24) × (n < 32) × Quick (levelOf b) (formOf a) tag n first
-  quick-from table et n first eg r = (few, glanced-few (levelOf b) tag n first tag-small it, glanced-quick (levelOf b) tag n first tag-small it (formOf a) (tag-right .1))
+  pub quick-from : (table : List ℕ) → table ≡ itemTable → (n first : ℕ) {r : Bool} → r ≡ glanced (getD table (y + tag) 0) n first → r ≡ true → (tag < 128) × (n < 128) × Quick (levelOf b) (formOf a) tag n first
+  quick-from table et n first eg r = (omega (arith, few), omega (arith, glanced-few (levelOf b) tag n first tag-small it), glanced-quick (levelOf b) tag n first tag-small it (formOf a) (tag-right .1))
     where
       row-is : (b : Bool) → rowAt (levelOf b) tag ≡ getD itemTable (rowsFrom b + tag) 0
       row-is true = ap (λ i. getD itemTable i 0) (omega arith)
@@ -274,3 +274,7 @@ quick-beyond true f tag n first h some =
 quick-beyond false f tag n first h some =
     let l = ltb-true 23 tag h in
     beyond-quick pack f tag n first (pack-over tag (omega (arith, l))) some refl refl λ last. offset-beyond f tag (omega (arith, l))
+
+-- x is what the code says of such a tag
+pub quick-other : (b : Bool) (f : Form) (tag n first : ℕ) {x : Bool} → (x ≡ true → (tag < 128) × (n < 128) × (0 < n) × (beyond b tag ≡ true)) → x ≡ true → (tag < 128) × (n < 128) × Quick (levelOf b) f tag n first
+quick-other b f tag n first h tx = let (a, c, some, e) = h tx in (a, c, quick-beyond b f tag n first e some)

@@ -1,4 +1,5 @@
-// Most items are told at a glance: a tag that the table lists, a length below 32 that it allows, and no zero before a number.
+// Most items are told at a glance: a tag that the table lists, a length below 32 that it allows, and no zero before a number; or a tag
+// that no table lists.
 ghost use mathlib.Core.Path.{_≡_};
 ghost use Prim.Native.Nat.{_+_, _/_, _%_, _^_, _<_};
 ghost use mathlib.Core.Bool.{true};
@@ -39,22 +40,6 @@ fn rows_from(set: bool) -> usize
     if set { 0 } else { 13 }
 }
 
-// Whether an item with this tag, whose value has n bytes and begins with this one, meets the rules for one item wherever it may begin,
-// and is shortest as it stands. Where it says no, nothing is known.
-pub fn is_quick(table: &[u64], set: bool, alone: bool, tag: u64, n: u64, first: u8) -> bool
-    requires { ⌜ now table ≡ itemTable ⌝ }
-    ensures { λ r. ⌜ (r ≡ true → (tag < 24) × (n < 32) × Quick (levelOf set) (formOf alone) tag n first) ⌝ }
-{
-    if 23 < tag {
-        return false;
-    }
-    if (tags(set, alone) >> tag) % 2 == 0 {
-        return false;
-    }
-    let at = rows_from(set) + (tag as usize);
-    fits(table[at], n, first)
-}
-
 // Whether no table lists a tag: then any value of a byte or more will do, wherever it may begin. The set's series is not one of these.
 pub fn is_beyond(set: bool, tag: u64) -> bool
     ensures { λ r. ⌜ r ≡ beyond set tag ⌝ }
@@ -66,4 +51,36 @@ pub fn is_beyond(set: bool, tag: u64) -> bool
         return false;
     }
     23 < tag
+}
+
+// The same with a byte each for the tag and the length, of which there is one or more.
+fn is_other(set: bool, tag: u64, n: u64) -> bool
+    ensures { λ r. ⌜ (r ≡ true → (tag < 128) × (n < 128) × (0 < n) × (beyond set tag ≡ true)) ⌝ }
+{
+    if 127 < tag {
+        return false;
+    }
+    if 127 < n {
+        return false;
+    }
+    if n == 0 {
+        return false;
+    }
+    is_beyond(set, tag)
+}
+
+// Whether an item with this tag, whose value has n bytes and begins with this one, meets the rules for one item wherever it may begin,
+// and is shortest as it stands, tag and length too. Where it says no, nothing is known.
+pub fn is_quick(table: &[u64], set: bool, alone: bool, tag: u64, n: u64, first: u8) -> bool
+    requires { ⌜ now table ≡ itemTable ⌝ }
+    ensures { λ r. ⌜ (r ≡ true → (tag < 128) × (n < 128) × Quick (levelOf set) (formOf alone) tag n first) ⌝ }
+{
+    if 23 < tag {
+        return is_other(set, tag, n);
+    }
+    if (tags(set, alone) >> tag) % 2 == 0 {
+        return false;
+    }
+    let at = rows_from(set) + (tag as usize);
+    fits(table[at], n, first)
 }

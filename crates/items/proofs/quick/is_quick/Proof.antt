@@ -3,12 +3,15 @@ use native.Mathlib.Omega.{arith}
 use borrow.Author.Needs.{needs}
 use Rattle.format.proofs.words.Answers.{no-bool}
 use Rattle.items.proofs.Rows.{table-long}
-use Rattle.items.proofs.Glances.{row-in, quick-from}
+use Rattle.items.proofs.Glances.{row-in, quick-from, quick-other}
 use Rattle.items.proofs.quick.is_quick.Statement.{statement}
 use Rattle.items.proofs.quick.is_quick.Tie as tie
 
+is-other-requires : tie.Need-is-other-requires
+is-other-requires c κs = search needs
+
 returns : tie.Need-returns
-returns c = λ e. no-bool e
+returns c = quick-other (c .before .before .before .args .set) _ _ _ _ (c .is-other .ensures)
 
 tags-requires : tie.Need-tags-requires
 tags-requires c κs = search needs
@@ -44,6 +47,7 @@ pub is-quick-spec : {M : Type 1} → statement M
 is-quick-spec =
     tie.close
     (tie.spec
+    is-other-requires
     returns
     tags-requires
     shr-if2

@@ -92,7 +92,7 @@ heads-next look s p k u e g (j ∷ js) (v, q, z, y, h) =
     let b : u ≡ v = e .1 ∙ ap (λ (x : Got ℕ). x .used) q in
     (js, rw a, rw b z, rw b h)
 
-heads-none : (look : List ℕ → Got ℕ) (s : List ℕ) (p : ℕ) → p ≡ 0 → (ks : List ℕ) → Heads look s p ks → ks ≡ []
+pub heads-none : (look : List ℕ → Got ℕ) (s : List ℕ) (p : ℕ) → p ≡ 0 → (ks : List ℕ) → Heads look s p ks → ks ≡ []
 heads-none look s p e [] h = refl
 heads-none look s p e (k ∷ ks) (u, q, z, y, h) = absurd (omega arith)
 

@@ -14,7 +14,7 @@ use Rattle.format.proofs.words.Answers.{no-bool}
 use Rattle.coding.proofs.Rooms.{tail-part}
 use Rattle.heads.specs.Meet.{Peeked, Heads, Past, Clear}
 use Rattle.heads.specs.Marks.{marked, Marked}
-use Rattle.heads.proofs.Before.{Looks, has-snoc, heads-more}
+use Rattle.heads.proofs.Before.{Looks, heads-none, has-snoc, heads-more}
 
 module _ (look : List ℕ → Got ℕ) where
   -- one list of keys heads the first p bytes
@@ -101,6 +101,11 @@ module _ (look : List ℕ → Got ℕ) (s marks : List ℕ) (q : ℕ) (c : Clear
 -- nothing begins before 0
 pub clear-none : (look : List ℕ → Got ℕ) (s : List ℕ) → Clear look s 0
 clear-none look s p h = absurd (omega arith)
+
+-- and at 0 nothing stood before
+pub clear-first : (look : List ℕ → Got ℕ) (s : List ℕ) → Clear look s 1
+unfolding has
+clear-first look s p h ks g = rw (heads-none look s p (omega arith) ks g)
 
 -- the key at p did not stand before it
 pub clear-past : (look : List ℕ → Got ℕ) (s : List ℕ) (r p top low key : ℕ) → Clear look s r → p < r → key ≡ look (drop p s) .val

@@ -83,7 +83,7 @@ fn clear_to(s: &[u8], sheet: bool, ids: bool, set: bool) -> usize
     q
 }
 
-// As far as it is known after the key at p: a pass is made once, where a look back was made over more than a few heads.
+// As far as it is known after the key at p: a pass is made once, after the second look back over more than a few heads; 1 says that there was one.
 pub fn after(
     s: &[u8],
     p: usize,
@@ -107,7 +107,10 @@ pub fn after(
     if p < 512 {
         return clear;
     }
-    if 0 < clear {
+    if clear == 0 {
+        return 1;
+    }
+    if 1 < clear {
         return clear;
     }
     // two calls: the pass, with its array, then stays a function of its own, and only these tests stand in the walks

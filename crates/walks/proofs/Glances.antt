@@ -57,14 +57,14 @@ begun-start b f s et ex tx = rw et at (sym ex ∙ tx)
 
 -- as the code finds it
 pub glance-from : (b : Bool) (f : Form) (s : List ℕ) (p top : ℕ) {tag n : ℕ} → tag ≡ getD s p 0 → n ≡ getD s (p + 1) 0 → (tag ≤ top → ⊥) → p + 2 + n ≤ length s → Begun b f 0 (getD s 0 0)
-    → (tag < 24) × (n < 32) × items.Quick (levelOf b) f tag n (getD s (p + 2) 0) → Glanced b f s p top (p + 2 + n)
+    → (tag < 128) × (n < 128) × items.Quick (levelOf b) f tag n (getD s (p + 2) 0) → Glanced b f s p top (p + 2 + n)
 glance-from b f s p top {tag = tag} {n = n} et en above room h q = (
   n,
   refl,
   record {
     quick = rw et at (q .2);
-    small = omega (arith, et, q .0);
-    few = omega (arith, q .1);
+    small = rw et at (q .0);
+    few = q .1;
     above = omega arith;
     size-is = en;
     room = room;

@@ -1,16 +1,16 @@
 -- A turn of a walk's loop, as the code makes it: a fault ends it, a thing that was read moves on by its bytes.
-use mathlib.Core.Path.{_≡_, refl, sym, _∙_, subst}
+use mathlib.Core.Path.{_≡_, sym, ap, _∙_, subst}
 use Prim.Native.Nat.{ℕ, _+_, _≤_, _<_}
 use native.Mathlib.Omega.{arith}
 use mathlib.Core.Bool.{Bool, true, false, _||_}
-use mathlib.Core.List.{List, [], _∷_}
+use mathlib.Core.List.{List, _∷_}
 use mathlib.Core.Logic.{inl, inr}
 use lib.ListN.{length, drop}
 use Rattle.format.specs.Answer.{Ans, ok, refused, Got, got}
 use Rattle.format.specs.Run.{Step}
 use Rattle.format.specs.Lists.{has}
-use Rattle.heads.specs.Meet.{Heads, Past}
-use Rattle.heads.proofs.Before.{past-more}
+use Rattle.heads.specs.Meet.{Past}
+use Rattle.heads.proofs.Before.{heads-none, past-more}
 use Rattle.walks.specs.declared.Sizes.{Sizes}
 use Rattle.walks.specs.declared.Walked.{Walked}
 use Rattle.walks.specs.declared.Walked.the-variants.{Good, Bad}
@@ -67,10 +67,6 @@ module _ {X : Type 0} {look : List ℕ → Got ℕ} {more : List ℕ → Bool} {
 -- a key that is told to be new stood nowhere before
 pub new-key : {look : List ℕ → Got ℕ} {s : List ℕ} {p top low k : ℕ} → New p top low k → (seen : List ℕ) → Past look s p top low seen → false ≡ has k seen
 unfolding has
-new-key {look = look} {s = s} {p = p} {k = k} (inl e) seen q = sym (q .same k ∙ none (q .keys) (q .heads))
-  where
-    none : (ks : List ℕ) → Heads look s p ks → has k ks ≡ false
-    none [] h = refl
-    none (x ∷ ks) (u, _, z, l, _) = absurd (omega (arith, e, z, l))
+new-key {look = look} {s = s} {p = p} {k = k} (inl e) seen q = sym (q .same k ∙ ap (has k) (heads-none look s p e (q .keys) (q .heads)))
 new-key {k = k} (inr (inl h)) seen q = sym (q .under k h)
 new-key {k = k} (inr (inr h)) seen q = sym (q .over k h)

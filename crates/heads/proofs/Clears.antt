@@ -1,4 +1,4 @@
--- How far no key repeats: what the one pass keeps.
+-- How far no key repeats: what a pass over the keys of a part keeps, and what the passes tell.
 use mathlib.Core.Path.{_≡_, refl, sym, ap, _∙_}
 use Prim.Native.Nat.{ℕ, _+_, _-_, _≤_, _<_}
 use native.Mathlib.Omega.{arith}
@@ -13,7 +13,7 @@ use Rattle.format.specs.Lists.{has}
 use Rattle.format.proofs.words.Answers.{no-bool}
 use Rattle.coding.proofs.Rooms.{tail-part}
 use Rattle.heads.specs.Meet.{Peeked, Heads, Past, Clear}
-use Rattle.heads.specs.Marks.{marked, Marked}
+use Rattle.heads.specs.Marks.{quarter, marked, Marked, ClearIn}
 use Rattle.heads.proofs.Before.{Looks, heads-none, has-snoc, heads-more}
 
 module _ (look : List ℕ → Got ℕ) where
@@ -38,18 +38,18 @@ module _ (look : List ℕ → Got ℕ) where
       let b : v + (q - v) ≡ q = omega arith in
       omega (arith, heads-on js ks (drop v s) (p - v) (q - v) k u (rw a at h) (rw (drop-drop (q - v) v s, b) n) g (omega arith))
 
--- no key repeats before q, and what stood there is marked
-pub record Clearing (look : List ℕ → Got ℕ) (s marks : List ℕ) (q : ℕ) : Type 0 where
+-- no key of the part repeats before q, and what of it stood there is marked
+pub record Clearing (part : ℕ) (look : List ℕ → Got ℕ) (s marks : List ℕ) (q : ℕ) : Type 0 where
   pub within : q ≤ length s
-  pub long : length marks ≡ 256
+  pub long : length marks ≡ 64
   pub keys : List ℕ
   pub heads : Heads look s q keys
-  pub kept : (k : ℕ) → has k keys ≡ true → marked marks k ≡ true
-  pub clear : Clear look s q
+  pub kept : (k : ℕ) → quarter k ≡ part → has k keys ≡ true → marked marks k ≡ true
+  pub clear : ClearIn part look s q
 
-pub clearing-start : (look : List ℕ → Got ℕ) (s marks : List ℕ) → length marks ≡ 256 → Clearing look s marks 0
+pub clearing-start : (part : ℕ) (look : List ℕ → Got ℕ) (s marks : List ℕ) → length marks ≡ 64 → Clearing part look s marks 0
 unfolding has
-clearing-start look s marks l = record { within = omega arith; long = l; keys = []; heads = refl; kept = λ k e. no-bool e; clear = λ p h ks g. absurd (omega arith) }
+clearing-start part look s marks l = record { within = omega arith; long = l; keys = []; heads = refl; kept = λ k z e. no-bool e; clear = λ p h ks g. absurd (omega arith) }
 
 pub not-marked : (marks ks : List ℕ) (key : ℕ) → (has key ks ≡ true → marked marks key ≡ true) → marked marks key ≡ false → has key ks ≡ false
 not-marked marks ks key m e = go (has key ks) refl
@@ -61,42 +61,58 @@ not-marked marks ks key m e = go (has key ks) refl
 got-is : (x : Got ℕ) (k u : ℕ) → k ≡ x .val → u ≡ x .used → x ≡ got k u
 got-is x k u a b = rw (a, b)
 
-module _ (look : List ℕ → Got ℕ) (s marks : List ℕ) (q : ℕ) (c : Clearing look s marks q) where
-  pub clearing-kept : (ks : List ℕ) → Heads look s q ks → (k : ℕ) → has k ks ≡ true → marked marks k ≡ true
-  clearing-kept ks h k e = c .kept k (ap (has k) (heads-same look (c .keys) ks s q (c .heads) h) ∙ e)
+module _ (part : ℕ) (look : List ℕ → Got ℕ) (s marks : List ℕ) (q : ℕ) (c : Clearing part look s marks q) where
+  pub clearing-kept : (ks : List ℕ) → Heads look s q ks → (k : ℕ) → quarter k ≡ part → has k ks ≡ true → marked marks k ≡ true
+  clearing-kept ks h k z e = c .kept k z (ap (has k) (heads-same look (c .keys) ks s q (c .heads) h) ∙ e)
 
   -- as the code reads what is next
   module _ (room : Looks look) (k u : ℕ) (n : Peeked look (take (length s - q) (drop q s)) k u) (z : 0 < u)
-      (new : (ks : List ℕ) → Heads look s q ks → has k ks ≡ false) where
+      (new : (ks : List ℕ) → Heads look s q ks → quarter k ≡ part → has k ks ≡ false) where
     next : Peeked look (drop q s) k u
     next = rw tail-part at n
 
-    clear-on : Clear look s (q + u)
-    clear-on p h ks g = go (ltb p q) refl (eqb p q) refl
+    clear-on : ClearIn part look s (q + u)
+    clear-on p h ks g w = go (ltb p q) refl (eqb p q) refl
       where
         go : (a : Bool) → ltb p q ≡ a → (b : Bool) → eqb p q ≡ b → has (look (drop p s) .val) ks ≡ false
-        go true a b e = c .clear p (ltb-true _ _ a) ks g
-        go false a true e = let t : p ≡ q = eqb-true _ _ e in rw (t, ← next .0) (new ks (rw t at g))
+        go true a b e = c .clear p (ltb-true _ _ a) ks g w
+        go false a true e = let t : p ≡ q = eqb-true _ _ e in rw (t, ← next .0) (new ks (rw t at g) (rw (t, ← next .0) at w))
         go false a false e =
             let o : q ≤ p = ltb-false p q a in
             let t : p ≡ q → ⊥ = eqb-false _ _ e in
             let l : q < p = omega arith in
             absurd (omega (arith, heads-on look (c .keys) ks s p q k u (c .heads) next g l))
 
-    pub clearing-more : (after : List ℕ) → Marked marks after k → Clearing look s after (q + u)
+    pub clearing-more : (after : List ℕ) → Marked marks after k part → Clearing part look s after (q + u)
     unfolding has
     clearing-more after m = record {
       within = omega (arith, c .within, room (drop q s), next .1, length-drop q s);
       long = m .long ∙ c .long;
       keys = c .keys ++ k ∷ [];
       heads = heads-more look (c .keys) s q k u (c .heads) (got-is _ _ _ (next .0) (next .1)) z;
-      kept = λ j e. go j (eqb k j) refl (sym (has-snoc j k (c .keys)) ∙ e);
+      kept = λ j w e. go j w (eqb k j) refl (sym (has-snoc j k (c .keys)) ∙ e);
       clear = clear-on;
     }
       where
-        go : (j : ℕ) (b : Bool) → eqb k j ≡ b → eqb k j || has j (c .keys) ≡ true → marked after j ≡ true
-        go j true t e = rw (← eqb-true k j t) (m .new)
-        go j false t e = m .kept j (c .kept j (rw t at e))
+        go : (j : ℕ) → quarter j ≡ part → (b : Bool) → eqb k j ≡ b → eqb k j || has j (c .keys) ≡ true → marked after j ≡ true
+        go j w true t e = let y : k ≡ j = eqb-true k j t in rw (← y) (m .new (rw (← y) at w))
+        go j w false t e = m .kept j (c .kept j w (rw t at e))
+
+-- no key of the first parts repeats before r
+abbrev pub ClearBelow : ℕ → (List ℕ → Got ℕ) → List ℕ → ℕ → Type 0
+ClearBelow n look s r = (x : ℕ) → x < n → ClearIn x look s r
+
+module _ (look : List ℕ → Got ℕ) (s : List ℕ) (n r : ℕ) (c : ClearBelow n look s r) where
+  pub below-more : (q t : ℕ) → ClearIn n look s q → (t ≤ r) × (t ≤ q) → ClearBelow (n + 1) look s t
+  below-more q t d l x h p g = go (ltb x n) refl
+    where
+      go : (b : Bool) → ltb x n ≡ b → (ks : List ℕ) → Heads look s p ks → quarter (look (drop p s) .val) ≡ x → has (look (drop p s) .val) ks ≡ false
+      go true e = c x (ltb-true x n e) p (omega (arith, l .0))
+      go false e = let o : n ≤ x = ltb-false x n e in let z : x ≡ n = omega arith in rw z (d p (omega (arith, l .1)))
+
+  -- every key is of one of the four
+  pub below-all : 4 ≤ n → Clear look s r
+  below-all h p g ks e = c (quarter (look (drop p s) .val)) (omega arith) p g ks e refl
 
 -- nothing begins before 0
 pub clear-none : (look : List ℕ → Got ℕ) (s : List ℕ) → Clear look s 0

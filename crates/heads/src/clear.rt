@@ -1,4 +1,4 @@
-// How far no key of a level repeats, told by one pass: so that keys that neither rise nor fall are not looked back for one by one.
+// How far no key of a level repeats, told by four passes: so that keys that neither rise nor fall are not looked back for one by one.
 ghost use mathlib.Core.Path.{_≡_};
 ghost use Prim.Native.Nat.{ℕ, _≤_};
 ghost use mathlib.Core.Bool.{true, false};
@@ -6,38 +6,45 @@ ghost use mathlib.Core.List.{List};
 ghost use lib.ListN.{length, drop};
 ghost use Rattle.format.specs.Lists.{has};
 ghost use Rattle.heads.specs.Meet.{peek, Heads, Clear};
-ghost use Rattle.heads.specs.Marks.{marked, Marked};
+ghost use Rattle.heads.specs.Marks.{quarter, marked, Marked, ClearIn};
 
-// A bit for each key, modulo 16,384: every tag has its own.
-fn is_marked(marks: &[u64; 256], key: u64) -> bool
+// A bit for each key of a quarter, modulo 4,096: every tag has its own. A quarter at a time, as the bits stand on the stack.
+fn is_marked(marks: &[u64; 64], key: u64) -> bool
     ensures { λ r. ⌜ r ≡ marked (now (marks .entry)) key ⌝ }
 {
-    let i = (key / 64 % 256) as usize;
+    let i = (key / 64 % 64) as usize;
     (marks[i] >> key % 64) % 2 == 1
 }
 
-fn mark(marks: &mut [u64; 256], key: u64)
-    requires { ⌜ length (now marks) ≡ 256 ⌝ }
-    ensures { λ r. ⌜ Marked (now (marks .entry)) (now (marks .exit)) key ⌝ }
+fn mark(marks: &mut [u64; 64], key: u64, part: u64)
+    requires { ⌜ length (now marks) ≡ 64 ⌝ }
+    ensures { λ r. ⌜ Marked (now (marks .entry)) (now (marks .exit)) key part ⌝ }
 {
-    let i = (key / 64 % 256) as usize;
+    if key / 4096 % 4 != part {
+        return;
+    }
+    let i = (key / 64 % 64) as usize;
     let w = marks[i];
     marks[i] = w | 1 << key % 64;
 }
 
-// Whether key may have stood before q, where what stood there is marked: a tag whose bit is set, an id that is found there.
+// Whether a key of the part may have stood before q, where what stood there is marked: a tag whose bit is set, an id that is found there.
 fn may_stand(
     s: &[u8],
     q: usize,
     key: u64,
-    marks: &[u64; 256],
+    part: u64,
+    marks: &[u64; 64],
     sheet: bool,
     ids: bool,
     set: bool,
 ) -> bool
-    requires { ⌜ (q ≤ length (now s)) × ((ks : List ℕ) → Heads (peek sheet ids set) (now s) q ks → (k : ℕ) → has k ks ≡ true → marked (now marks) k ≡ true) ⌝ }
-    ensures { λ r. ⌜ (r ≡ false → (ks : List ℕ) → Heads (peek sheet ids set) (now (s .entry)) q ks → has key ks ≡ false) ⌝ }
+    requires { ⌜ (q ≤ length (now s)) × ((ks : List ℕ) → Heads (peek sheet ids set) (now s) q ks → (k : ℕ) → quarter k ≡ part → has k ks ≡ true → marked (now marks) k ≡ true) ⌝ }
+    ensures { λ r. ⌜ (r ≡ false → (ks : List ℕ) → Heads (peek sheet ids set) (now (s .entry)) q ks → quarter key ≡ part → has key ks ≡ false) ⌝ }
 {
+    if key / 4096 % 4 != part {
+        return false;
+    }
     if is_marked(marks, key) {
         if ids {
             return super::seen_before(s, q, key, sheet, ids, set);
@@ -47,7 +54,7 @@ fn may_stand(
     false
 }
 
-// Whether a record of another level stands at q of a sheet, so that the pass may stop.
+// Whether a record of another level stands at q of a sheet, so that a pass may stop.
 fn is_other(s: &[u8], q: usize, sheet: bool, ids: bool, set: bool) -> bool {
     if sheet {
         if ids {
@@ -60,11 +67,11 @@ fn is_other(s: &[u8], q: usize, sheet: bool, ids: bool, set: bool) -> bool {
     false
 }
 
-// No thing that begins before there has a key that stood before it.
-fn clear_to(s: &[u8], sheet: bool, ids: bool, set: bool) -> usize
-    ensures { λ r. ⌜ Clear (peek sheet ids set) (now (s .entry)) r ⌝ }
+// How far no key of a quarter repeats.
+fn part_clear(s: &[u8], part: u64, sheet: bool, ids: bool, set: bool) -> usize
+    ensures { λ r. ⌜ ClearIn part (peek sheet ids set) (now (s .entry)) r ⌝ }
 {
-    let mut marks = [0u64; 256];
+    let mut marks = [0u64; 64];
     let mut q: usize = 0;
     while q < s.len() {
         if is_other(s, q, sheet, ids, set) {
@@ -74,16 +81,35 @@ fn clear_to(s: &[u8], sheet: bool, ids: bool, set: bool) -> usize
         if n.used == 0 {
             return q;
         }
-        if may_stand(s, q, n.key, &marks, sheet, ids, set) {
+        if may_stand(s, q, n.key, part, &marks, sheet, ids, set) {
             return q;
         }
-        mark(&mut marks, n.key);
+        mark(&mut marks, n.key, part);
         q += n.used;
     }
     q
 }
 
-// As far as it is known after the key at p: a pass is made once, after the second look back over more than a few heads; 1 says that there was one.
+fn least(a: usize, b: usize) -> usize
+    ensures { λ r. ⌜ (r ≤ a) × (r ≤ b) ⌝ }
+{
+    if a < b { a } else { b }
+}
+
+// No thing that begins before there has a key that stood before it.
+fn clear_to(s: &[u8], sheet: bool, ids: bool, set: bool) -> usize
+    ensures { λ r. ⌜ Clear (peek sheet ids set) (now (s .entry)) r ⌝ }
+{
+    let mut part: u64 = 0;
+    let mut r = s.len();
+    while part < 4 {
+        r = least(r, part_clear(s, part, sheet, ids, set));
+        part += 1;
+    }
+    r
+}
+
+// As far as it is known after the key at p: the passes are made once, after the second look back over more than a few heads; 1 says that there was one.
 pub fn after(
     s: &[u8],
     p: usize,
@@ -113,7 +139,7 @@ pub fn after(
     if 1 < clear {
         return clear;
     }
-    // two calls: the pass, with its array, then stays a function of its own, and only these tests stand in the walks
+    // two calls: the passes, with their array, then stay a function of its own, and only these tests stand in the walks
     if sheet {
         return clear_to(s, true, ids, set);
     }

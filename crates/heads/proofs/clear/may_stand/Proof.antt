@@ -13,14 +13,18 @@ seen-before-requires : tie.Need-seen-before-requires
 seen-before-requires c κs = search needs
 
 returns : tie.Need-returns
-returns c = λ e ks h. sym (c .seen-before .ensures ks h) ∙ e
+returns c = λ e ks h z. absurd (c .if1 .taken z)
 
 returns-2 : tie.Need-returns-2
-returns-2 c = λ e. no-bool (sym e)
+returns-2 c = λ e ks h z. sym (c .seen-before .ensures ks h) ∙ e
 
 returns-3 : tie.Need-returns-3
-returns-3 c = λ e ks h. not-marked _ ks _ (c .before .before .before .pre .1 ks h _) (sym (c .before .is-marked .ensures) ∙ c .if1 .left)
+returns-3 c = λ e. no-bool (sym e)
+
+returns-4 : tie.Need-returns-4
+returns-4 c = λ e ks h z. not-marked _ ks _ (c .before .before .before .before .pre .1 ks h _ z) (sym (c .before .is-marked .ensures) ∙ c .if2 .left)
 
 pub may-stand-spec : {M : Type 1} → statement M
 may-stand-spec =
-    tie.close (tie.spec is-marked-requires seen-before-requires returns returns-2 returns-3)
+    tie.close
+    (tie.spec returns is-marked-requires seen-before-requires returns-2 returns-3 returns-4)

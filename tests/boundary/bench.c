@@ -6,7 +6,7 @@
 #include "inputs.h"
 
 /* As in tests/compare/src/bin/bench.rs. */
-enum { ROUNDS = 5, ROUND = 200000000 };
+enum { ROUNDS = 4, ROUND = 10000000 };
 
 static struct input p;
 

@@ -3,7 +3,7 @@ ghost use mathlib.Core.Path.{_≡_};
 ghost use Prim.Native.Nat.{_+_, _-_, _≤_};
 ghost use lib.ListN.{length, take, drop};
 ghost use lib.Seq.{sets};
-ghost use Rattle.items.specs.Meet.{formOf, levelOf, itemTable};
+ghost use Rattle.items.specs.Meet.{formOf, levelOf};
 ghost use Rattle.walks.specs.Runs.{Ran};
 ghost use Rattle.format.specs.Coding.{bytesNumber};
 ghost use Rattle.format.specs.Table.{pack};
@@ -63,15 +63,8 @@ fn put_vals(s: &[u8], alone: bool, out: &mut [u8]) -> Passed
 }
 
 // The records of a level: the set, whose series has `inner` bytes of packs, or a target; how many bytes they write.
-pub fn item_packet(
-    table: &[u64],
-    s: &[u8],
-    set: bool,
-    alone: bool,
-    inner: usize,
-    out: &mut [u8],
-) -> usize
-    requires { ⌜ (now table ≡ itemTable) × ((length (now s) ≤ 65536) × Ran (recordsRun (levelOf set) (formOf alone) (now s)) × (inner ≤ 65536) × InnerParts inner (recordsRun (levelOf set) (formOf alone) (now s)) × (length (recordsNormal (levelOf set) (formOf alone) (now s)) ≤ length (now out)) × (length (recordsNormal (levelOf set) (formOf alone) (now s)) ≤ 8192)) ⌝ }
+pub fn item_packet(s: &[u8], set: bool, alone: bool, inner: usize, out: &mut [u8]) -> usize
+    requires { ⌜ (length (now s) ≤ 65536) × Ran (recordsRun (levelOf set) (formOf alone) (now s)) × (inner ≤ 65536) × InnerParts inner (recordsRun (levelOf set) (formOf alone) (now s)) × (length (recordsNormal (levelOf set) (formOf alone) (now s)) ≤ length (now out)) × (length (recordsNormal (levelOf set) (formOf alone) (now s)) ≤ 8192) ⌝ }
     ensures { λ r. ⌜ (r ≡ length (recordsNormal (levelOf set) (formOf alone) (now (s .entry)))) × (now (out .exit) ≡ sets (now (out .entry)) 0 (recordsNormal (levelOf set) (formOf alone) (now (s .entry)))) ⌝ }
 {
     let mut p: usize = 0;

@@ -97,9 +97,8 @@ pub fn write(sheet: &[u8], packet: &mut [u8]) -> Answer
     if packet.len() < size {
         return answer_of(16, size);
     }
-    let table = items::table();
     let a = frames::open(packet, alone, normal);
-    let n = packets::item_packet(&table, &sheet[3..], true, alone, inner, &mut packet[a..]);
+    let n = packets::item_packet(&sheet[3..], true, alone, inner, &mut packet[a..]);
     frames::close(packet, alone, a + n);
     answer_of(0, size)
 }

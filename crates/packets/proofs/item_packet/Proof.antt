@@ -19,24 +19,24 @@ use Rattle.records.proofs.goes_on.Reads as goes-on-reads
 use Rattle.stores.proofs.coded.put_short.Reads as put-short-reads
 
 abbrev Inv-loop : tie.InvT-loop
-Inv-loop table s set alone inner out₀ p₀ k₀ out p k = RecordsWriting inner set (formOf alone) s out₀ out p k
+Inv-loop s set alone inner out₀ p₀ k₀ out p k = RecordsWriting inner set (formOf alone) s out₀ out p k
 
 abbrev μ-loop : tie.MeasureT-loop
-μ-loop table s set alone inner out₀ p₀ k₀ out p k = length s - p
+μ-loop s set alone inner out₀ p₀ k₀ out p k = length s - p
 
 -- a part stands there
 here : (a : lts.Else1 (goes-on-reads.Asked, goes-on-reads.Learnt, is-mark-reads.Asked, is-mark-reads.Learnt, put-series-reads.Asked, put-series-reads.Learnt, target-packet-reads.Asked, target-packet-reads.Learnt, two-at-reads.Asked, two-at-reads.Learnt, put-short-reads.Asked, put-short-reads.Learnt) reads.Pre reads.Post Inv-loop μ-loop)
-    → RecordAt (a .before .before .before .before .before .before .before .args .inner) (a .before .before .before .before .before .before .before .args .set) (formOf (a .before .before .before .before .before .before .before .args .alone)) (a .before .before .before .before .before .before .before .args .s .now) (a .before .before .before .before .before .before .before .args .out .now) (a .before .before .before .loop .out) (a .before .before .before .loop .p) (a .before .before .before .loop .k)
+    → RecordAt (a .before .before .before .before .before .before .args .inner) (a .before .before .before .before .before .before .args .set) (formOf (a .before .before .before .before .before .before .args .alone)) (a .before .before .before .before .before .before .args .s .now) (a .before .before .before .before .before .before .args .out .now) (a .before .before .before .loop .out) (a .before .before .before .loop .p) (a .before .before .before .loop .k)
 here a = record {
   going = a .before .before .before .loop .inv;
   here = a .before .before .loop-test .taken;
   more = sym (a .before .goes-on .ensures) ∙ not-false _ (a .if1 .left);
-  bytes = λ i. a .before .before .before .before .before .shared-slice-known2 .given i .fits;
-  asked = a .before .before .before .before .before .before .before .pre .1;
+  bytes = λ i. a .before .before .before .before .before .shared-slice-known .given i .fits;
+  asked = a .before .before .before .before .before .before .pre;
 }
 
 loop-holds : tie.Need-loop-holds Inv-loop μ-loop
-loop-holds c = records-start (c .before .before .before .pre .1)
+loop-holds c = records-start (c .before .before .pre)
 
 goes-on-requires : tie.Need-goes-on-requires Inv-loop μ-loop
 goes-on-requires c κs = search needs
@@ -84,7 +84,7 @@ add-p-2 : tie.Need-add-p-2 Inv-loop μ-loop
 add-p-2 c = omega (arith, series-next (here (c .before .before .before .before .before .before .before .before .before .before .before .before)) (sym (c .before .before .before .before .before .before .before .before .before .before .before .is-mark .ensures) ∙ c .before .before .before .before .before .before .before .before .before .before .if2 .taken) (c .before .before .before .before .before .before .before .before .put-series .ensures) (c .before .before .before .target-packet .ensures))
 
 add-k : tie.Need-add-k Inv-loop μ-loop
-add-k c = omega (arith, series-more (here (c .before .before .before .before .before .before .before .before .before .before .before .before .before)) (sym (c .before .before .before .before .before .before .before .before .before .before .before .before .is-mark .ensures) ∙ c .before .before .before .before .before .before .before .before .before .before .before .if2 .taken) (c .before .before .before .before .before .before .before .before .before .put-series .ensures) (c .before .before .before .before .target-packet .ensures) .writes .sum, c .before .before .before .before .before .before .before .before .before .before .before .before .before .before .before .before .before .before .before .before .pre .1 .5)
+add-k c = omega (arith, series-more (here (c .before .before .before .before .before .before .before .before .before .before .before .before .before)) (sym (c .before .before .before .before .before .before .before .before .before .before .before .before .is-mark .ensures) ∙ c .before .before .before .before .before .before .before .before .before .before .before .if2 .taken) (c .before .before .before .before .before .before .before .before .before .put-series .ensures) (c .before .before .before .before .target-packet .ensures) .writes .sum, c .before .before .before .before .before .before .before .before .before .before .before .before .before .before .before .before .before .before .before .pre .5)
 
 loop-less : tie.Need-loop-less Inv-loop μ-loop
 loop-less c = omega (arith, series-next (here (c .before .before .before .before .before .before .before .before .before .before .before .before .before)) (sym (c .before .before .before .before .before .before .before .before .before .before .before .before .is-mark .ensures) ∙ c .before .before .before .before .before .before .before .before .before .before .before .if2 .taken) (c .before .before .before .before .before .before .before .before .before .put-series .ensures) (c .before .before .before .before .target-packet .ensures))

@@ -48,22 +48,16 @@ returns-3 c =
     let a = z .before .before in
     packs-short (write-packs _ (a .before .before .check .ensures) (λ i. a .before .before .before .before .shared-slice-known .given i .fits) (a .c .given .1) (z .frame-size .ensures)) _ (g .before .if1 .left) (g .if2 .taken) (c .answer-of2 .ensures)
 
-table-requires : tie.Need-table-requires
-table-requires c κs = search needs
-
 open-requires : tie.Need-open-requires
 open-requires c κs =
-    let g = c .before .before in
+    let g = c .before in
     let z = g .before .before in
     let a = z .before .before in
     open-asked (packs-fit (write-packs _ (a .before .before .check .ensures) (λ i. a .before .before .before .before .shared-slice-known .given i .fits) (a .c .given .1) (z .frame-size .ensures)) (a .before .before .before .before .before .args .packet .now) (g .before .if1 .left) (g .if2 .left))
 
-slice-aggregate-item-packet : tie.Need-slice-aggregate-item-packet
-slice-aggregate-item-packet c = search needs
-
 sub-item-packet : tie.Need-sub-item-packet
 sub-item-packet c =
-    let g = c .before .before .before .before .before .before in
+    let g = c .before .before .before .before in
     let z = g .before .before in
     let a = z .before .before in
     parts-from _ (a .before .before .check .ensures) (λ i. a .before .before .before .before .shared-slice-known .given i .fits) (a .c .given .1)
@@ -76,8 +70,8 @@ part-item-packet-end c = search needs
 
 sub-item-packet-2 : tie.Need-sub-item-packet-2
 sub-item-packet-2 c =
-    let o = c .before .before .before .before in
-    let g = o .before .before .before in
+    let o = c .before .before .before in
+    let g = o .before .before in
     let z = g .before .before in
     let a = z .before .before in
     rest-from (packs-fit (write-packs _ (a .before .before .check .ensures) (λ i. a .before .before .before .before .shared-slice-known .given i .fits) (a .c .given .1) (z .frame-size .ensures)) (a .before .before .before .before .before .args .packet .now) (g .before .if1 .left) (g .if2 .left)) (o .«open» .ensures)
@@ -90,20 +84,18 @@ part-item-packet-end-2 c = search needs
 
 item-packet-requires : tie.Need-item-packet-requires
 item-packet-requires c κs =
-    let o = c .before .before .before .before .before in
-    let g = o .before .before .before in
+    let o = c .before .before .before .before in
+    let g = o .before .before in
     let z = g .before .before in
     let a = z .before .before in
-    let asked = parts-asked _ (a .before .before .check .ensures) (λ i. a .before .before .before .before .shared-slice-known .given i .fits) (a .c .given .1) (entries-small (write-packs _ (a .before .before .check .ensures) (λ i. a .before .before .before .before .shared-slice-known .given i .fits) (a .c .given .1) (z .frame-size .ensures)) (a .before .before .before .before .before .args .packet .now) (g .before .if1 .left)) in (
-      o .before .before .table .ensures,
-      (asked .0, asked .1, asked .2, asked .3, rest-room (packs-fit (write-packs _ (a .before .before .check .ensures) (λ i. a .before .before .before .before .shared-slice-known .given i .fits) (a .c .given .1) (z .frame-size .ensures)) (a .before .before .before .before .before .args .packet .now) (g .before .if1 .left) (g .if2 .left)) (o .«open» .ensures) (written-is _ (a .before .before .check .ensures) (λ i. a .before .before .before .before .shared-slice-known .given i .fits) (a .c .given .1)), written-small _ (a .before .before .check .ensures) (λ i. a .before .before .before .before .shared-slice-known .given i .fits) (a .c .given .1) (entries-small (write-packs _ (a .before .before .check .ensures) (λ i. a .before .before .before .before .shared-slice-known .given i .fits) (a .c .given .1) (z .frame-size .ensures)) (a .before .before .before .before .before .args .packet .now) (g .before .if1 .left))),
-    )
+    let asked = parts-asked _ (a .before .before .check .ensures) (λ i. a .before .before .before .before .shared-slice-known .given i .fits) (a .c .given .1) (entries-small (write-packs _ (a .before .before .check .ensures) (λ i. a .before .before .before .before .shared-slice-known .given i .fits) (a .c .given .1) (z .frame-size .ensures)) (a .before .before .before .before .before .args .packet .now) (g .before .if1 .left)) in
+    (asked .0, asked .1, asked .2, asked .3, rest-room (packs-fit (write-packs _ (a .before .before .check .ensures) (λ i. a .before .before .before .before .shared-slice-known .given i .fits) (a .c .given .1) (z .frame-size .ensures)) (a .before .before .before .before .before .args .packet .now) (g .before .if1 .left) (g .if2 .left)) (o .«open» .ensures) (written-is _ (a .before .before .check .ensures) (λ i. a .before .before .before .before .shared-slice-known .given i .fits) (a .c .given .1)), written-small _ (a .before .before .check .ensures) (λ i. a .before .before .before .before .shared-slice-known .given i .fits) (a .c .given .1) (entries-small (write-packs _ (a .before .before .check .ensures) (λ i. a .before .before .before .before .shared-slice-known .given i .fits) (a .c .given .1) (z .frame-size .ensures)) (a .before .before .before .before .before .args .packet .now) (g .before .if1 .left)))
 
 add-close : tie.Need-add-close
 add-close c =
     let n = c .before .before .before in
-    let o = n .before .before .before .before .before .before in
-    let g = o .before .before .before in
+    let o = n .before .before .before .before .before in
+    let g = o .before .before in
     let z = g .before .before in
     let a = z .before .before in
     omega (arith, entries-end (packs-fit (write-packs _ (a .before .before .check .ensures) (λ i. a .before .before .before .before .shared-slice-known .given i .fits) (a .c .given .1) (z .frame-size .ensures)) (a .before .before .before .before .before .args .packet .now) (g .before .if1 .left) (g .if2 .left)) (o .«open» .ensures) (written-is _ (a .before .before .check .ensures) (λ i. a .before .before .before .before .shared-slice-known .given i .fits) (a .c .given .1)) (n .item-packet .ensures))
@@ -111,8 +103,8 @@ add-close c =
 close-requires : tie.Need-close-requires
 close-requires c κs =
     let n = c .before .before .before in
-    let o = n .before .before .before .before .before .before in
-    let g = o .before .before .before in
+    let o = n .before .before .before .before .before in
+    let g = o .before .before in
     let z = g .before .before in
     let a = z .before .before in
     close-asked (packs-fit (write-packs _ (a .before .before .check .ensures) (λ i. a .before .before .before .before .shared-slice-known .given i .fits) (a .c .given .1) (z .frame-size .ensures)) (a .before .before .before .before .before .args .packet .now) (g .before .if1 .left) (g .if2 .left)) (o .«open» .ensures) (written-is _ (a .before .before .check .ensures) (λ i. a .before .before .before .before .shared-slice-known .given i .fits) (a .c .given .1)) (n .item-packet .ensures)
@@ -126,8 +118,8 @@ same-length c = search needs
 returns-4 : tie.Need-returns-4
 returns-4 c =
     let n = c .before .before .before .before .before .before .before in
-    let o = n .before .before .before .before .before .before in
-    let g = o .before .before .before in
+    let o = n .before .before .before .before .before in
+    let g = o .before .before in
     let z = g .before .before in
     let a = z .before .before in
     packs-done (write-packs _ (a .before .before .check .ensures) (λ i. a .before .before .before .before .shared-slice-known .given i .fits) (a .c .given .1) (z .frame-size .ensures)) _ (g .before .if1 .left) (g .if2 .left)
@@ -147,9 +139,7 @@ write-spec =
     returns-2
     answer-of-requires-2
     returns-3
-    table-requires
     open-requires
-    slice-aggregate-item-packet
     sub-item-packet
     part-item-packet-start
     part-item-packet-end

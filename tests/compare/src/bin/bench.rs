@@ -13,8 +13,8 @@ use std::hint::black_box;
 use std::time::{Duration, Instant};
 
 /// As in `tests/boundary/bench.c`.
-const ROUNDS: u32 = 5;
-const ROUND: Duration = Duration::from_millis(200);
+const ROUNDS: u32 = 4;
+const ROUND: Duration = Duration::from_millis(10);
 
 fn main() {
     let folder = std::env::args().nth(1).expect("a folder");

@@ -10,12 +10,7 @@ ghost use Rattle.format.specs.Table.{pack};
 ghost use Rattle.format.specs.Packet.{flatItem};
 ghost use Rattle.format.specs.Calls.{itemOf};
 ghost use Rattle.packets.specs.Meet.{usedOf, recordsRun, targetsRun, recordsNormal, targetsNormal, InnerParts};
-
-// How many bytes were read, and how many were written for them.
-pub struct Passed {
-    pub used: usize,
-    pub wrote: usize,
-}
+use stores::Passed;
 
 // The number of two bytes at p, as a record's tag and its value's length are.
 fn two_at(s: &[u8], p: usize) -> u64

@@ -53,7 +53,7 @@ fn put_target(out: &mut [u8], at: usize, id: u64) -> usize
     ensures { λ r. ⌜ (r ≡ at + 10) × (now (out .exit) ≡ sets (now (out .entry)) at (TG .0 ∷ TG .1 ∷ fixed 8 id)) ⌝ }
 {
     if id < 65536 {
-        let b = stores::put_number(out, at, 6072822622532403200, 8);
+        let b = stores::put_number(out, at, 0x5447000000000000, 8);
         return stores::put_number(out, b, id, 2);
     }
     let a = stores::put_number(out, at, 21575, 2);

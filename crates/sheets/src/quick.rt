@@ -8,6 +8,7 @@ ghost use Rattle.sheets.specs.Meet.{levelSheet};
 ghost use Rattle.sheets.specs.Quick.{LevelPassed, Glanced};
 ghost use Rattle.walks.specs.Runs.{Ran, levelRun};
 ghost use mathlib.Core.Bool.{false};
+use stores::Passed;
 
 // How many bytes the value of such an item at p has; 0 where it is no such item.
 fn glance(s: &[u8], p: usize) -> usize
@@ -31,12 +32,6 @@ fn glance(s: &[u8], p: usize) -> usize
         }
     }
     n as usize
-}
-
-// How far it went, and how many bytes it wrote.
-pub struct Passed {
-    pub used: usize,
-    pub wrote: usize,
 }
 
 // The records of such items, one after another.

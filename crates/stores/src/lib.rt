@@ -6,6 +6,12 @@ ghost use lib.ListN.{length, take, drop};
 ghost use lib.Seq.{sets};
 ghost use Rattle.format.specs.Coding.{fixed};
 
+// How many bytes were read, and how many were stored for them.
+pub struct Passed {
+    pub used: usize,
+    pub wrote: usize,
+}
+
 // v in k bytes, high byte first; where they end.
 pub fn put_number(out: &mut [u8], at: usize, v: u64, k: usize) -> usize
     requires { ⌜ at + k ≤ length (now out) ⌝ }

@@ -1,8 +1,8 @@
 # `make` proves every crate and builds what is installed: the program that ./vmtirows runs, and the library for C. `make test` is
-# the gate; `make bench` times the C calls; `make examples` builds the C programs that examples/two_columns and
-# examples/add_value run. `make install` and `make uninstall` heed PREFIX and DESTDIR.
+# the gate; `make bench` times the C calls, and `make counts` counts their instructions; `make examples` builds the C programs that
+# examples/two_columns and examples/add_value run. `make install` and `make uninstall` heed PREFIX and DESTDIR.
 
-.PHONY: all proofs test bench examples install uninstall clean
+.PHONY: all proofs test bench counts examples install uninstall clean
 # rt uses target/ alone
 .NOTPARALLEL:
 
@@ -46,6 +46,9 @@ test:
 
 bench:
 	@tests/bench
+
+counts:
+	@tests/counts
 
 examples:
 	@examples/build

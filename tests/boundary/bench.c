@@ -1,6 +1,7 @@
 /* Times the calls: prints for each call and input their names, the input's bytes and the nanoseconds of one call.
  *
- *   bench FILE.. */
+ *   bench FILE..
+ *   bench count CALL TIMES FILE    makes one call so many times, for who counts its instructions */
 #define _POSIX_C_SOURCE 199309L
 #include <time.h>
 #include "inputs.h"
@@ -40,9 +41,21 @@ static double time_of(int which)
     return least / (double)times;
 }
 
+static int count(const char *call, unsigned long times, const char *path)
+{
+    int which;
+    get_input(&p, path);
+    for (which = 0; which < calls_on(&p); which++)
+        if (strcmp(calls[which].name, call) == 0)
+            round_of(which, times);
+    return 0;
+}
+
 int main(int argc, char **argv)
 {
     int i, which;
+    if (argc == 5 && strcmp(argv[1], "count") == 0)
+        return count(argv[2], strtoul(argv[3], NULL, 10), argv[4]);
     for (i = 1; i < argc; i++) {
         get_input(&p, argv[i]);
         for (which = 0; which < calls_on(&p); which++) {

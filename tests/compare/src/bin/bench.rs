@@ -4,6 +4,8 @@
 //! input's bytes and the nanoseconds of one call: read, packet to sheet; write,
 //! that sheet to a packet; normalise; edit, a put of set tag 9; edit-target, a
 //! put of tag 4 of the target 1. Of a sheet it times write alone.
+//! `bench count CALL TIMES NAME` makes one call on a packet so many times, for
+//! who counts its instructions.
 
 use second::generate::limits::most_packs;
 use second::generate::tree::{Node, Tree};
@@ -17,9 +19,14 @@ const ROUNDS: u32 = 4;
 const ROUND: Duration = Duration::from_millis(10);
 
 fn main() {
-    let folder = std::env::args().nth(1).expect("a folder");
-    let (packets, sheets) = (packets(), sheets());
+    let words: Vec<String> = std::env::args().skip(1).collect();
     let mut out = vec![0; PACKET_SHEET_LIMIT];
+    if let [count, call, times, name] = &words[..] {
+        assert_eq!(count, "count");
+        return repeat(call, times.parse().expect("a number"), name, &mut out);
+    }
+    let folder = words.first().expect("a folder");
+    let (packets, sheets) = (packets(), sheets());
     let save = |name: &str, kind: &str, bytes: &[u8]| {
         std::fs::write(format!("{folder}/{name}.{kind}"), bytes).expect("a file");
     };
@@ -28,7 +35,7 @@ fn main() {
         save(name, "packet", packet);
     }
     sheets.iter().for_each(|(name, sheet)| save(name, "sheet", sheet));
-    if std::env::args().nth(2).is_some() {
+    if words.len() > 1 {
         return;
     }
     for (name, form, packet) in &packets {
@@ -37,6 +44,20 @@ fn main() {
     for (name, sheet) in &sheets {
         time_write(name, sheet, &mut out);
     }
+}
+
+fn repeat(call: &str, times: u32, name: &str, out: &mut [u8]) {
+    let (_, form, packet) = packets().into_iter().find(|(of, _, _)| of == name).expect("a packet's name");
+    let size = read(form, &packet, out).expect("an accepted packet");
+    let sheet = out[..size].to_vec();
+    (0..times).for_each(|_| {
+        _ = match call {
+            "read" => black_box(read(form, black_box(&packet), black_box(out))),
+            "write" => black_box(write(black_box(&sheet), black_box(out))),
+            "normalise" => black_box(normalise(form, black_box(&packet), black_box(out))),
+            _ => black_box(edit(form, black_box(&packet), Level::Set, 9, Change::Put(&[1, 0]), black_box(out))),
+        }
+    });
 }
 
 fn time_packet(name: &str, form: Form, packet: &[u8], out: &mut [u8]) {

@@ -118,7 +118,8 @@ fn packets() -> Vec<(String, Form, Vec<u8>)> {
 }
 
 /// Sheets of as many items or targets as fit, from the greatest tag or id to
-/// the least, and between as above. What they say fits in no packet.
+/// the least, and between as above, the last with ids alike in their low 14
+/// bits. What they say fits in no packet.
 fn sheets() -> Vec<(String, Vec<u8>)> {
     let tags: Vec<u64> = (0..((SHEET_LIMIT - 3) / 7) as u64).map(|n| 16_383 - n).collect();
     let ids: Vec<u64> = (0..((SHEET_LIMIT - 5) / 10) as u64).rev().collect();
@@ -127,11 +128,13 @@ fn sheets() -> Vec<(String, Vec<u8>)> {
     let sheet = |head: &[u8], records: Vec<Vec<u8>>| [head, &records.concat()].concat();
     let items = |tags: &[u64]| sheet(b"PK\0", tags.iter().map(item).collect());
     let targets = |ids: &[u64]| sheet(b"PK\0TS", ids.iter().map(target).collect());
+    let alike: Vec<u64> = ids.iter().map(|id| id << 14).collect();
     vec![
         ("sheet-tags-falling".into(), items(&tags)),
         ("sheet-ids-falling".into(), targets(&ids)),
         ("sheet-tags-between".into(), items(&between(&tags))),
         ("sheet-ids-between".into(), targets(&between(&ids))),
+        ("sheet-ids-alike".into(), targets(&between(&alike))),
     ]
 }
 

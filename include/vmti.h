@@ -86,9 +86,10 @@
  * -----------------------
  *
  * It does not allocate, print, lock, set errno, raise a signal or call any
- * other library, and there is no state: nothing to start, end or free. So every
- * call may be made from any thread at any time, and from a signal handler, as
- * long as no one changes the lent bytes while it runs.
+ * other library (C's memset is all that the archive needs), and there is no
+ * state: nothing to start, end or free. So every call may be made from any
+ * thread at any time, and from a signal handler, as long as no one changes the
+ * lent bytes while it runs.
  *
  * It takes at most 4,096 bytes of stack, whatever the input (3,160 were seen; a
  * signal stack of MINSIGSTKSZ may have fewer). It ends for every input. Usual

@@ -1,11 +1,11 @@
 -- The walk over a level's records while it goes, and a record that is told at a glance.
 use mathlib.Core.Path.{_≡_}
 use Prim.Native.Nat.{ℕ, _+_, _<_}
-use mathlib.Core.Bool.{Bool, true, false, not, _||_}
+use mathlib.Core.Bool.{Bool, true, false}
 use mathlib.Core.List.{List}
 use lib.ListN.{drop, getD}
 use lib.Dec.{eqb}
-use Rattle.format.specs.Table.{Form, isSet, isAlone}
+use Rattle.format.specs.Table.{Form}
 use Rattle.format.specs.Sheet.{tagOfPart, markOf, is, field}
 use Rattle.items.specs.Meet.{levelOf}
 use Rattle.items.specs.Quick.{Quick}
@@ -14,7 +14,7 @@ use Rattle.heads.specs.Records.{fieldAnswer}
 use Rattle.heads.specs.declared.records.Field.the-variants.{Whole}
 use Rattle.walks.specs.declared.Sizes.{Sizes}
 use Rattle.walks.specs.Meet.{markTag}
-use Rattle.walks.specs.Going.{Going}
+use Rattle.walks.specs.Going.{Going, Begun}
 use Rattle.records.specs.Meet.{moreAt, partStep, weightAt, recordsWalk}
 
 abbrev pub RecordsGoing : Bool → Form → List ℕ → ℕ → Sizes → Bool → ℕ → ℕ → Type 0
@@ -35,7 +35,7 @@ pub record Glanced (b : Bool) (f : Form) (s : List ℕ) (p top tag n : ℕ) : Ty
   pub mark : is (markOf (levelOf b)) (drop p s) ≡ true
   pub fields : Whole tag n ≡ fieldAnswer (field (levelOf b) (drop 2 (drop p s)))
   pub quick : Quick (levelOf b) f tag n (getD s (p + 6) 0)
-  pub begins : not (isSet (levelOf b)) || not (isAlone f) || not (eqb p 0) || eqb tag 2 ≡ true
+  pub begins : Begun b f p tag
   pub above : top < tag
   pub small : tag < 128
   pub few : n < 128

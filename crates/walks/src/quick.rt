@@ -1,5 +1,5 @@
-// The quick way over a level: items told at a glance, with a byte each for tag and length, tags rising, from its start. What stops it is
-// left to the item walk.
+// The quick way over a level or a series, from its start: items told at a glance, with a byte each for tag and length, tags rising; then
+// items that no table lists; and packs of items told at a glance. What stops it is left to the walks.
 ghost use mathlib.Core.Path.{_≡_};
 ghost use mathlib.Core.Bool.{true};
 ghost use Prim.Native.Nat.{_-_, _≤_, _<_};

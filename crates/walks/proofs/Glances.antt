@@ -56,12 +56,14 @@ pub begun-start : (b : Bool) (f : Form) (s : List ℕ) {tag : ℕ} → tag ≡ g
 begun-start b f s et ex tx = rw et at (sym ex ∙ tx)
 
 -- as the code finds it
-pub glance-from : (b : Bool) (f : Form) (s : List ℕ) (p top : ℕ) {tag n : ℕ} → tag ≡ getD s p 0 → n ≡ getD s (p + 1) 0 → (tag ≤ top → ⊥) → p + 2 + n ≤ length s → Begun b f 0 (getD s 0 0)
+pub glance-from : (b : Bool) (f : Form) (s : List ℕ) (p top : ℕ) {tag n : ℕ} → tag ≡ getD s p 0 → n ≡ getD s (p + 1) 0 → (tag ≤ top → ⊥) → p + 2 < length s → Begun b f 0 (getD s 0 0)
     → (tag < 128) × (n < 128) × items.Quick (levelOf b) f tag n (getD s (p + 2) 0) → Glanced b f s p top (p + 2 + n)
-glance-from b f s p top {tag = tag} {n = n} et en above room h q = (
+glance-from b f s p top {tag = tag} {n = n} et en above here h q = (
   n,
   refl,
-  record {
+  q .2 .some,
+  here,
+  λ room. record {
     quick = rw et at (q .2);
     small = rw et at (q .0);
     few = q .1;
@@ -143,15 +145,16 @@ module _ {b : Bool} {f : Form} {s : List ℕ} {p top n : ℕ} (g : Glance b f s 
       entry-more i (item-told i {x = b && eqb tag 101} refl (rw level-is at (g .quick .no-series)) refl) refl (quick-plus (levelOf b) tag n count p (g .quick .no-seal) th nh)
       (em ∙ ap (λ z. mark || z) (ey ∙ ap (λ z. eqb z (markTag (levelOf b))) ex)) (omega (arith, g .above, ex), omega (arith, ex)) (el .0, omega (arith, ex, el .1))
 
--- an item that ends at next; x is its tag as the code read it
+-- an item that ends at next by its length; x is its tag as the code read it
 module _ {b : Bool} {f : Form} {s : List ℕ} {p top next : ℕ} (g : Glanced b f s p top next) where
-  pub glanced-next : (p + 2 < next) × (next ≤ length s)
-  glanced-next = (omega (arith, g .1, g .2 .quick .some), omega (arith, g .1, g .2 .room))
+  pub glanced-next : (p + 2 < next) × (p + 2 < length s)
+  glanced-next = (omega (arith, g .1, g .2), g .3)
 
-  pub glanced-low : {low : ℕ} → (p < length s → top < getD s p 0 → getD s p 0 < 128 → low ≤ getD s p 0) → {x : ℕ} → x ≡ getD s p 0 → low ≤ x
-  glanced-low h ex = omega (arith, ex, h (omega (arith, glanced-next)) (g .2 .above) (g .2 .small))
+  module _ (room : next ≤ length s) where
+    pub glanced-low : {low : ℕ} → (p < length s → top < getD s p 0 → getD s p 0 < 128 → low ≤ getD s p 0) → {x : ℕ} → x ≡ getD s p 0 → low ≤ x
+    glanced-low h ex = let i = g .4 room in omega (arith, ex, h (omega (arith, glanced-next)) (i .above) (i .small))
 
-  pub glanced-more : {count : ℕ} {mark : Bool} {low : ℕ} → LevelGoing b f s p (quickSizes count p) mark top low → Bytes s → length s ≤ 8192
-      → {x : ℕ} → x ≡ getD s p 0 → {y mark′ : Bool} → y ≡ eqb x (markTag (levelOf b)) → mark′ ≡ (mark || y) → low ≤ x
-      → LevelGoing b f s next (quickSizes (count + 1) next) mark′ x low
-  glanced-more go bytes most ex ey em el = rw (g .1) (glance-more (g .2) go bytes most ex ey em (omega arith, el))
+    pub glanced-more : {count : ℕ} {mark : Bool} {low : ℕ} → LevelGoing b f s p (quickSizes count p) mark top low → Bytes s → length s ≤ 8192
+        → {x : ℕ} → x ≡ getD s p 0 → {y mark′ : Bool} → y ≡ eqb x (markTag (levelOf b)) → mark′ ≡ (mark || y) → low ≤ x
+        → LevelGoing b f s next (quickSizes (count + 1) next) mark′ x low
+    glanced-more go bytes most ex ey em el = rw (g .1) (glance-more (g .4 room) go bytes most ex ey em (omega arith, el))

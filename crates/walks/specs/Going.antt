@@ -61,9 +61,9 @@ pub record Glance (b : Bool) (f : Form) (s : List ℕ) (p top n : ℕ) : Type 0 
   pub room : p + 2 + n ≤ length s
   pub begins : Begun b f p (getD s p 0)
 
--- there is one, and it ends at next
+-- there is one, if next, where its length says that it ends, is no further than the level's end
 abbrev pub Glanced : Bool → Form → List ℕ → ℕ → ℕ → ℕ → Type 0
-Glanced b f s p top next = (n : ℕ) × (next ≡ p + 2 + n) × Glance b f s p top n
+Glanced b f s p top next = (n : ℕ) × (next ≡ p + 2 + n) × (0 < n) × (p + 2 < length s) × (next ≤ length s → Glance b f s p top n)
 
 -- a key that is told to be new where no key before p is above top or below low
 abbrev pub New : ℕ → ℕ → ℕ → ℕ → Type 0

@@ -5,6 +5,7 @@ ghost use mathlib.Core.Bool.{true};
 ghost use Prim.Native.Nat.{_-_, _≤_, _<_};
 ghost use lib.ListN.{length, getD};
 ghost use Rattle.items.specs.Meet.{formOf, itemTable};
+ghost use Rattle.walks.specs.Meet.{noSizes};
 ghost use Rattle.walks.specs.Going.{LevelGoing, SeriesGoing, quickAt, Begun, Glanced, New, Plain};
 use super::Sizes;
 use heads::Head;
@@ -23,7 +24,7 @@ fn span(s: &[u8], set: bool, alone: bool) -> usize
     0
 }
 
-// Where such an item at p ends, its tag above top; 0 where it is no such item.
+// Where such an item at p ends by its length, its tag above top; 0 where it is no such item.
 fn glance(table: &[u64], s: &[u8], p: usize, most: usize, set: bool, alone: bool, top: u64) -> usize
     requires { ⌜ (now table ≡ itemTable) × (length (now s) ≤ 8192) × (most ≤ length (now s) - 2) × (0 < most → Begun set (formOf alone) 0 (getD (now s) 0 0)) ⌝ }
     ensures { λ r. ⌜ (0 < r → Glanced set (formOf alone) (now (s .entry)) p top r) ⌝ }
@@ -36,12 +37,8 @@ fn glance(table: &[u64], s: &[u8], p: usize, most: usize, set: bool, alone: bool
         return 0;
     }
     let n = coding::wide(s[p + 1]);
-    let next = p + 2 + (n as usize);
-    if s.len() < next {
-        return 0;
-    }
     if items::quick::is_quick(table, set, alone, tag, n, s[p + 2]) {
-        return next;
+        return p + 2 + (n as usize);
     }
     0
 }
@@ -69,7 +66,19 @@ fn first_tag(s: &[u8]) -> u64
     tag
 }
 
-// The items told at a glance, one after another.
+// No bytes, rows or packs.
+fn nothing() -> Sizes
+    ensures { λ r. ⌜ r ≡ noSizes ⌝ }
+{
+    Sizes {
+        sheet: 0,
+        rows: 0,
+        normal: 0,
+        inner: 0,
+    }
+}
+
+// The items told at a glance, one after another. If the last goes past the end, which is seen once for all, the walk begins anew.
 pub fn run(table: &[u64], s: &[u8], set: bool, alone: bool) -> Quick
     requires { ⌜ (now table ≡ itemTable) × (length (now s) ≤ 8192) ⌝ }
     ensures { λ r. ⌜ LevelGoing set (formOf alone) (now (s .entry)) (r .at) (r .sizes) (r .mark) (r .top) (r .low) ⌝ }
@@ -83,19 +92,16 @@ pub fn run(table: &[u64], s: &[u8], set: bool, alone: bool) -> Quick
     loop {
         let next = glance(table, s, p, most, set, alone, top);
         if next == 0 {
+            if s.len() < p {
+                return stands(0, nothing(), false, 0, low);
+            }
             let sizes = Sizes {
                 sheet: 4 * count + p,
                 rows: count,
                 normal: p,
                 inner: 0,
             };
-            return Quick {
-                at: p,
-                sizes,
-                mark,
-                top,
-                low,
-            };
+            return stands(p, sizes, mark, top, low);
         }
         let tag = coding::wide(s[p]);
         mark = super::either(mark, super::is_mark(set, tag));
@@ -159,6 +165,10 @@ pub fn onward(s: &[u8], set: bool, alone: bool, q: Quick) -> Quick
     let mut top = q.top;
     let mut low = q.low;
     while p < s.len() {
+        // the series is no such item
+        if super::is_series(set, coding::wide(s[p])) {
+            return stands(p, sum, q.mark, top, low);
+        }
         let h = heads::item_head(&s[p..], set);
         let Head::Whole {
             key,

@@ -26,15 +26,6 @@ shared-slice-read-wide-2 c = search needs
 wide-requires-2 : tie.Need-wide-requires-2
 wide-requires-2 c κs = search needs
 
-add-next : tie.Need-add-next
-add-next c = search needs
-
-add-next-2 : tie.Need-add-next-2
-add-next-2 c = search needs
-
-returns-3 : tie.Need-returns-3
-returns-3 c = λ h. absurd (omega arith)
-
 add-is-quick : tie.Need-add-is-quick
 add-is-quick c = search needs
 
@@ -44,13 +35,20 @@ shared-slice-read-is-quick c = search needs
 is-quick-requires : tie.Need-is-quick-requires
 is-quick-requires c κs = search needs
 
-returns-4 : tie.Need-returns-4
-returns-4 c =
-    let i = c .before .before .before .before .before .before .before .before .before .if1 .left in
-    λ h. glance-from _ _ _ _ _ (c .before .before .before .before .before .before .before .wide .ensures .0) (c .before .before .before .before .wide2 .ensures .0) (λ l. omega (arith, c .before .before .before .before .before .before .if2 .left, l)) (omega (arith, c .before .before .before .if3 .left)) (c .before .before .before .before .before .before .before .before .before .before .before .before .pre .3 (omega (arith, i))) (c .before .is-quick .ensures (c .if4 .taken))
+add-result : tie.Need-add-result
+add-result c = search needs
 
-returns-5 : tie.Need-returns-5
-returns-5 c = λ h. absurd (omega arith)
+add-result-2 : tie.Need-add-result-2
+add-result-2 c = search needs
+
+returns-3 : tie.Need-returns-3
+returns-3 c =
+    let i = c .before .before .before .before .before .before .before .before .if1 .left in
+    let pre = c .before .before .before .before .before .before .before .before .before .before .before .pre in
+    λ h. glance-from _ _ _ _ _ (c .before .before .before .before .before .before .wide .ensures .0) (c .before .before .before .wide2 .ensures .0) (λ l. omega (arith, c .before .before .before .before .before .if2 .left, l)) (omega (arith, i, pre .2)) (pre .3 (omega (arith, i))) (c .before .is-quick .ensures (c .if3 .taken))
+
+returns-4 : tie.Need-returns-4
+returns-4 c = λ h. absurd (omega arith)
 
 pub glance-spec : {M : Type 1} → statement M
 glance-spec =
@@ -63,11 +61,10 @@ glance-spec =
     add-wide
     shared-slice-read-wide-2
     wide-requires-2
-    add-next
-    add-next-2
-    returns-3
     add-is-quick
     shared-slice-read-is-quick
     is-quick-requires
-    returns-4
-    returns-5)
+    add-result
+    add-result-2
+    returns-3
+    returns-4)

@@ -10,8 +10,10 @@ use Rattle.walks.proofs.Glances.{quickSizes, glanced-next, glanced-low,
 use Rattle.walks.proofs.quick.run.Statement.{statement}
 use Rattle.walks.proofs.quick.run.Tie as tie
 
+-- past the end nothing is said
 abbrev Inv-loop : tie.InvT-loop
-Inv-loop table s set alone most low p₀ count₀ mark₀ top₀ p count mark top = LevelGoing set (formOf alone) s p (quickSizes count p) mark top low × (p < length s → top < getD s p 0 → getD s p 0 < 128 → low ≤ getD s p 0)
+Inv-loop table s set alone most low p₀ count₀ mark₀ top₀ p count mark top =
+    (p ≤ length s → LevelGoing set (formOf alone) s p (quickSizes count p) mark top low) × (p < length s → top < getD s p 0 → getD s p 0 < 128 → low ≤ getD s p 0)
 
 abbrev μ-loop : tie.MeasureT-loop
 μ-loop table s set alone most low p₀ count₀ mark₀ top₀ p count mark top = length s - p
@@ -23,19 +25,31 @@ first-tag-requires : tie.Need-first-tag-requires Inv-loop μ-loop
 first-tag-requires c κs = search needs
 
 loop-holds : tie.Need-loop-holds Inv-loop μ-loop
-loop-holds c = (level-start _ _ _, λ h l m. omega (arith, c .first-tag .ensures h m))
+loop-holds c = (λ _. level-start _ _ _, λ h l m. omega (arith, c .first-tag .ensures h m))
 
 glance-requires : tie.Need-glance-requires Inv-loop μ-loop
 glance-requires c κs = (c .before .before .before .before .before .pre .0, c .before .before .before .before .before .pre .1, c .before .before .span .ensures .0, c .before .before .span .ensures .1)
 
-mul-t15 : tie.Need-mul-t15 Inv-loop μ-loop
-mul-t15 c = omega (arith, c .before .before .loop .inv .0 .few .rows, c .before .before .loop .inv .0 .to, c .before .before .before .before .before .before .before .pre .1)
+nothing-requires : tie.Need-nothing-requires Inv-loop μ-loop
+nothing-requires c κs = search needs
 
-add-t16 : tie.Need-add-t16 Inv-loop μ-loop
-add-t16 c = omega (arith, c .before .before .loop .inv .0 .few .rows, c .before .before .loop .inv .0 .to, c .before .before .before .before .before .before .before .pre .1)
+stands-requires : tie.Need-stands-requires Inv-loop μ-loop
+stands-requires c κs = search needs
 
 returns : tie.Need-returns Inv-loop μ-loop
-returns c = c .before .before .loop .inv .0
+returns c = rw (c .stands .ensures, c .before .nothing .ensures) (level-start _ _ _)
+
+mul-t15 : tie.Need-mul-t15 Inv-loop μ-loop
+mul-t15 c = let i = c .before .before .before .loop .inv .0 (omega (arith, c .if2 .left)) in omega (arith, i .few .rows, i .to, c .before .before .before .before .before .before .before .before .pre .1)
+
+add-t18 : tie.Need-add-t18 Inv-loop μ-loop
+add-t18 c = let i = c .before .before .before .loop .inv .0 (omega (arith, c .if2 .left)) in omega (arith, i .few .rows, i .to, c .before .before .before .before .before .before .before .before .pre .1)
+
+stands-requires-2 : tie.Need-stands-requires-2 Inv-loop μ-loop
+stands-requires-2 c κs = search needs
+
+returns-2 : tie.Need-returns-2 Inv-loop μ-loop
+returns-2 c = rw (c .stands2 .ensures) (c .before .before .before .before .loop .inv .0 (omega (arith, c .before .if2 .left)))
 
 shared-slice-read-wide : tie.Need-shared-slice-read-wide Inv-loop μ-loop
 shared-slice-read-wide c = omega (arith, glanced-next (c .before .before .glance .ensures (omega (arith, c .before .if1 .left))))
@@ -50,7 +64,10 @@ either-requires : tie.Need-either-requires Inv-loop μ-loop
 either-requires c κs = search needs
 
 add-count : tie.Need-add-count Inv-loop μ-loop
-add-count c = omega (arith, c .before .before .before .before .before .before .loop .inv .0 .few .rows, glanced-next (c .before .before .before .before .before .glance .ensures (omega (arith, c .before .before .before .before .if1 .left))), c .before .before .before .before .before .before .before .before .before .before .before .pre .1)
+add-count c =
+    let n = glanced-next (c .before .before .before .before .before .glance .ensures (omega (arith, c .before .before .before .before .if1 .left))) in
+    let i = c .before .before .before .before .before .before .loop .inv .0 (omega (arith, n)) in
+    omega (arith, i .few .rows, n, c .before .before .before .before .before .before .before .before .before .before .before .pre .1)
 
 loop-less : tie.Need-loop-less Inv-loop μ-loop
 loop-less c = omega (arith, glanced-next (c .before .before .before .before .before .glance .ensures (omega (arith, c .before .before .before .before .if1 .left))))
@@ -58,9 +75,9 @@ loop-less c = omega (arith, glanced-next (c .before .before .before .before .bef
 loop-again : tie.Need-loop-again Inv-loop μ-loop
 loop-again c =
     let g = c .before .before .before .before .before .glance .ensures (omega (arith, c .before .before .before .before .if1 .left)) in
+    let i = c .before .before .before .before .before .before .loop .inv in
     let x = c .before .before .wide .ensures .0 in
-    let l = glanced-low g (c .before .before .before .before .before .before .loop .inv .1) x in
-    (glanced-more g (c .before .before .before .before .before .before .loop .inv .0) (λ i. c .before .before .before .before .before .before .before .before .before .shared-slice-known2 .given i .fits) (c .before .before .before .before .before .before .before .before .before .before .before .pre .1) x (c .before .is-mark .ensures) (c .either .ensures) l, λ h m _. omega (arith, l, m))
+    (λ r. glanced-more g r (i .0 (omega (arith, glanced-next g))) (λ i. c .before .before .before .before .before .before .before .before .before .shared-slice-known2 .given i .fits) (c .before .before .before .before .before .before .before .before .before .before .before .pre .1) x (c .before .is-mark .ensures) (c .either .ensures) (glanced-low g r (i .1) x), λ h m _. omega (arith, glanced-low g (omega (arith, h)) (i .1) x, m))
 
 pub run-spec : {M : Type 1} → statement M
 run-spec =
@@ -72,9 +89,13 @@ run-spec =
     first-tag-requires
     loop-holds
     glance-requires
-    mul-t15
-    add-t16
+    nothing-requires
+    stands-requires
     returns
+    mul-t15
+    add-t18
+    stands-requires-2
+    returns-2
     shared-slice-read-wide
     wide-requires
     is-mark-requires

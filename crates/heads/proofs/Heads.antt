@@ -131,7 +131,7 @@ module _ (s : List ℕ) (n : ℕ) (en : n ≡ getD s 0 0) (nh : n < 128) (room :
   pub pack-head-two : (a b : ℕ) → a ≡ getD s 1 0 → b ≡ getD s 2 0 → 128 < a → a < 256 → b < 128 → 1 < n → packHeadOf (Whole ((a - 128) * 128 + b) 2 1 n) ≡ packHead s
   pack-head-two a b ea eb ha la hb z = with-id (id-two body (rw body-long z) a b (ea ∙ sym (body-at 0 (omega arith))) (eb ∙ sym (body-at 1 z)) ha la hb)
 
-pub pack-head-if : (s : List ℕ) {h : Head} {k u w n : ℕ} → h ≡ Whole k u w n → PackHeadIf h s → packHeadOf (Whole k u w n) ≡ packHead s
+pub pack-head-if : (s : List ℕ) {h : Head} {k u w n : ℕ} → h ≡ Whole k u w n → PackHeadIf h s → PackHeadIf (Whole k u w n) s
 pack-head-if s e t = subst (λ h. PackHeadIf h s) e t
 
 -- ---- room: a head lies within the bytes with all that it heads

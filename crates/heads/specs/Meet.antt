@@ -28,9 +28,9 @@ abbrev pub packHeadOf : Head → Ans Read.PackHead
 packHeadOf (Whole k u w n) = ok (record { width = w; size = n; id = k; used = u })
 packHeadOf (Fault n) = refused n 0
 
--- a look that may say nothing
+-- a look that may say nothing, at a length in one byte and an id in one or two
 abbrev pub PackHeadIf : Head → List ℕ → Type 0
-PackHeadIf (Whole k u w n) s = packHeadOf (Whole k u w n) ≡ packHead s
+PackHeadIf (Whole k u w n) s = (packHeadOf (Whole k u w n) ≡ packHead s) × (w ≡ 1) × (n < 128) × (u ≤ 2)
 PackHeadIf (Fault n) s = Unit {0}
 
 -- ---- what was there before

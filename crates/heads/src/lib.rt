@@ -108,7 +108,7 @@ pub fn pack_head(s: &[u8]) -> Head
 }
 
 // The same for a length in one byte and an id in one or two, as most are; a fault says nothing.
-fn short_pack_head(s: &[u8]) -> Head
+pub fn short_pack_head(s: &[u8]) -> Head
     ensures { λ r. ⌜ PackHeadIf r (now (s .entry)) ⌝ }
 {
     if s.len() < 3 {

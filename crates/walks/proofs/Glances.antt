@@ -21,7 +21,7 @@ use Rattle.heads.specs.declared.Head.the-variants as heads
 use Rattle.heads.proofs.Heads.{mid-part, item-head-short}
 use Rattle.walks.specs.declared.Piece.the-variants as piece
 use Rattle.walks.specs.declared.Sizes.{Sizes}
-use Rattle.walks.specs.Meet.{pieceOf, sizes, itemSizes, plusSizes, markTag}
+use Rattle.walks.specs.Meet.{pieceOf, sizes, itemSizes, packSizes, plusSizes, markTag}
 use Rattle.walks.specs.Going.{LevelGoing, Begun, Glance, Glanced}
 use Rattle.format.specs.Read.{headOf, item}
 use Rattle.walks.proofs.Walks.{same-sizes}
@@ -40,6 +40,18 @@ quick-plus l tag n count p z th nh =
     let w : 1 ≡ lenWidth n = len-one n nh in
     let e : itemSizes l tag n ≡ sizes (6 + n) 1 (length (oidBytes tag) + (lenWidth n + n)) 0 = rw (z, itemSizes) in
     rw e (same-sizes (omega arith) refl (omega (arith, u, w)) refl)
+
+-- the sizes of such packs in p bytes with so many rows, and of one more: w and n are its length's bytes and its length, u its id's bytes
+abbrev pub packedSizes : ℕ → ℕ → ℕ → Sizes
+packedSizes p rows more = sizes (p + 4 * rows + more) rows p 0
+
+pub packed-plus : (p rows more w n : ℕ) {u at : ℕ} {z : Sizes} → (w ≡ 1) × (n < 128) × (u ≤ 2) → u ≤ n → at ≡ n - u → z ≡ quickSizes (z .rows) at
+    → packedSizes (p + w + n) (rows + 1 + z .rows) (more + 5 - u) ≡ plusSizes (packedSizes p rows more) (packSizes u z)
+packed-plus p rows more w n {u = u} {z = z} (ew, few, id) l e ez =
+    let es = ap (λ a. a .sheet) ez in
+    let en = ap (λ a. a .normal) ez in
+    let one : 1 ≡ lenWidth (u + z .normal) = len-one (u + z .normal) (omega arith) in
+    same-sizes (omega arith) (omega arith) (omega arith) refl
 
 -- what may begin a level, and whatever comes later
 begun-at : (b : Bool) (f : Form) (s : List ℕ) → Begun b f 0 (getD s 0 0) → (p : ℕ) → Begun b f p (getD s p 0)

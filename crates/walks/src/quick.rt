@@ -1,11 +1,11 @@
 // The quick way over a level or a series, from its start: items told at a glance, with a byte each for tag and length, tags rising; then
 // items that no table lists; and packs of items told at a glance. What stops it is left to the walks.
 ghost use mathlib.Core.Path.{_≡_};
-ghost use mathlib.Core.Bool.{true};
-ghost use Prim.Native.Nat.{_-_, _≤_, _<_};
+ghost use mathlib.Core.Bool.{true, false};
+ghost use Prim.Native.Nat.{_+_, _*_, _-_, _≤_, _<_};
 ghost use lib.ListN.{length, getD};
 ghost use Rattle.items.specs.Meet.{formOf, itemTable};
-ghost use Rattle.walks.specs.Meet.{noSizes};
+ghost use Rattle.walks.specs.Meet.{noSizes, sizes};
 ghost use Rattle.walks.specs.Going.{LevelGoing, SeriesGoing, quickAt, Begun, Glanced, New, Plain};
 use super::Sizes;
 use heads::Head;
@@ -81,7 +81,7 @@ fn nothing() -> Sizes
 // The items told at a glance, one after another. If the last goes past the end, which is seen once for all, the walk begins anew.
 pub fn run(table: &[u64], s: &[u8], set: bool, alone: bool) -> Quick
     requires { ⌜ (now table ≡ itemTable) × (length (now s) ≤ 8192) ⌝ }
-    ensures { λ r. ⌜ LevelGoing set (formOf alone) (now (s .entry)) (r .at) (r .sizes) (r .mark) (r .top) (r .low) ⌝ }
+    ensures { λ r. ⌜ LevelGoing set (formOf alone) (now (s .entry)) (r .at) (r .sizes) (r .mark) (r .top) (r .low) × (r .sizes ≡ sizes (4 * (r .sizes .rows) + r .at) (r .sizes .rows) (r .at) 0) ⌝ }
 {
     let most = span(s, set, alone);
     let low = first_tag(s);
@@ -192,22 +192,33 @@ pub fn onward(s: &[u8], set: bool, alone: bool, q: Quick) -> Quick
 
 // ---- packs
 
-// The packs whose ids rise or fall and whose items are all told at a glance, one after another, from a series' start.
+// Where the pack walk goes on after packs of p bytes and so many rows, each with a byte for its length.
+fn passed(p: usize, rows: usize, more: usize, top: u64, low: u64) -> Quick
+    requires { ⌜ p + 4 * rows + more ≤ 65536 ⌝ }
+    ensures { λ r. ⌜ r ≡ quickAt p (sizes (p + 4 * rows + more) rows p 0) false top low ⌝ }
+{
+    let sizes = Sizes {
+        sheet: p + 4 * rows + more,
+        rows,
+        normal: p,
+        inner: 0,
+    };
+    stands(p, sizes, false, top, low)
+}
+
+// The packs whose length has one byte and whose id has one or two, ids rising or falling, and whose items are all told at a glance, one after
+// another, from a series' start. Of a pack and its items a sheet has four bytes more for each row, and five, but for the id's.
 pub fn packs(table: &[u64], s: &[u8], alone: bool) -> Quick
     requires { ⌜ (now table ≡ itemTable) × (length (now s) ≤ 8192) ⌝ }
     ensures { λ r. ⌜ SeriesGoing (formOf alone) (now (s .entry)) (r .at) (r .sizes) (r .top) (r .low) ⌝ }
 {
     let mut p: usize = 0;
-    let mut sum = Sizes {
-        sheet: 0,
-        rows: 0,
-        normal: 0,
-        inner: 0,
-    };
+    let mut rows: usize = 0;
+    let mut more: usize = 0;
     let mut top: u64 = 0;
     let mut low: u64 = 18446744073709551615;
     while p < s.len() {
-        let h = heads::quick_pack_head(&s[p..]);
+        let h = heads::short_pack_head(&s[p..]);
         let Head::Whole {
             key,
             used,
@@ -215,25 +226,26 @@ pub fn packs(table: &[u64], s: &[u8], alone: bool) -> Quick
             size,
         } = h
         else {
-            return stands(p, sum, false, top, low);
+            return passed(p, rows, more, top, low);
         };
         if !is_new(p, top, low, key) {
-            return stands(p, sum, false, top, low);
+            return passed(p, rows, more, top, low);
         }
         let from = p + width + used;
         let next = p + width + size;
         let items = &s[from..next];
         let q = run(table, items, false, alone);
         if q.at != items.len() {
-            return stands(p, sum, false, top, low);
+            return passed(p, rows, more, top, low);
         }
         if !super::either(!alone, q.mark) {
-            return stands(p, sum, false, top, low);
+            return passed(p, rows, more, top, low);
         }
-        sum = super::weights::plus(sum, super::weights::pack_sizes(used, q.sizes));
+        rows = rows + 1 + q.sizes.rows;
+        more = more + 5 - used;
         top = super::larger(top, key);
         low = super::smaller(low, key);
         p = next;
     }
-    stands(p, sum, false, top, low)
+    passed(p, rows, more, top, low)
 }

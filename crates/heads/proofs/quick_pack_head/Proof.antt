@@ -20,7 +20,7 @@ returns : tie.Need-returns
 returns c = search needs
 
 returns-2 : tie.Need-returns-2
-returns-2 c = pack-head-if _ (c .before .h .given .1) (c .before .before .before .short-pack-head .ensures)
+returns-2 c = pack-head-if _ (c .before .h .given .1) (c .before .before .before .short-pack-head .ensures) .0
 
 pub quick-pack-head-spec : {M : Type 1} → statement M
 quick-pack-head-spec =

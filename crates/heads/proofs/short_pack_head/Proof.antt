@@ -1,4 +1,5 @@
 -- `heads::short_pack_head` meets its contract: each fault says nothing.
+use mathlib.Core.Path.{refl}
 use native.Mathlib.Omega.{arith}
 use borrow.Author.Needs.{needs}
 use Rattle.heads.proofs.Heads.{pack-head-one, pack-head-two}
@@ -35,7 +36,8 @@ wide-requires-2 c κs = search needs
 returns-5 : tie.Need-returns-5
 returns-5 c =
     let n = c .before .before .before in
-    pack-head-one _ _ (n .before .before .before .wide .ensures .0) (omega (arith, n .before .before .if2 .left)) (omega (arith, n .before .if3 .left, n .before .before .before .before .before .if1 .left)) _ (c .before .wide2 .ensures .0) (c .if5 .taken) (omega (arith, n .if4 .left))
+    let few = n .before .before .if2 .left in
+    (pack-head-one _ _ (n .before .before .before .wide .ensures .0) (omega (arith, few)) (omega (arith, n .before .if3 .left, n .before .before .before .before .before .if1 .left)) _ (c .before .wide2 .ensures .0) (c .if5 .taken) (omega (arith, n .if4 .left)), refl, omega (arith, few), omega arith)
 
 shared-slice-read-wide-3 : tie.Need-shared-slice-read-wide-3
 shared-slice-read-wide-3 c = search needs
@@ -62,7 +64,8 @@ returns-9 : tie.Need-returns-9
 returns-9 c =
     let n = c .before .before .before .before .before .before .before .before in
     let a = c .before .before .before .before .before .before .wide2 .ensures in
-    pack-head-two _ _ (n .before .before .before .wide .ensures .0) (omega (arith, n .before .before .if2 .left)) (omega (arith, n .before .if3 .left, n .before .before .before .before .before .if1 .left)) _ _ (a .0) (c .before .before .before .wide3 .ensures .0) (omega (arith, c .before .before .before .before .before .if5 .left, c .before .if7 .left)) (a .1) (omega (arith, c .before .before .if6 .left)) (omega (arith, c .if8 .left, n .if4 .left))
+    let few = n .before .before .if2 .left in
+    (pack-head-two _ _ (n .before .before .before .wide .ensures .0) (omega (arith, few)) (omega (arith, n .before .if3 .left, n .before .before .before .before .before .if1 .left)) _ _ (a .0) (c .before .before .before .wide3 .ensures .0) (omega (arith, c .before .before .before .before .before .if5 .left, c .before .if7 .left)) (a .1) (omega (arith, c .before .before .if6 .left)) (omega (arith, c .if8 .left, n .if4 .left)), refl, omega (arith, few), omega arith)
 
 pub short-pack-head-spec : {M : Type 1} → statement M
 short-pack-head-spec =

@@ -112,7 +112,7 @@ item-walk-run-requires : (t : ℕ) → item-walk-lts.Need-run-requires (item-cla
 item-walk-run-requires t c κs = c .before .before .pre .1
 
 item-walk-onward-requires : (t : ℕ) → item-walk-lts.Need-onward-requires (item-claims t) (item-walk-at t) item-walk.Post item-walk-Inv-loop item-walk-μ-loop
-item-walk-onward-requires t c κs = (c .before .before .before .pre .1 .1, c .run .ensures)
+item-walk-onward-requires t c κs = (c .before .before .before .pre .1 .1, c .run .ensures .0)
 
 item-walk-loop-holds : (t : ℕ) → item-walk-lts.Need-loop-holds (item-claims t) (item-walk-at t) item-walk.Post item-walk-Inv-loop item-walk-μ-loop
 item-walk-loop-holds t c = (c .before .onward .ensures, clear-none _ _)

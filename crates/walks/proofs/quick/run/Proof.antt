@@ -1,4 +1,5 @@
 -- `walks::quick::run` meets its contract: each turn is a turn of the item walk. Tags rise, so the first is the lowest.
+use mathlib.Core.Path.{refl}
 use Prim.Native.Nat.{_-_, _≤_, _<_}
 use native.Mathlib.Omega.{arith}
 use lib.ListN.{length, getD}
@@ -37,7 +38,7 @@ stands-requires : tie.Need-stands-requires Inv-loop μ-loop
 stands-requires c κs = search needs
 
 returns : tie.Need-returns Inv-loop μ-loop
-returns c = rw (c .stands .ensures, c .before .nothing .ensures) (level-start _ _ _)
+returns c = rw (c .stands .ensures, c .before .nothing .ensures) (level-start _ _ _, refl)
 
 mul-t15 : tie.Need-mul-t15 Inv-loop μ-loop
 mul-t15 c = let i = c .before .before .before .loop .inv .0 (omega (arith, c .if2 .left)) in omega (arith, i .few .rows, i .to, c .before .before .before .before .before .before .before .before .pre .1)
@@ -49,7 +50,7 @@ stands-requires-2 : tie.Need-stands-requires-2 Inv-loop μ-loop
 stands-requires-2 c κs = search needs
 
 returns-2 : tie.Need-returns-2 Inv-loop μ-loop
-returns-2 c = rw (c .stands2 .ensures) (c .before .before .before .before .loop .inv .0 (omega (arith, c .before .if2 .left)))
+returns-2 c = rw (c .stands2 .ensures) (c .before .before .before .before .loop .inv .0 (omega (arith, c .before .if2 .left)), refl)
 
 shared-slice-read-wide : tie.Need-shared-slice-read-wide Inv-loop μ-loop
 shared-slice-read-wide c = omega (arith, glanced-next (c .before .before .glance .ensures (omega (arith, c .before .if1 .left))))

@@ -1,21 +1,20 @@
--- What the table's bits say is what its rules say, by one computed test for each level.
+-- What the table's bits say is what its rules say, by one computed test for each level and form.
 use mathlib.Core.Path.{_≡_, refl, sym, ap, _∙_}
 use Prim.Native.Nat.{ℕ, zero, suc, _+_, _-_, _/_, _%_, _^_, _≤_, _<_}
 use native.Mathlib.Omega.{arith}
-use native.Mathlib.Nat.{mod-lt, mod-one}
+use native.Mathlib.Nat.{mod-one}
 use mathlib.Core.Bool.{Bool, true, false, not, _&&_, _||_}
 use mathlib.Core.List.{List, [], _∷_}
-use mathlib.Core.Logic.{_⊎_, inl, inr}
 use lib.ListN.{length, getD}
-use lib.Dec.{ltb, leb, eqb, lit<}
-use borrow.Author.Tests.{ltb-true, lt-ltb, le-ltb, le-leb, eqb-true, eqb-false, ne-eqb, eq-eqb}
+use lib.Dec.{ltb, leb, eqb}
+use borrow.Author.Tests.{ltb-true, leb-true, lt-ltb, le-ltb, le-leb, eqb-true, eqb-false, ne-eqb, eq-eqb, not-true}
 use Rattle.format.specs.Answer.{Ans, ok, need}
 use Rattle.format.specs.Coding.{bytesNumber}
 use Rattle.format.specs.Lists.{has}
-use Rattle.format.specs.Table.{Form, embedded, standalone, isAlone, Level, set, pack, isSet, Kind, bytes, num, pixel, Rule, unlisted, rules, find, ruleOf, mayStand, sized, notPixel, isNumber, valued, strip, short}
+use Rattle.format.specs.Table.{Form, isAlone, Level, set, pack, isSet, Kind, bytes, num, pixel, Rule, unlisted, rules, find, ruleOf, mayStand, sized, notPixel, isNumber, valued, strip, short}
 use Rattle.format.proofs.words.Answers.{no-bool, and-both}
 use Rattle.items.specs.Meet.{levelOf, formOf, itemTable, offsets, zeros}
-use Rattle.items.specs.Quick.{bit, quickTags, rowsFrom, glanced, beyond, Quick}
+use Rattle.items.specs.Quick.{bit, mostTag, rowsFrom, leastRow, glanced, beyond, Quick}
 use Rattle.items.proofs.Rows.{set-over, pack-over}
 use Rattle.items.proofs.Tests.{need-so, zeros-some, offset-over}
 
@@ -37,23 +36,22 @@ below-at (suc k) p h i l =
 
 -- ---- the table's bits
 
--- a length whose bit is set is allowed, by a rule for bytes unless the bit of a number is set too; and the set's checksum has none
-abbrev right : Level → ℕ → ℕ → ℕ → Bool
-right l row tag n =
-    not (bit row (32 + n)) || (ltb 0 n && (sized (ruleOf l tag) n && ((bit row 17 || not (isNumber (ruleOf l tag .kind))) && not (isSet l && eqb tag 1))))
+abbrev pub rowAt : Bool → ℕ → ℕ
+rowAt b tag = getD itemTable (rowsFrom b + tag) 0
 
-abbrev pub rowAt : Level → ℕ → ℕ
-rowAt set tag = getD itemTable tag 0
-rowAt pack tag = getD itemTable (13 + tag) 0
+-- a length whose bit is set in a row that is not below the least is allowed, by a rule for bytes unless the uppermost bit is set too; and its tag may
+-- stand, and is not the set's checksum
+abbrev right : Level → Form → ℕ → ℕ → ℕ → ℕ → Bool
+right l f least row tag n =
+    not (bit row n && leb least row)
+    || (ltb 0 n && (sized (ruleOf l tag) n && ((ltb 0 (row / 2 ^ 63) || not (isNumber (ruleOf l tag .kind))) && (mayStand l f tag false && not (isSet l && eqb tag 1)))))
 
-abbrev pub most : Level → ℕ
-most set = 13
-most pack = 24
-
-bits-right : (l : Level) → below (most l) (λ tag. below 32 λ n. right l (rowAt l tag) tag n) ≡ true
-unfolding itemTable ruleOf rules find sized
-bits-right set = refl
-bits-right pack = refl
+bits-right : (b a : Bool) → below (suc (mostTag b)) (λ tag. below 32 λ n. right (levelOf b) (formOf a) (leastRow a) (rowAt b tag) tag n) ≡ true
+unfolding itemTable ruleOf rules find sized mayStand has
+bits-right true true = refl
+bits-right true false = refl
+bits-right false true = refl
+bits-right false false = refl
 
 -- ---- a value that is allowed and begins with no zero, or is no number
 
@@ -97,20 +95,9 @@ implied : (a b : Bool) → not a || b ≡ true → a ≡ true → b ≡ true
 implied true b e h = e
 implied false b e h = no-bool h
 
-either-or : (a b : Bool) → a || b ≡ true → (a ≡ true) ⊎ (b ≡ true)
-either-or true b e = inl refl
-either-or false b e = inr e
-
-not-true : (a : Bool) → not a ≡ true → a ≡ false
-not-true true e = absurd (no-bool e)
-not-true false e = refl
-
-not-zero : (b : ℕ) → not (eqb b 0) ≡ true → b ≡ 0 → ⊥
-not-zero b h e = no-bool (sym (ap (λ x. not (eqb x 0)) e) ∙ h)
-
-most-few : (l : Level) → most l ≤ 24
-most-few set = omega arith
-most-few pack = omega arith
+most-few : (b : Bool) → mostTag b ≤ 23
+most-few true = omega arith
+most-few false = omega arith
 
 and-false : (a : Bool) → (a && false) ≡ false
 and-false true = refl
@@ -127,105 +114,83 @@ may-stand set f tag true h = go (not (eqb tag 1)) h
     go false e = no-bool (sym (and-false (isAlone f)) ∙ e)
 may-stand pack f tag last h = h
 
-module _ (l : Level) (tag n first : ℕ) (small : tag < most l) (g : glanced (rowAt l tag) n first ≡ true) where
+module _ (b a : Bool) (tag n first : ℕ) (small : tag ≤ mostTag b) (high : leastRow a ≤ rowAt b tag) (g : glanced (rowAt b tag) n first ≡ true) where
   abbrev row : ℕ
-  row = rowAt l tag
+  row = rowAt b tag
 
-  parts : (ltb n 32 ≡ true) × (bit row (32 + n) ≡ true) × (not (bit row 17) || not (eqb first 0) ≡ true)
+  abbrev rule : Rule
+  rule = ruleOf (levelOf b) tag
+
+  parts : (ltb n 32 ≡ true) × (bit row n ≡ true) × (leb (row / 2 ^ 63) first ≡ true)
   unfolding glanced
   parts =
-      let (a, e) = and-both (ltb n 32) (bit row (32 + n) && (not (bit row 17) || not (eqb first 0))) g in
-      let (b, c) = and-both (bit row (32 + n)) (not (bit row 17) || not (eqb first 0)) e in
-      (a, b, c)
+      let (few, e) = and-both (ltb n 32) (bit row n && leb (row / 2 ^ 63) first) g in
+      let (have, top) = and-both (bit row n) (leb (row / 2 ^ 63) first) e in
+      (few, have, top)
 
-  pub glanced-few : n < 32
-  glanced-few = ltb-true n 32 (parts .0)
+  few : n < 32
+  few = ltb-true n 32 (parts .0)
 
-  holds : (ltb 0 n ≡ true) × (sized (ruleOf l tag) n ≡ true) × (bit row 17 || not (isNumber (ruleOf l tag .kind)) ≡ true) × (not (isSet l && eqb tag 1) ≡ true)
+  holds : (ltb 0 n ≡ true) × (sized rule n ≡ true) × (ltb 0 (row / 2 ^ 63) || not (isNumber (rule .kind)) ≡ true) × (mayStand (levelOf b) (formOf a) tag false ≡ true) × (not (isSet (levelOf b) && eqb tag 1) ≡ true)
   holds =
-      let e = implied _ _ (below-at 32 (λ n. right l row tag n) (below-at (most l) (λ tag. below 32 λ n. right l (rowAt l tag) tag n) (bits-right l) tag small) n glanced-few) (parts .1) in
-      let (a, e₁) = and-both (ltb 0 n) _ e in
-      let (b, e₂) = and-both (sized (ruleOf l tag) n) _ e₁ in
-      let (c, d) = and-both (bit row 17 || not (isNumber (ruleOf l tag .kind))) _ e₂ in
-      (a, b, c, d)
+      let test : ℕ → ℕ → Bool = λ tag n. right (levelOf b) (formOf a) (leastRow a) (rowAt b tag) tag n in
+      let e = implied (bit row n && leb (leastRow a) row) _ (below-at 32 (test tag) (below-at (suc (mostTag b)) (λ tag. below 32 (test tag)) (bits-right b a) tag (omega (arith, small))) n few) (rw (parts .1, le-leb (leastRow a) row high)) in
+      let (h₀, e₁) = and-both (ltb 0 n) _ e in
+      let (h₁, e₂) = and-both (sized rule n) _ e₁ in
+      let (h₂, e₃) = and-both (ltb 0 (row / 2 ^ 63) || not (isNumber (rule .kind))) _ e₂ in
+      let (h₃, h₄) = and-both (mayStand (levelOf b) (formOf a) tag false) _ e₃ in
+      (h₀, h₁, h₂, h₃, h₄)
 
-  pub glanced-some : 0 < n
-  glanced-some = ltb-true 0 n (holds .0)
+  some : 0 < n
+  some = ltb-true 0 n (holds .0)
 
-  pub glanced-no-seal : isSet l && eqb tag 1 ≡ false
-  glanced-no-seal = not-true _ (holds .3)
-
-  pub glanced-value : (v : List ℕ) → length v ≡ n → getD v 0 0 ≡ first → (valued (ruleOf l tag) v ≡ ok tt) × (short (ruleOf l tag) v ≡ v)
-  glanced-value v e b = go (either-or (not (bit row 17)) (not (eqb first 0)) (parts .2))
+  value : (v : List ℕ) → length v ≡ n → getD v 0 0 ≡ first → (valued rule v ≡ ok tt) × (short rule v ≡ v)
+  value v e f = go (eqb first 0) refl
     where
       long : 0 < length v
-      long = omega (arith, glanced-some)
+      long = omega (arith, some)
 
-      fits : sized (ruleOf l tag) (length v) ≡ true
+      fits : sized rule (length v) ≡ true
       fits = rw e (holds .1)
 
-      go : (not (bit row 17) ≡ true) ⊎ (not (eqb first 0) ≡ true) → (valued (ruleOf l tag) v ≡ ok tt) × (short (ruleOf l tag) v ≡ v)
-      go (inl h) = plainly (ruleOf l tag) v long fits (not-true _ (turn (holds .2)))
-        where
-          turn : bit row 17 || not (isNumber (ruleOf l tag .kind)) ≡ true → not (isNumber (ruleOf l tag .kind)) ≡ true
-          turn x = rw (not-true (bit row 17) h) at x
-      go (inr h) = briefly (ruleOf l tag) v long fits (λ z. not-zero first h (sym b ∙ z))
+      go : (z : Bool) → eqb first 0 ≡ z → (valued rule v ≡ ok tt) × (short rule v ≡ v)
+      go true z =
+          let low : row / 2 ^ 63 ≤ 0 = omega (arith, leb-true (row / 2 ^ 63) first (parts .2), eqb-true first 0 z) in
+          plainly rule v long fits (not-true _ (rw (le-ltb 0 (row / 2 ^ 63) low) at (holds .2)))
+      go false z = briefly rule v long fits (λ y. eqb-false first 0 z (sym f ∙ y))
 
-  pub glanced-quick : (f : Form) → mayStand l f tag false ≡ true → Quick l f tag n first
-  glanced-quick f h = record {
-    some = glanced-some;
-    no-series = rw (ne-eqb tag 101 λ e. omega (arith, small, most-few l)) (and-false (isSet l));
-    no-seal = glanced-no-seal;
-    stands = λ last. may-stand l f tag last h;
-    allowed = λ v e b. glanced-value v e b .0;
-    shortest = λ v e b. glanced-value v e b .1;
-  }
+  pub glanced-quick : (tag < 128) × (n < 128) × Quick (levelOf b) (formOf a) tag n first
+  glanced-quick = (
+    omega (arith, small, most-few b),
+    omega (arith, few),
+    record {
+      some = some;
+      no-series = rw (ne-eqb tag 101 λ e. omega (arith, small, most-few b)) (and-false (isSet (levelOf b)));
+      no-seal = not-true _ (holds .4);
+      stands = λ last. may-stand (levelOf b) (formOf a) tag last (holds .3);
+      allowed = λ v e f. value v e f .0;
+      shortest = λ v e f. value v e f .1;
+    },
+  )
 
--- ---- the tags that may stand anywhere, by one computed test for each level and form
-
-tags-right : (b a : Bool) → below 24 (λ tag. not (bit (quickTags b a) tag) || (ltb tag (most (levelOf b)) && mayStand (levelOf b) (formOf a) tag false)) ≡ true
-unfolding mayStand has
-tags-right true true = refl
-tags-right true false = refl
-tags-right false true = refl
-tags-right false false = refl
-
--- x and y are what the code has for the tags and for the first row
-module _ (b a : Bool) (tag : ℕ) (few : tag < 24) {x : ℕ} (ex : x ≡ quickTags b a) (h : x / 2 ^ tag % 2 ≡ 0 → ⊥) {y : ℕ} (ey : y ≡ rowsFrom b) where
-  tag-right : (ltb tag (most (levelOf b)) ≡ true) × (mayStand (levelOf b) (formOf a) tag false ≡ true)
-  tag-right =
-      and-both (ltb tag (most (levelOf b))) _
-      (implied _ _ (below-at 24 (λ tag. not (bit (quickTags b a) tag) || (ltb tag (most (levelOf b)) && mayStand (levelOf b) (formOf a) tag false)) (tags-right b a) tag few)
-      (ap (λ z. bit z tag) (sym ex) ∙ ap not (ne-eqb (x / 2 ^ tag % 2) 0 h)))
-
-  tag-small : tag < most (levelOf b)
-  tag-small = ltb-true tag _ (tag-right .0)
+-- m and y are what the code has for the greatest tag and for the first row
+module _ (b : Bool) (tag : ℕ) {m : ℕ} (em : m ≡ mostTag b) (few : tag ≤ m) {y : ℕ} (ey : y ≡ rowsFrom b) where
+  small : tag ≤ mostTag b
+  small = rw em at few
 
   pub row-in : y + tag < 37
-  row-in = rw ey (go b tag-small)
+  row-in = rw ey (go b small)
     where
-      go : (b : Bool) → tag < most (levelOf b) → rowsFrom b + tag < 37
+      go : (b : Bool) → tag ≤ mostTag b → rowsFrom b + tag < 37
       go true h = omega arith
       go false h = omega arith
 
-  pub quick-from : (table : List ℕ) → table ≡ itemTable → (n first : ℕ) {r : Bool} → r ≡ glanced (getD table (y + tag) 0) n first → r ≡ true → (tag < 128) × (n < 128) × Quick (levelOf b) (formOf a) tag n first
-  quick-from table et n first eg r = (omega (arith, few), omega (arith, glanced-few (levelOf b) tag n first tag-small it), glanced-quick (levelOf b) tag n first tag-small it (formOf a) (tag-right .1))
-    where
-      row-is : (b : Bool) → rowAt (levelOf b) tag ≡ getD itemTable (rowsFrom b + tag) 0
-      row-is true = ap (λ i. getD itemTable i 0) (omega arith)
-      row-is false = refl
-
-      it : glanced (rowAt (levelOf b) tag) n first ≡ true
-      it = ap (λ z. glanced z n first) (row-is b ∙ sym (rw (et, ey))) ∙ sym eg ∙ r
+  -- and x for the least row
+  pub quick-from : (a : Bool) {x : ℕ} → x ≡ leastRow a → (table : List ℕ) → table ≡ itemTable → x ≤ getD table (y + tag) 0 → (n first : ℕ) {r : Bool} → r ≡ glanced (getD table (y + tag) 0) n first → r ≡ true
+      → (tag < 128) × (n < 128) × Quick (levelOf b) (formOf a) tag n first
+  quick-from a ex table et high n first eg r = glanced-quick b a tag n first small (rw (ex, et, ey) at high) (sym (rw (et, ey) at eg) ∙ r)
 
 -- ---- the code's tests, one after the other
-
--- a bit is at most a byte: it is not set, or the byte is not 0
-bit-leb : (x b : ℕ) → x < 2 → leb x b ≡ (not (not (eqb x 0)) || not (eqb b 0))
-bit-leb zero b h = le-leb 0 b (omega arith)
-bit-leb (suc zero) zero h = refl
-bit-leb (suc zero) (suc b) h = le-leb 1 (suc b) (omega arith) ∙ rw (ne-eqb (suc b) 0 (λ e. omega arith))
-bit-leb (suc (suc x)) b h = absurd (omega arith)
 
 module _ (row n first : ℕ) where
   pub fits-long : 31 < n → false ≡ glanced row n first
@@ -233,14 +198,13 @@ module _ (row n first : ℕ) where
   fits-long h = rw (le-ltb n 32 (omega arith))
 
   module _ (few : n < 32) where
-    pub fits-not : row / 2 ^ (32 + n) % 2 ≡ 0 → false ≡ glanced row n first
+    pub fits-not : row / 2 ^ n % 2 ≡ 0 → false ≡ glanced row n first
     unfolding glanced
     fits-not e = rw (lt-ltb n 32 few, e)
 
-    module _ (have : row / 2 ^ (32 + n) % 2 ≡ 0 → ⊥) where
-      pub fits-so : leb (row / 2 ^ 17 % 2) first ≡ glanced row n first
-      unfolding glanced
-      fits-so = rw (lt-ltb n 32 few, ne-eqb (row / 2 ^ (32 + n) % 2) 0 have) (bit-leb (row / 2 ^ 17 % 2) first (mod-lt (row / 2 ^ 17) (lit< tt)))
+    pub fits-so : (row / 2 ^ n % 2 ≡ 0 → ⊥) → leb (row / 2 ^ 63) first ≡ glanced row n first
+    unfolding glanced
+    fits-so have = rw (lt-ltb n 32 few, ne-eqb (row / 2 ^ n % 2) 0 have)
 
 -- ---- a tag that is not listed
 

@@ -1,5 +1,5 @@
 -- Where the code of items meets document 01: what its numbers and rows mean.
-use Prim.Native.Nat.{ℕ, zero, suc, _+_, _*_, _/_, _%_}
+use Prim.Native.Nat.{ℕ, zero, suc, _+_, _*_, _/_, _%_, _^_}
 use mathlib.Core.Bool.{Bool, true, false}
 use mathlib.Core.List.{List, [], _∷_}
 use lib.ListN.{length}
@@ -26,22 +26,23 @@ rowRule (suc (suc (suc (suc k)))) a b = record { kind = bytes; least = a; most =
 abbrev pub ruleFrom : declared.Rule → Rule
 ruleFrom r = rowRule (r .1) (r .2) (r .3)
 
--- a row as one number: lengths that are told at a glance, tag, kind, least and greatest length; and the rule that it stands for
-abbrev pub row : ℕ → ℕ → ℕ → ℕ → ℕ → ℕ
-row m t k a b = m * 4294967296 + t * 16777216 + k * 65536 + a * 256 + b
+-- a row as one number: its two bits, tag, kind, least and greatest length, and the lengths that are told at a glance; and the rule that it stands for
+abbrev pub row : ℕ → ℕ → ℕ → ℕ → ℕ → ℕ → ℕ
+row f t k a b m = f * 2 ^ 62 + t * 2 ^ 56 + k * 2 ^ 48 + a * 2 ^ 40 + b * 2 ^ 32 + m
 
 abbrev pub rowFrom : ℕ → Rule
-rowFrom r = rowRule (r / 65536 % 256) (r / 256 % 256) (r % 256)
+rowFrom r = rowRule (r / 2 ^ 48 % 256) (r / 2 ^ 40 % 256) (r / 2 ^ 32 % 256)
 
 -- the code's table: the rows of the set, then those of a pack, each at its tag
 unfoldable pub itemTable : List ℕ
 itemTable =
-    row 0 0 0 1 0 ∷ row 0 1 1 2 2 ∷ row 256 2 1 8 8 ∷ row 4294967294 3 1 1 32 ∷ row 6 4 2 1 2 ∷ row 14 5 2 1 3 ∷ row 14 6 2 1 3 ∷
-    row 4294967294 7 0 1 0 ∷ row 14 8 2 1 3 ∷ row 14 9 2 1 3 ∷ row 4294967294 10 1 1 128 ∷ row 4 11 1 2 2 ∷ row 4 12 1 2 2 ∷
-    row 0 0 0 1 0 ∷ row 126 1 3 1 6 ∷ row 126 2 3 1 6 ∷ row 126 3 3 1 6 ∷ row 2 4 1 1 1 ∷ row 2 5 1 1 1 ∷ row 6 6 2 1 2 ∷ row 2 7 1 1 1 ∷
-    row 8 8 1 3 3 ∷ row 14 9 2 1 3 ∷ row 8 10 1 3 3 ∷ row 8 11 1 3 3 ∷ row 4 12 1 2 2 ∷ row 8 13 1 3 3 ∷ row 8 14 1 3 3 ∷ row 8 15 1 3 3 ∷
-    row 8 16 1 3 3 ∷ row 4260864 17 4 10 22 ∷ row 4294967294 18 0 1 0 ∷ row 30 19 3 1 4 ∷ row 30 20 3 1 4 ∷ row 4294967294 21 0 1 0 ∷
-    row 14 22 2 1 3 ∷ row 2 23 1 1 1 ∷ []
+    row 1 0 0 1 0 0 ∷ row 1 1 1 2 2 0 ∷ row 1 2 1 8 8 256 ∷ row 1 3 1 1 32 4294967294 ∷ row 3 4 2 1 2 6 ∷ row 3 5 2 1 3 14 ∷
+    row 3 6 2 1 3 14 ∷ row 1 7 0 1 0 4294967294 ∷ row 3 8 2 1 3 14 ∷ row 3 9 2 1 3 14 ∷ row 1 10 1 1 128 4294967294 ∷
+    row 1 11 1 2 2 4 ∷ row 1 12 1 2 2 4 ∷
+    row 1 0 0 1 0 0 ∷ row 3 1 3 1 6 126 ∷ row 3 2 3 1 6 126 ∷ row 3 3 3 1 6 126 ∷ row 1 4 1 1 1 2 ∷ row 1 5 1 1 1 2 ∷ row 3 6 2 1 2 6 ∷
+    row 1 7 1 1 1 2 ∷ row 1 8 1 3 3 8 ∷ row 3 9 2 1 3 14 ∷ row 0 10 1 3 3 8 ∷ row 0 11 1 3 3 8 ∷ row 1 12 1 2 2 4 ∷
+    row 0 13 1 3 3 8 ∷ row 0 14 1 3 3 8 ∷ row 0 15 1 3 3 8 ∷ row 0 16 1 3 3 8 ∷ row 1 17 4 10 22 4260864 ∷ row 1 18 0 1 0 4294967294 ∷
+    row 3 19 3 1 4 30 ∷ row 3 20 3 1 4 30 ∷ row 1 21 0 1 0 4294967294 ∷ row 3 22 2 1 3 14 ∷ row 1 23 1 1 1 2 ∷ []
 
 -- the number of a refusal, 0 for none
 abbrev pub answerOf : ℕ → Ans (Unit {0})

@@ -1,29 +1,32 @@
 -- An item that is told at a glance: by its tag, its length and its first byte, or by its tag alone.
 use mathlib.Core.Path.{_≡_}
-use Prim.Native.Nat.{ℕ, _+_, _/_, _%_, _^_, _<_}
-use mathlib.Core.Bool.{Bool, true, false, not, _&&_, _||_}
+use Prim.Native.Nat.{ℕ, _/_, _%_, _^_, _<_}
+use mathlib.Core.Bool.{Bool, true, false, not, _&&_}
 use mathlib.Core.List.{List}
 use lib.ListN.{length, getD}
-use lib.Dec.{ltb, eqb}
+use lib.Dec.{ltb, leb, eqb}
 use Rattle.format.specs.Answer.{ok}
 use Rattle.format.specs.Table.{Form, Level, isSet, ruleOf, mayStand, valued, short}
 
--- a row's bits: 32 and more for lengths, 17 for a number
 abbrev pub bit : ℕ → ℕ → Bool
 bit row k = not (eqb (row / 2 ^ k % 2) 0)
 
--- the tags that may stand wherever an item may, bit by bit, and where the rows of a level begin: for the set or a pack, alone or not
-abbrev pub quickTags : Bool → Bool → ℕ
-quickTags true alone = 8188
-quickTags false true = 16651262
-quickTags false false = 16777214
+-- the greatest tag that has a row and where the rows begin, for the set or a pack; the least row that may stand wherever an item may, alone or not
+abbrev pub mostTag : Bool → ℕ
+mostTag true = 12
+mostTag false = 23
 
 abbrev pub rowsFrom : Bool → ℕ
 rowsFrom true = 0
 rowsFrom false = 13
 
+abbrev pub leastRow : Bool → ℕ
+leastRow true = 2 ^ 62
+leastRow false = 0
+
+-- a row's bits have the length, and the first byte is not below the uppermost bit: where that is set, for a number, the byte is not 0
 unfoldable pub glanced : ℕ → ℕ → ℕ → Bool
-glanced row n first = ltb n 32 && (bit row (32 + n) && (not (bit row 17) || not (eqb first 0)))
+glanced row n first = ltb n 32 && (bit row n && leb (row / 2 ^ 63) first)
 
 -- a tag that the table does not list, and that is not the set's series
 abbrev pub beyond : Bool → ℕ → Bool

@@ -1,36 +1,30 @@
 // Most items are told at a glance: a tag that the table lists, a length below 32 that it allows, and no zero before a number; or a tag
 // that no table lists.
 ghost use mathlib.Core.Path.{_≡_};
-ghost use Prim.Native.Nat.{_+_, _/_, _%_, _^_, _<_};
+ghost use Prim.Native.Nat.{_<_};
 ghost use mathlib.Core.Bool.{true};
 ghost use lib.Dec.{eqb};
 ghost use Rattle.items.specs.Meet.{formOf, levelOf, itemTable};
-ghost use Rattle.items.specs.Quick.{Quick, glanced, quickTags, rowsFrom, beyond};
+ghost use Rattle.items.specs.Quick.{Quick, glanced, mostTag, rowsFrom, leastRow, beyond};
 
-// Whether a row's bits have this length; bit 17 is set in the kinds of a number, whose first byte may not be 0.
+// Whether a row's bits have this length. The uppermost is set in the kinds of a number, whose first byte may not be 0.
 fn fits(row: u64, n: u64, first: u8) -> bool
     ensures { λ r. ⌜ r ≡ glanced row n first ⌝ }
 {
     if 31 < n {
         return false;
     }
-    if (row >> (32 + n)) % 2 == 0 {
+    if (row >> n) % 2 == 0 {
         return false;
     }
-    (row >> 17) % 2 <= (first as u64)
+    (row >> 63) <= (first as u64)
 }
 
-// The tags that may stand wherever an item may: 2 to 12 in the set; in a pack 1 to 23, in a standalone packet without the six offsets.
-fn tags(set: bool, alone: bool) -> u64
-    ensures { λ r. ⌜ r ≡ quickTags set alone ⌝ }
+// The greatest tag that has a row.
+fn most_tag(set: bool) -> u64
+    ensures { λ r. ⌜ r ≡ mostTag set ⌝ }
 {
-    if set {
-        return 0x1ffc;
-    }
-    if alone {
-        return 0xfe13fe;
-    }
-    0xfffffe
+    if set { 12 } else { 23 }
 }
 
 // Where the rows of the set or of a pack begin.
@@ -38,6 +32,13 @@ fn rows_from(set: bool) -> usize
     ensures { λ r. ⌜ r ≡ rowsFrom set ⌝ }
 {
     if set { 0 } else { 13 }
+}
+
+// The least row that may stand wherever an item may: in a standalone packet those of the six offsets are below it.
+fn least_row(alone: bool) -> u64
+    ensures { λ r. ⌜ r ≡ leastRow alone ⌝ }
+{
+    if alone { 1 << 62 } else { 0 }
 }
 
 // Whether no table lists a tag: then any value of a byte or more will do, wherever it may begin. The set's series is not one of these.
@@ -75,12 +76,13 @@ pub fn is_quick(table: &[u64], set: bool, alone: bool, tag: u64, n: u64, first: 
     requires { ⌜ now table ≡ itemTable ⌝ }
     ensures { λ r. ⌜ (r ≡ true → (tag < 128) × (n < 128) × Quick (levelOf set) (formOf alone) tag n first) ⌝ }
 {
-    if 23 < tag {
+    if most_tag(set) < tag {
         return is_other(set, tag, n);
     }
-    if (tags(set, alone) >> tag) % 2 == 0 {
+    let at = rows_from(set) + (tag as usize);
+    let row = table[at];
+    if row < least_row(alone) {
         return false;
     }
-    let at = rows_from(set) + (tag as usize);
-    fits(table[at], n, first)
+    fits(row, n, first)
 }

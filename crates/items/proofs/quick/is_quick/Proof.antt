@@ -7,54 +7,54 @@ use Rattle.items.proofs.Glances.{row-in, quick-from, quick-other}
 use Rattle.items.proofs.quick.is_quick.Statement.{statement}
 use Rattle.items.proofs.quick.is_quick.Tie as tie
 
+most-tag-requires : tie.Need-most-tag-requires
+most-tag-requires c κs = search needs
+
 is-other-requires : tie.Need-is-other-requires
 is-other-requires c κs = search needs
 
 returns : tie.Need-returns
-returns c = quick-other (c .before .before .before .args .set) _ _ _ _ (c .is-other .ensures)
-
-tags-requires : tie.Need-tags-requires
-tags-requires c κs = search needs
-
-shr-if2 : tie.Need-shr-if2
-shr-if2 c = search needs
-
-returns-2 : tie.Need-returns-2
-returns-2 c = λ e. no-bool e
+returns c = quick-other (c .before .before .before .before .args .set) _ _ _ _ (c .is-other .ensures)
 
 rows-from-requires : tie.Need-rows-from-requires
 rows-from-requires c κs = search needs
 
 add-at : tie.Need-add-at
-add-at c = omega (arith, row-in (c .before .before .before .before .before .args .set) (c .before .before .before .before .before .args .alone) _ (omega (arith, c .before .before .before .if1 .left)) (c .before .before .tags .ensures) (c .before .if2 .left) (c .rows-from .ensures))
+add-at c = omega (arith, row-in (c .before .before .before .before .args .set) _ (c .before .before .most-tag .ensures) (c .before .if1 .left) (c .rows-from .ensures))
 
-mul-fits : tie.Need-mul-fits
-mul-fits c = omega (arith, row-in (c .before .before .before .before .before .args .set) (c .before .before .before .before .before .args .alone) _ (omega (arith, c .before .before .before .if1 .left)) (c .before .before .tags .ensures) (c .before .if2 .left) (c .rows-from .ensures))
+mul-row : tie.Need-mul-row
+mul-row c = omega (arith, row-in (c .before .before .before .before .args .set) _ (c .before .before .most-tag .ensures) (c .before .if1 .left) (c .rows-from .ensures))
 
-shared-slice-read-fits : tie.Need-shared-slice-read-fits
-shared-slice-read-fits c = omega (arith, row-in (c .before .before .before .before .before .before .args .set) (c .before .before .before .before .before .before .args .alone) _ (omega (arith, c .before .before .before .before .if1 .left)) (c .before .before .before .tags .ensures) (c .before .before .if2 .left) (c .before .rows-from .ensures), table-long _ (c .before .before .before .before .before .before .pre))
+shared-slice-read-row : tie.Need-shared-slice-read-row
+shared-slice-read-row c = omega (arith, row-in (c .before .before .before .before .before .args .set) _ (c .before .before .before .most-tag .ensures) (c .before .before .if1 .left) (c .before .rows-from .ensures), table-long _ (c .before .before .before .before .before .pre))
+
+least-row-requires : tie.Need-least-row-requires
+least-row-requires c κs = search needs
+
+returns-2 : tie.Need-returns-2
+returns-2 c = λ e. no-bool e
 
 fits-requires : tie.Need-fits-requires
 fits-requires c κs = search needs
 
 returns-3 : tie.Need-returns-3
 returns-3 c =
-    let r = c .before .before in
-    let a = r .before .before .before .before .before in
-    quick-from (a .args .set) (a .args .alone) _ (omega (arith, r .before .before .before .if1 .left)) (r .before .before .tags .ensures) (r .before .if2 .left) (r .rows-from .ensures) _ (a .pre) _ _ (c .fits2 .ensures)
+    let r = c .before .before .before .before in
+    let p = r .before .before .before .before in
+    quick-from (p .args .set) _ (r .before .before .most-tag .ensures) (r .before .if1 .left) (r .rows-from .ensures) (p .args .alone) (c .before .before .least-row .ensures) _ (p .pre) (c .before .if2 .left) _ _ (c .fits2 .ensures)
 
 pub is-quick-spec : {M : Type 1} → statement M
 is-quick-spec =
     tie.close
     (tie.spec
+    most-tag-requires
     is-other-requires
     returns
-    tags-requires
-    shr-if2
-    returns-2
     rows-from-requires
     add-at
-    mul-fits
-    shared-slice-read-fits
+    mul-row
+    shared-slice-read-row
+    least-row-requires
+    returns-2
     fits-requires
     returns-3)

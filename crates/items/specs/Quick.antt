@@ -22,7 +22,7 @@ rowsFrom false = 13
 
 abbrev pub leastRow : Bool → ℕ
 leastRow true = 2 ^ 62
-leastRow false = 0
+leastRow false = 1
 
 -- a row's bits have the length, and the first byte is not below the uppermost bit: where that is set, for a number, the byte is not 0
 unfoldable pub glanced : ℕ → ℕ → ℕ → Bool

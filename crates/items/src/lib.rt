@@ -14,8 +14,8 @@ ghost use Rattle.items.specs.Meet.{formOf, levelOf, rowRule, ruleFrom, i
 pub struct Rule(pub u64, pub u64, pub u64, pub u64);
 
 // The rows of the set, then those of a pack, each at its tag: two bits, then tag, kind, least and greatest length, then bit by bit the lengths
-// below 32 that are told at a glance (quick.rt). The two bits: 3 a number or a pixel, which may not begin with 0 at a glance; 0 an offset, in embedded
-// alone; 1 all else.
+// below 32 that are told at a glance (quick.rt). The two bits: 3 a number or a pixel, which at a glance may not begin with 0; 0 an offset, which
+// may stand in embedded only; 1 any other.
 const ITEMS: [u64; 37] = [
     1 << 62 | 0 << 56 | 0 << 48 | 1 << 40 | 0 << 32 | 0x0,
     1 << 62 | 1 << 56 | 1 << 48 | 2 << 40 | 2 << 32 | 0x0,

@@ -3,7 +3,6 @@
 ghost use mathlib.Core.Path.{_≡_};
 ghost use Prim.Native.Nat.{_<_};
 ghost use mathlib.Core.Bool.{true};
-ghost use lib.Dec.{eqb};
 ghost use Rattle.items.specs.Meet.{formOf, levelOf, itemTable};
 ghost use Rattle.items.specs.Quick.{Quick, glanced, mostTag, rowsFrom, leastRow, beyond};
 
@@ -34,11 +33,12 @@ fn rows_from(set: bool) -> usize
     if set { 0 } else { 13 }
 }
 
-// The least row that may stand wherever an item may: in a standalone packet those of the six offsets are below it.
+// The least row that may stand wherever an item may: in a standalone packet those of the six offsets are below it, elsewhere none is. No row
+// is 0, and with 0 for 1 the compiler would test the form at each item.
 fn least_row(alone: bool) -> u64
     ensures { λ r. ⌜ r ≡ leastRow alone ⌝ }
 {
-    if alone { 1 << 62 } else { 0 }
+    if alone { 1 << 62 } else { 1 }
 }
 
 // Whether no table lists a tag: then any value of a byte or more will do, wherever it may begin. The set's series is not one of these.

@@ -26,10 +26,12 @@ fn glance(s: &[u8], p: usize) -> usize
     if 127 < n {
         return 0;
     }
+    // one byte is shortest whatever it is
+    if n < 2 {
+        return n as usize;
+    }
     if s[p + 2] == 0 {
-        if n != 1 {
-            return 0;
-        }
+        return 0;
     }
     n as usize
 }

@@ -1,4 +1,5 @@
 pub mod Stores
+pub mod Copies
 pub mod Puts
 pub mod Codings
 pub mod Shortest

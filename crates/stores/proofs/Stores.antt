@@ -1,16 +1,12 @@
 -- Laws of `sets`, numbers stored from an index on. Only `sets-start` asks that they fit.
 use Prim.Native.Nat.{ℕ, zero, suc, _+_, _-_, _/_, _%_, _≤_, _<_}
 use mathlib.Core.Path.{_≡_, refl, _∙_, ap, sym}
-use mathlib.Core.Bool.{Bool, true, false}
-use mathlib.Core.Logic.{_⊎_, inl, inr, ⊎-elim}
+use mathlib.Core.Logic.{⊎-elim}
 use mathlib.Core.List.{List, [], _∷_, _++_, append-nil}
-use native.Mathlib.Nat.{add-suc, add-zero, zero-add, le-refl, le-add-right}
-use native.Mathlib.Numerals.{add-one}
+use native.Mathlib.Nat.{add-suc, add-zero, zero-add, le-refl, le-add-right, eq-or-lt-of-le}
 use native.Mathlib.Omega.{arith}
-use lib.ListN.{length, take, drop, set, getD, take-append-drop, length-append, length-drop, length-set, drop-of-length-le}
-use lib.Seq.{sets, sets-eq, set-comm, take-set-le, drop-set-add, drop-cons, drop-drop, take-all, length-sets, length-take-le}
-use lib.Dec.{ltb}
-use borrow.Author.Tests.{ltb-true, ltb-false}
+use lib.ListN.{length, take, drop, set, take-append-drop, length-append, length-drop, length-set, drop-of-length-le}
+use lib.Seq.{sets, sets-eq, set-comm, take-set-le, drop-set-add, take-all}
 use borrow.Rule.Slice.PartMut.{putMid}
 use Rattle.format.specs.Coding.{digits, fixed}
 use Rattle.format.proofs.coding.Digits.{length-fixed}
@@ -40,20 +36,13 @@ set-again [] i x y = refl
 set-again (z ∷ l) zero x y = refl
 set-again (z ∷ l) (suc i) x y = ap (λ r. z ∷ r) (set-again l i x y)
 
-at-or-above : (i j : ℕ) → j ≤ i → (i ≡ j) ⊎ (j < i)
-at-or-above i j g = go (ltb j i) refl
-  where
-    go : (b : Bool) → ltb j i ≡ b → (i ≡ j) ⊎ (j < i)
-    go true e = inr (ltb-true j i e)
-    go false e = inl (omega (arith, ltb-false j i e))
-
 set-under : (l : List ℕ) (i x j : ℕ) (ys : List ℕ) → j ≤ i → i < j + length ys → sets (set l i x) j ys ≡ sets l j ys
 set-under l i x j [] g h = absurd (omega arith)
 set-under l i x j (y ∷ ys) g h =
     ⊎-elim
-    (λ e. ap (λ r. sets r (suc j) ys) (ap (λ k. set (set l k x) j y) e ∙ set-again l j x y))
+    (λ e. ap (λ r. sets r (suc j) ys) (ap (λ k. set (set l k x) j y) (sym e) ∙ set-again l j x y))
     (λ n. ap (λ r. sets r (suc j) ys) (set-comm l i j x y (λ e. omega arith)) ∙ set-under (set l j y) i x (suc j) ys (omega arith) (omega arith))
-    (at-or-above i j g)
+    (eq-or-lt-of-le g)
 
 pub sets-under : (l : List ℕ) (i : ℕ) (xs : List ℕ) (j : ℕ) (ys : List ℕ) → j ≤ i → i + length xs ≤ j + length ys → sets (sets l i xs) j ys ≡ sets l j ys
 sets-under l i [] j ys g h = refl
@@ -86,84 +75,6 @@ module _ (l : List ℕ) (p : ℕ) where
       let none : drop (length l - p) (drop p l) ≡ [] = drop-of-length-le (drop p l) {i = length l - p} (simp length-drop (le-refl (length l - p))) in
       rw (q, tail-all, none, append-nil)
       (sets-tail p 0 l vs ∙ ap (λ k. sets l k vs) (add-zero p))
-
--- a loop that copies s: what it still has to store, from the byte i on
-pub record CopyLeft (out₀ : List ℕ) (at : ℕ) (s out : List ℕ) (i : ℕ) : Type 0 where
-  pub to : i ≤ length s
-  pub same : length out ≡ length out₀
-  pub rest : sets out₀ at s ≡ sets out (at + i) (drop i s)
-
-pub copy-start : (out : List ℕ) (at : ℕ) (s : List ℕ) → CopyLeft out at s out 0
-copy-start out at s = record { to = omega arith; same = refl; rest = ap (λ k. sets out k s) (omega arith) }
-
-module _ (out₀ : List ℕ) (at : ℕ) (s out : List ℕ) (i : ℕ) (l : CopyLeft out₀ at s out i) where
-  pub copy-step : i < length s → CopyLeft out₀ at s (set out (at + i) (getD s i 0)) (i + 1)
-  copy-step g =
-      let one : sets out (at + i) (drop i s) ≡ sets (set out (at + i) (getD s i 0)) (at + (i + 1)) (drop (i + 1) s) = rw (drop-cons s i 0 g, add-one i, add-suc at i) in
-      record { to = omega arith; same = simp length-set (l .same); rest = l .rest ∙ one }
-
-  pub copy-done : length s ≤ i → out ≡ sets out₀ at s
-  copy-done g = sym (l .rest ∙ ap (λ r. sets out (at + i) r) (drop-of-length-le s {i = i} g))
-
--- a few bytes of s from the byte i on, stored from k on, one after another
-copied-first : (out : List ℕ) (k : ℕ) (s : List ℕ) (i n : ℕ) → i < length s → sets out k (take (suc n) (drop i s)) ≡ sets (set out k (getD s i 0)) (suc k) (take n (drop (suc i) s))
-copied-first out k s i n g = ap (λ xs. sets out k (take (suc n) xs)) (drop-cons s i 0 g)
-
-first-one : (out : List ℕ) (k : ℕ) (s : List ℕ) (i : ℕ) → i + 1 ≤ length s → set out k (getD s i 0) ≡ sets out k (take 1 (drop i s))
-first-one out k s i h = sym (copied-first out k s i 0 (omega arith))
-
-first-two : (out : List ℕ) (k : ℕ) (s : List ℕ) (i : ℕ) → i + 2 ≤ length s → set (set out k (getD s i 0)) (k + 1) (getD s (i + 1) 0) ≡ sets out k (take 2 (drop i s))
-first-two out k s i h =
-    rw (add-one k, add-one i)
-    (first-one (set out k (getD s i 0)) (suc k) s (suc i) (omega arith) ∙ sym (copied-first out k s i 1 (omega arith)))
-
-first-four : (out : List ℕ) (k : ℕ) (s : List ℕ) (i : ℕ) → i + 4 ≤ length s
-    → set (set (set (set out k (getD s i 0)) (k + 1) (getD s (i + 1) 0)) (k + 2) (getD s (i + 2) 0)) (k + 3) (getD s (i + 3) 0) ≡ sets out k (take 4 (drop i s))
-first-four out k s i h =
-    let k₂ : k + 2 ≡ suc (suc k) = omega arith in
-    let i₂ : i + 2 ≡ suc (suc i) = omega arith in
-    let k₃ : k + 3 ≡ suc (suc k) + 1 = omega arith in
-    let i₃ : i + 3 ≡ suc (suc i) + 1 = omega arith in
-    rw (k₂, i₂, k₃, i₃, add-one k, add-one i)
-    (first-two (set (set out k (getD s i 0)) (suc k) (getD s (suc i) 0)) (suc (suc k)) s (suc (suc i)) (omega arith)
-    ∙ sym (copied-first out k s i 3 (omega arith) ∙ copied-first (set out k (getD s i 0)) (suc k) s (suc i) 2 (omega arith)))
-
--- those up to r are stored then
-abbrev CopiedTo : List ℕ → ℕ → List ℕ → ℕ → ℕ → List ℕ → Type 0
-CopiedTo out k s i r o = (i ≤ r) × (r ≤ length s) × (o ≡ sets out k (take (r - i) (drop i s)))
-
-copied : (n : ℕ) (out : List ℕ) (k : ℕ) (s : List ℕ) (i : ℕ) {o : List ℕ} → i + n ≤ length s → o ≡ sets out k (take n (drop i s)) → CopiedTo out k s i (i + n) o
-copied n out k s i h e = let z : i + n - i ≡ n = omega arith in (omega arith, h, rw z e)
-
-pub copied-one : (out : List ℕ) (k : ℕ) (s : List ℕ) (i : ℕ) → i + 1 ≤ length s → CopiedTo out k s i (i + 1) (set out k (getD s i 0))
-copied-one out k s i h = copied 1 out k s i h (first-one out k s i h)
-
-pub copied-two : (out : List ℕ) (k : ℕ) (s : List ℕ) (i : ℕ) → i + 2 ≤ length s → CopiedTo out k s i (i + 2) (set (set out k (getD s i 0)) (k + 1) (getD s (i + 1) 0))
-copied-two out k s i h = copied 2 out k s i h (first-two out k s i h)
-
-pub copied-four : (out : List ℕ) (k : ℕ) (s : List ℕ) (i : ℕ) → i + 4 ≤ length s
-    → CopiedTo out k s i (i + 4) (set (set (set (set out k (getD s i 0)) (k + 1) (getD s (i + 1) 0)) (k + 2) (getD s (i + 2) 0)) (k + 3) (getD s (i + 3) 0))
-copied-four out k s i h = copied 4 out k s i h (first-four out k s i h)
-
-pub copied-none : (out : List ℕ) (k : ℕ) (s : List ℕ) (i : ℕ) → i ≤ length s → CopiedTo out k s i i out
-copied-none out k s i h = let z : i - i ≡ 0 = omega arith in (le-refl i, h, rw z)
-
-pub copy-run : {out₀ : List ℕ} {at : ℕ} {s out : List ℕ} {i : ℕ} → CopyLeft out₀ at s out i → {r : ℕ} {o : List ℕ} → CopiedTo out (at + i) s i r o → CopyLeft out₀ at s o r
-copy-run {at = at} {s = s} {out = out} {i = i} l {r = r} {o = o} (from, to, e) =
-    let n : length (take (r - i) (drop i s)) ≡ r - i = length-take-le (r - i) (drop i s) (rw length-drop (omega arith)) in
-    let at-r : at + i + length (take (r - i) (drop i s)) ≡ at + r = omega (arith, n) in
-    let i-r : i + (r - i) ≡ r = omega arith in
-    let parts : sets out (at + i) (drop i s) ≡ sets o (at + r) (drop r s) =
-    ap (sets out (at + i)) (sym (take-append-drop (r - i) (drop i s)))
-    ∙ sets-append out (at + i) (take (r - i) (drop i s)) (drop (r - i) (drop i s))
-    ∙ rw (← e, at-r, drop-drop (r - i) i s, i-r) in
-    record { to = to; same = ap length e ∙ length-sets out (at + i) (take (r - i) (drop i s)) ∙ l .same; rest = l .rest ∙ parts }
-
--- the last of them are lent as `&s[r..]`
-pub copy-rest : {out₀ : List ℕ} {at : ℕ} {s out : List ℕ} {r : ℕ} → CopyLeft out₀ at s out r → {e : ℕ} {o : List ℕ}
-    → (e ≡ at + r + length (take (length s - r) (drop r s))) × (o ≡ sets out (at + r) (take (length s - r) (drop r s))) → (e ≡ at + length s) × (o ≡ sets out₀ at s)
-copy-rest {at = at} {s = s} {out = out} {r = r} l q =
-    (omega (arith, q .0, tail-length s r, l .to), q .1 ∙ ap (sets out (at + r)) (tail-all s r) ∙ sym (l .rest))
 
 -- a loop that stores `whole` from its last number to its first: what it still has to store, the numbers ds in front
 pub record BackLeft (out₀ : List ℕ) (at : ℕ) (whole out ds : List ℕ) : Type 0 where

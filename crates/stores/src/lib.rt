@@ -1,7 +1,7 @@
 // Storing into a lent output. `sets l i vs` is l with vs stored from index i on.
 ghost use mathlib.Core.Path.{_≡_};
 ghost use mathlib.Core.List.{[], _∷_};
-ghost use Prim.Native.Nat.{_+_, _-_, _≤_};
+ghost use Prim.Native.Nat.{_+_, _≤_};
 ghost use lib.ListN.{length, take, drop};
 ghost use lib.Seq.{sets};
 ghost use Rattle.format.specs.Coding.{fixed};
@@ -40,64 +40,83 @@ fn copy_long(out: &mut [u8], at: usize, s: &[u8]) -> usize
     at + s.len()
 }
 
-// The next byte, where an odd count is left; how many are stored then.
-fn copy_one(out: &mut [u8], at: usize, s: &[u8], i: usize) -> usize
-    requires { ⌜ (i ≤ length (now s)) × (at + length (now s) ≤ length (now out)) ⌝ }
-    ensures { λ r. ⌜ (i ≤ r) × (r ≤ length (now (s .entry))) × (now (out .exit) ≡ sets (now (out .entry)) (at + i) (take (r - i) (drop i (now (s .entry))))) ⌝ }
+// Two bytes of s from f on, read before they are stored so that they go as one number;
+fn move_two(out: &mut [u8], at: usize, s: &[u8], f: usize)
+    requires { ⌜ (f + 2 ≤ length (now s)) × (at + length (now s) ≤ length (now out)) ⌝ }
+    ensures { λ r. ⌜ now (out .exit) ≡ sets (now (out .entry)) (at + f) (take 2 (drop f (now (s .entry)))) ⌝ }
 {
-    if (s.len() - i) % 2 == 0 {
-        return i;
-    }
-    out[at + i] = s[i];
-    i + 1
-}
-
-// Read before they are stored, bytes go as one number. The same for two, where no multiple of four is left,
-fn copy_two(out: &mut [u8], at: usize, s: &[u8], i: usize) -> usize
-    requires { ⌜ (i ≤ length (now s)) × (at + length (now s) ≤ length (now out)) ⌝ }
-    ensures { λ r. ⌜ (i ≤ r) × (r ≤ length (now (s .entry))) × (now (out .exit) ≡ sets (now (out .entry)) (at + i) (take (r - i) (drop i (now (s .entry))))) ⌝ }
-{
-    if (s.len() - i) % 4 < 2 {
-        return i;
-    }
-    let to = at + i;
-    let a = s[i];
-    let b = s[i + 1];
+    let to = at + f;
+    let a = s[f];
+    let b = s[f + 1];
     out[to] = a;
     out[to + 1] = b;
-    i + 2
 }
 
-// and for four, where no multiple of eight is.
-fn copy_four(out: &mut [u8], at: usize, s: &[u8], i: usize) -> usize
-    requires { ⌜ (i ≤ length (now s)) × (at + length (now s) ≤ length (now out)) ⌝ }
-    ensures { λ r. ⌜ (i ≤ r) × (r ≤ length (now (s .entry))) × (now (out .exit) ≡ sets (now (out .entry)) (at + i) (take (r - i) (drop i (now (s .entry))))) ⌝ }
+// and four.
+fn move_four(out: &mut [u8], at: usize, s: &[u8], f: usize)
+    requires { ⌜ (f + 4 ≤ length (now s)) × (at + length (now s) ≤ length (now out)) ⌝ }
+    ensures { λ r. ⌜ now (out .exit) ≡ sets (now (out .entry)) (at + f) (take 4 (drop f (now (s .entry)))) ⌝ }
 {
-    if (s.len() - i) % 8 < 4 {
-        return i;
-    }
-    let to = at + i;
-    let a = s[i];
-    let b = s[i + 1];
-    let c = s[i + 2];
-    let d = s[i + 3];
+    let to = at + f;
+    let a = s[f];
+    let b = s[f + 1];
+    let c = s[f + 2];
+    let d = s[f + 3];
     out[to] = a;
     out[to + 1] = b;
     out[to + 2] = c;
     out[to + 3] = d;
-    i + 4
 }
 
-// The bytes of s; where they end. Most values have few, for which a loop costs more than it stores: before it go one, two and four, so that
-// it has eights to store or nothing.
+// The bytes of s; where they end. From 8 to 31 go without a loop: the last and the first, which may overlap. For a run, of any length.
+pub fn copy_run(out: &mut [u8], at: usize, s: &[u8]) -> usize
+    requires { ⌜ at + length (now s) ≤ length (now out) ⌝ }
+    ensures { λ r. ⌜ (r ≡ at + length (now (s .entry))) × (now (out .exit) ≡ sets (now (out .entry)) at (now (s .entry))) ⌝ }
+{
+    let n = s.len();
+    if 7 < n {
+        if n < 32 {
+            move_four(out, at, s, n - 4);
+            move_four(out, at, s, n - 8);
+            move_four(out, at, s, 0);
+            move_four(out, at, s, 4);
+            if n < 17 {
+                return at + n;
+            }
+            move_four(out, at, s, n - 12);
+            move_four(out, at, s, n - 16);
+            move_four(out, at, s, 8);
+            move_four(out, at, s, 12);
+            return at + n;
+        }
+    }
+    copy_long(out, at, s)
+}
+
+// The same for a value. Most have few bytes: they are stored where it is called.
 pub fn copy(out: &mut [u8], at: usize, s: &[u8]) -> usize
     requires { ⌜ at + length (now s) ≤ length (now out) ⌝ }
     ensures { λ r. ⌜ (r ≡ at + length (now (s .entry))) × (now (out .exit) ≡ sets (now (out .entry)) at (now (s .entry))) ⌝ }
 {
-    let a = copy_one(out, at, s, 0);
-    let b = copy_two(out, at, s, a);
-    let c = copy_four(out, at, s, b);
-    copy_long(out, at + c, &s[c..])
+    let n = s.len();
+    if n < 2 {
+        if n == 0 {
+            return at;
+        }
+        out[at] = s[0];
+        return at + 1;
+    }
+    if n < 4 {
+        move_two(out, at, s, n - 2);
+        move_two(out, at, s, 0);
+        return at + n;
+    }
+    if n < 8 {
+        move_four(out, at, s, n - 4);
+        move_four(out, at, s, 0);
+        return at + n;
+    }
+    copy_run(out, at, s)
 }
 
 // Four numbers, a row; where they end.

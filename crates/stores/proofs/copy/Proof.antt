@@ -1,53 +1,96 @@
--- `stores::copy` meets its contract: one run of bytes after another.
+-- `stores::copy` meets its contract: a few bytes as the last and the first of them.
+use mathlib.Core.Path.{refl}
+use native.Mathlib.Nat.{add-zero}
+use native.Mathlib.Omega.{arith}
+use Rattle.stores.proofs.Copies.{Copied, copy-start, copy-one, copy-front, copy-back, copy-done}
 use borrow.Author.Needs.{needs}
-use Rattle.stores.proofs.Stores.{copy-start, copy-run, copy-rest}
 use Rattle.stores.proofs.copy.Statement.{statement}
 use Rattle.stores.proofs.copy.Tie as tie
 
-copy-one-requires : tie.Need-copy-one-requires
-copy-one-requires c κs = search needs
+begun : (a : tie.Start) → Copied (a .args .out .now) (a .args .at) (a .args .s .now) (a .args .out .now) 0 0
+begun a = copy-start _ _ _ (a .pre)
 
-copy-two-requires : tie.Need-copy-two-requires
-copy-two-requires c κs = search needs
+returns : tie.Need-returns
+returns c = (omega arith, copy-done (begun (c .before .before .before .before)) (omega arith))
 
-copy-four-requires : tie.Need-copy-four-requires
-copy-four-requires c κs = search needs
+shared-slice-read-out : tie.Need-shared-slice-read-out
+shared-slice-read-out c = search needs
 
-add-copy-long : tie.Need-add-copy-long
-add-copy-long c = search needs
+slice-write-out : tie.Need-slice-write-out
+slice-write-out c = search needs
 
-sub-copy-long : tie.Need-sub-copy-long
-sub-copy-long c = search needs
-
-part-copy-long-start : tie.Need-part-copy-long-start
-part-copy-long-start c = search needs
-
-part-copy-long-end : tie.Need-part-copy-long-end
-part-copy-long-end c = search needs
-
-copy-long-requires : tie.Need-copy-long-requires
-copy-long-requires c κs = search needs
+add-result : tie.Need-add-result
+add-result c = search needs
 
 same-length : tie.Need-same-length
 same-length c = search needs
 
-returns : tie.Need-returns
-returns c =
-    let a = c .before .before .before .before .before .before .before .before .before .before .before .before .before .before .before .copy-one .ensures in
-    let b = c .before .before .before .before .before .before .before .before .before .before .before .copy-two .ensures in
-    copy-rest (copy-run (copy-run (copy-run (copy-start _ _ _) a) b) (c .before .before .before .before .before .before .before .copy-four .ensures)) (c .before .before .copy-long .ensures)
+returns-2 : tie.Need-returns-2
+returns-2 c = (omega arith, simp add-zero at (copy-done (copy-one (begun (c .before .before .before .before .before)) (omega arith)) (omega arith)))
+
+move-two-requires : tie.Need-move-two-requires
+move-two-requires c κs = search needs
+
+move-two-requires-2 : tie.Need-move-two-requires-2
+move-two-requires-2 c κs = search needs
+
+add-result-2 : tie.Need-add-result-2
+add-result-2 c = search needs
+
+same-length-2 : tie.Need-same-length-2
+same-length-2 c = search needs
+
+returns-3 : tie.Need-returns-3
+returns-3 c =
+    let p = copy-back (begun (c .before .before .before .before .before .before .before .before .before .before .before .before)) 2 (omega arith) (c .before .before .before .before .before .before .move-two .ensures) in
+    (refl, copy-done (copy-front p 2 (omega arith) (c .before .before .move-two2 .ensures)) (omega arith))
+
+move-four-requires : tie.Need-move-four-requires
+move-four-requires c κs = search needs
+
+move-four-requires-2 : tie.Need-move-four-requires-2
+move-four-requires-2 c κs = search needs
+
+add-result-3 : tie.Need-add-result-3
+add-result-3 c = search needs
+
+same-length-3 : tie.Need-same-length-3
+same-length-3 c = search needs
+
+returns-4 : tie.Need-returns-4
+returns-4 c =
+    let p = copy-back (begun (c .before .before .before .before .before .before .before .before .before .before .before .before .before)) 4 (omega arith) (c .before .before .before .before .before .before .move-four .ensures) in
+    (refl, copy-done (copy-front p 4 (omega arith) (c .before .before .move-four2 .ensures)) (omega arith))
+
+copy-run-requires : tie.Need-copy-run-requires
+copy-run-requires c κs = search needs
+
+same-length-4 : tie.Need-same-length-4
+same-length-4 c = search needs
+
+returns-5 : tie.Need-returns-5
+returns-5 c = search needs
 
 pub copy-spec : {M : Type 1} → statement M
 copy-spec =
     tie.close
     (tie.spec
-    copy-one-requires
-    copy-two-requires
-    copy-four-requires
-    add-copy-long
-    sub-copy-long
-    part-copy-long-start
-    part-copy-long-end
-    copy-long-requires
+    returns
+    shared-slice-read-out
+    slice-write-out
+    add-result
     same-length
-    returns)
+    returns-2
+    move-two-requires
+    move-two-requires-2
+    add-result-2
+    same-length-2
+    returns-3
+    move-four-requires
+    move-four-requires-2
+    add-result-3
+    same-length-3
+    returns-4
+    copy-run-requires
+    same-length-4
+    returns-5)

@@ -3,18 +3,18 @@ use Prim.Native.Nat.{_-_}
 use mathlib.Core.Path.{refl}
 use native.Mathlib.Omega.{arith}
 use lib.ListN.{length}
-use Rattle.stores.proofs.Stores.{CopyLeft, copy-start, copy-step, copy-done}
+use Rattle.stores.proofs.Copies.{Copied, copy-start, copy-one, copy-done}
 use Rattle.stores.proofs.copy_long.Statement.{statement}
 use Rattle.stores.proofs.copy_long.Tie as tie
 
 abbrev Inv-loop : tie.InvT-loop
-Inv-loop out₀ at s i₀ out i = CopyLeft out₀ at s out i
+Inv-loop out₀ at s i₀ out i = Copied out₀ at s out i 0
 
 abbrev μ-loop : tie.MeasureT-loop
 μ-loop out₀ at s i₀ out i = length s - i
 
 loop-holds : tie.Need-loop-holds Inv-loop μ-loop
-loop-holds c = copy-start _ _ _
+loop-holds c = copy-start _ _ _ (omega arith)
 
 shared-slice-read-out : tie.Need-shared-slice-read-out Inv-loop μ-loop
 shared-slice-read-out c = omega arith
@@ -32,7 +32,7 @@ loop-less : tie.Need-loop-less Inv-loop μ-loop
 loop-less c = omega arith
 
 loop-again : tie.Need-loop-again Inv-loop μ-loop
-loop-again c = copy-step _ _ _ _ _ (c .before .before .loop .inv) (omega arith)
+loop-again c = copy-one (c .before .before .loop .inv) (omega arith)
 
 add-result : tie.Need-add-result Inv-loop μ-loop
 add-result c = omega arith
@@ -41,7 +41,7 @@ same-length : tie.Need-same-length Inv-loop μ-loop
 same-length c = omega arith
 
 returns : tie.Need-returns Inv-loop μ-loop
-returns c = (refl, copy-done _ _ _ _ _ (c .before .loop .inv) (omega arith))
+returns c = (refl, copy-done (c .before .loop .inv) (omega arith))
 
 pub copy-long-spec : {M : Type 1} → statement M
 copy-long-spec =

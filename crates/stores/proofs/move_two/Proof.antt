@@ -1,16 +1,13 @@
--- `stores::copy_two` meets its contract.
+-- `stores::move_two` meets its contract.
+use mathlib.Core.Path.{ap}
 use native.Mathlib.Omega.{arith}
+use native.Mathlib.Numerals.{towards-suc}
 use lib.ListN.{length-set}
-use Rattle.stores.proofs.Stores.{copied-none, copied-two}
+use lib.Seq.{sets}
+use Rattle.stores.proofs.Copies.{part-reads}
 use borrow.Author.Needs.{needs}
-use Rattle.stores.proofs.copy_two.Statement.{statement}
-use Rattle.stores.proofs.copy_two.Tie as tie
-
-sub-if1 : tie.Need-sub-if1
-sub-if1 c = search needs
-
-returns : tie.Need-returns
-returns c = copied-none _ _ _ _ (omega arith)
+use Rattle.stores.proofs.move_two.Statement.{statement}
+use Rattle.stores.proofs.move_two.Tie as tie
 
 add-to : tie.Need-add-to
 add-to c = search needs
@@ -33,21 +30,16 @@ add-out c = search needs
 slice-write-out-2 : tie.Need-slice-write-out-2
 slice-write-out-2 c = simp length-set (omega arith)
 
-add-result : tie.Need-add-result
-add-result c = search needs
-
 same-length : tie.Need-same-length
 same-length c = search needs
 
-returns-2 : tie.Need-returns-2
-returns-2 c = copied-two _ _ _ _ (omega arith)
+returns : tie.Need-returns
+returns c = let a = c .before .before .args in simp towards-suc (ap (sets _ _) (part-reads 2 (a .f) (a .s .now) (omega arith)))
 
-pub copy-two-spec : {M : Type 1} → statement M
-copy-two-spec =
+pub move-two-spec : {M : Type 1} → statement M
+move-two-spec =
     tie.close
     (tie.spec
-    sub-if1
-    returns
     add-to
     shared-slice-read-a
     add-b
@@ -55,6 +47,5 @@ copy-two-spec =
     slice-write-out
     add-out
     slice-write-out-2
-    add-result
     same-length
-    returns-2)
+    returns)

@@ -1,16 +1,13 @@
--- `stores::copy_four` meets its contract.
+-- `stores::move_four` meets its contract.
+use mathlib.Core.Path.{ap}
 use native.Mathlib.Omega.{arith}
+use native.Mathlib.Numerals.{towards-suc}
 use lib.ListN.{length-set}
-use Rattle.stores.proofs.Stores.{copied-none, copied-four}
+use lib.Seq.{sets}
+use Rattle.stores.proofs.Copies.{part-reads}
 use borrow.Author.Needs.{needs}
-use Rattle.stores.proofs.copy_four.Statement.{statement}
-use Rattle.stores.proofs.copy_four.Tie as tie
-
-sub-if1 : tie.Need-sub-if1
-sub-if1 c = search needs
-
-returns : tie.Need-returns
-returns c = copied-none _ _ _ _ (omega arith)
+use Rattle.stores.proofs.move_four.Statement.{statement}
+use Rattle.stores.proofs.move_four.Tie as tie
 
 add-to : tie.Need-add-to
 add-to c = search needs
@@ -57,21 +54,16 @@ add-out-3 c = search needs
 slice-write-out-4 : tie.Need-slice-write-out-4
 slice-write-out-4 c = simp length-set (omega arith)
 
-add-result : tie.Need-add-result
-add-result c = search needs
-
 same-length : tie.Need-same-length
 same-length c = search needs
 
-returns-2 : tie.Need-returns-2
-returns-2 c = copied-four _ _ _ _ (omega arith)
+returns : tie.Need-returns
+returns c = let a = c .before .before .before .before .args in simp towards-suc (ap (sets _ _) (part-reads 4 (a .f) (a .s .now) (omega arith)))
 
-pub copy-four-spec : {M : Type 1} → statement M
-copy-four-spec =
+pub move-four-spec : {M : Type 1} → statement M
+move-four-spec =
     tie.close
     (tie.spec
-    sub-if1
-    returns
     add-to
     shared-slice-read-a
     add-b
@@ -87,6 +79,5 @@ copy-four-spec =
     slice-write-out-3
     add-out-3
     slice-write-out-4
-    add-result
     same-length
-    returns-2)
+    returns)

@@ -112,7 +112,7 @@ pub fn pack_normal(table: &[u64], s: &[u8], alone: bool, out: &mut [u8]) -> usiz
         let m = put_pack(out, k, n, key);
         // No item grows, so items that keep their size are in normal form.
         k = if n == size {
-            stores::copy(out, m, &s[from..next])
+            stores::copy_run(out, m, &s[from..next])
         } else {
             m + item_normal(table, &s[from..next], false, alone, 0, &mut out[m..])
         };

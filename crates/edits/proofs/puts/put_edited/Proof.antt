@@ -31,17 +31,17 @@ put-item-requires c κs =
       item-behind (formOf (i .alone)) (i .set) (i .id) (i .tag) x (i .s .now) (i .p) e (i .out .now) (c .before .before .before .before .before .before .before .before .before .before .pre .2) (c .before .before .before .before .before .item-size .ensures) (c .before .before .before .put-front .ensures),
     )
 
-sub-copy : tie.Need-sub-copy
-sub-copy c = search needs
+sub-copy-run : tie.Need-sub-copy-run
+sub-copy-run c = search needs
 
-part-copy-start : tie.Need-part-copy-start
-part-copy-start c = search needs
+part-copy-run-start : tie.Need-part-copy-run-start
+part-copy-run-start c = search needs
 
-part-copy-end : tie.Need-part-copy-end
-part-copy-end c = search needs
+part-copy-run-end : tie.Need-part-copy-run-end
+part-copy-run-end c = search needs
 
-copy-requires : tie.Need-copy-requires
-copy-requires c κs =
+copy-run-requires : tie.Need-copy-run-requires
+copy-run-requires c κs =
     let i = c .before .before .before .before .before .before .before .before .before .before .before .before .before .before .before .args in
     rest-behind (formOf (i .alone)) (i .set) (i .id) (i .tag) (changeOf (i .removal) (i .v .now)) (i .s .now) (i .p) (c .before .before .before .before .before .before .before .before .before .before .before .before .before .before .before .pre .1) (i .out .now) (c .before .before .before .before .before .before .before .before .before .before .before .before .before .before .before .pre .2) (c .before .before .before .before .before .before .before .before .before .before .item-size .ensures) (c .before .before .before .before .before .before .before .before .put-front .ensures) (c .before .before .before .before .put-item .ensures)
 
@@ -51,7 +51,7 @@ same-length c = search needs
 returns : tie.Need-returns
 returns c =
     let i = c .before .before .before .before .before .before .before .before .before .before .before .before .before .before .before .before .before .before .args in
-    edited-stored (formOf (i .alone)) (i .set) (i .id) (i .tag) (changeOf (i .removal) (i .v .now)) (i .s .now) (i .p) (c .before .before .before .before .before .before .before .before .before .before .before .before .before .before .before .before .before .before .pre .1) (i .out .now) (c .before .before .before .before .before .before .before .before .before .before .before .before .before .before .before .before .before .before .pre .2) (c .before .before .before .before .before .before .before .before .before .before .before .before .before .item-size .ensures) (c .before .before .before .before .before .before .before .before .before .before .before .put-front .ensures) (c .before .before .before .before .before .before .before .put-item .ensures) (c .before .before .copy .ensures)
+    edited-stored (formOf (i .alone)) (i .set) (i .id) (i .tag) (changeOf (i .removal) (i .v .now)) (i .s .now) (i .p) (c .before .before .before .before .before .before .before .before .before .before .before .before .before .before .before .before .before .before .pre .1) (i .out .now) (c .before .before .before .before .before .before .before .before .before .before .before .before .before .before .before .before .before .before .pre .2) (c .before .before .before .before .before .before .before .before .before .before .before .before .before .item-size .ensures) (c .before .before .before .before .before .before .before .before .before .before .before .put-front .ensures) (c .before .before .before .before .before .before .before .put-item .ensures) (c .before .before .copy-run .ensures)
 
 pub put-edited-spec : {M : Type 1} → statement M
 put-edited-spec =
@@ -60,9 +60,9 @@ put-edited-spec =
     item-size-requires
     put-front-requires
     put-item-requires
-    sub-copy
-    part-copy-start
-    part-copy-end
-    copy-requires
+    sub-copy-run
+    part-copy-run-start
+    part-copy-run-end
+    copy-run-requires
     same-length
     returns)

@@ -1,22 +1,42 @@
 -- Numbers and lengths as the code reads them: one byte more, and the cases of `lenOf` by the first byte.
 use mathlib.Core.Path.{_≡_, refl, sym, _∙_}
-use Prim.Native.Nat.{ℕ, suc, _+_, _-_, _*_, _≤_, _<_}
+use Prim.Native.Nat.{ℕ, suc, _+_, _-_, _*_, _^_, _≤_, _<_}
 use native.Mathlib.Omega.{arith}
-use native.Mathlib.Nat.{sub-zero}
+use native.Mathlib.Nat.{sub-zero, pow-zero, pow-suc}
 use native.Mathlib.Numerals.{add-one}
-use mathlib.Core.List.{List, [], _∷_}
+use mathlib.Core.List.{List, [], _∷_, _++_}
 use mathlib.Core.Logic.{_⊎_, inl, inr}
 use lib.ListN.{length, take, drop, getD, length-drop}
-use lib.Seq.{take-suc}
+use lib.Seq.{take-suc, take-add, length-take-le}
 use borrow.Author.Tests.{lt-ltb, le-ltb, le-leb, lt-leb}
 use Rattle.format.specs.Answer.{ok, refused, got, _>>=_, need}
-use Rattle.format.specs.Coding.{bytesNumber, lenOf, longOf}
+use Rattle.format.specs.Coding.{bytesNumber, number, lenOf, longOf}
 use Rattle.format.proofs.coding.Digits.{number-snoc}
 use Rattle.coding.proofs.Rooms.{tail-part}
 
 -- one byte more
 pub number-more : (s : List ℕ) (i : ℕ) → i < length s → bytesNumber (take i s) * 256 + getD s i 0 ≡ bytesNumber (take (i + 1) s)
 number-more s i h = rw (add-one, take-suc s i 0, number-snoc, sub-zero)
+
+-- bytes after bytes
+number-from : (acc : ℕ) (ds : List ℕ) → number 256 0 acc ds ≡ acc * 256 ^ length ds + bytesNumber ds
+unfolding number
+number-from acc [] = rw pow-zero (omega arith)
+number-from acc (d ∷ ds) = rw (pow-suc, number-from (acc * 256 + (d - 0)) ds, number-from (0 * 256 + (d - 0)) ds) (omega arith)
+
+number-then : (acc : ℕ) (xs ys : List ℕ) → number 256 0 acc (xs ++ ys) ≡ number 256 0 (number 256 0 acc xs) ys
+unfolding number
+number-then acc [] ys = refl
+number-then acc (x ∷ xs) ys = number-then (acc * 256 + (x - 0)) xs ys
+
+pub number-append : (xs ys : List ℕ) → bytesNumber (xs ++ ys) ≡ bytesNumber xs * 256 ^ length ys + bytesNumber ys
+number-append xs ys = number-then 0 xs ys ∙ number-from (bytesNumber xs) ys
+
+-- eight as four and four
+pub number-halves : (s : List ℕ) → 8 ≤ length s → {a b : ℕ} → a ≡ bytesNumber (take 4 s) → b ≡ bytesNumber (take 4 (take (length s - 4) (drop 4 s))) → a * 4294967296 + b ≡ bytesNumber (take 8 s)
+number-halves s h ea eb =
+    let n : length (take 4 (drop 4 s)) ≡ 4 = length-take-le 4 (drop 4 s) (rw length-drop (omega arith)) in
+    rw (take-add 4 4 s, number-append (take 4 s) (take 4 (drop 4 s)), n, ea, eb, tail-part)
 
 -- ---- the cases of `lenOf`
 

@@ -6,17 +6,19 @@ use native.Mathlib.Nat.{lt-of-lt-of-le, pow-le-pow-right}
 use mathlib.Core.List.{List}
 use mathlib.Core.Bool.{true}
 use lib.ListN.{length, take, drop, length-drop, length-take}
-use lib.Seq.{take-all}
+use lib.Seq.{take-all, length-take-le}
 use lib.Pow.{pow-add, pow-mono}
 use lib.Arith.{digits-lt}
 use Rattle.format.specs.Answer.{ok, got}
-use Rattle.format.specs.Coding.{Bytes, lenOf, tagOf, idOf}
+use Rattle.format.specs.Coding.{Bytes, bytesNumber, lenOf, tagOf, idOf}
 use Rattle.format.specs.Lists.{same}
 use Rattle.format.specs.Packet.{theKey}
 use Rattle.format.specs.Valid.{Holds}
+use Rattle.format.proofs.coding.Digits.{number-below}
 use Rattle.format.proofs.coding.Lengths.{len-says}
 use Rattle.format.proofs.coding.Oids.{tag-says, id-says}
 use Rattle.format.proofs.reading.Packets.{same-eq}
+use Rattle.format.proofs.words.Bytes.{bytes-take}
 
 -- ---- `&s[n..]`, as the borrow checker has it
 
@@ -32,6 +34,10 @@ pub bits-more : (w i v b : ℕ) → v < 2 ^ (w * i) → b < 2 ^ w → v * 2 ^ w 
 bits-more w i v b h g =
     let e : w * (i + 1) ≡ w * i + w = omega arith in
     rw (e, pow-add) (digits-lt h g)
+
+-- the number that k bytes spell
+pub bytes-room : (k : ℕ) (s : List ℕ) → Bytes s → k ≤ length s → bytesNumber (take k s) < 256 ^ k
+bytes-room k s g h = number-below k (take k s) (bytes-take k s g) (length-take-le k s h)
 
 -- ---- what a reader took: some bytes, all within s, and a value that is small
 

@@ -34,6 +34,14 @@ pub fn number_of(s: &[u8], k: usize) -> u64
     n
 }
 
+// The number that eight bytes spell, as two halves: the compiler reads each as one.
+pub fn eight_of(s: &[u8]) -> u64
+    requires { ⌜ 8 ≤ length (now s) ⌝ }
+    ensures { λ r. ⌜ r ≡ bytesNumber (take 8 (now (s .entry))) ⌝ }
+{
+    number_of(s, 4) * 4294967296 + number_of(&s[4..], 4)
+}
+
 // The length at the start of s.
 pub fn len_of(s: &[u8]) -> Num
     ensures { λ r. ⌜ numOf r ≡ lenOf (now (s .entry)) ⌝ }

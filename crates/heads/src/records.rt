@@ -107,7 +107,7 @@ fn target_next(s: &[u8]) -> Next
     if s.len() < 10 {
         return Next { key: 0, used: 0 };
     }
-    let key = coding::number_of(&s[2..], 8);
+    let key = coding::eight_of(&s[2..]);
     let n = span_of(&s[10..], false);
     Next { key, used: 10 + n }
 }

@@ -126,7 +126,7 @@ fn target_at(s: &[u8], p: usize, clear: usize, top: u64, low: u64) -> Piece
     if s.len() - p < 10 {
         return Piece::Fault(17);
     }
-    let id = coding::number_of(&s[p + 2..], 8);
+    let id = coding::eight_of(&s[p + 2..]);
     if 9223372036854775807 < id {
         return Piece::Fault(17);
     }

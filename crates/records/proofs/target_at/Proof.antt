@@ -13,40 +13,40 @@ returns c =
     let a = c .before .before .args in
     λ seen q. target-cut (a .s .now) (a .p) seen (c .if1 .taken)
 
-add-number-of : tie.Need-add-number-of
-add-number-of c = search needs
+add-eight-of : tie.Need-add-eight-of
+add-eight-of c = search needs
 
-sub-number-of : tie.Need-sub-number-of
-sub-number-of c = search needs
+sub-eight-of : tie.Need-sub-eight-of
+sub-eight-of c = search needs
 
-part-number-of-start : tie.Need-part-number-of-start
-part-number-of-start c = search needs
+part-eight-of-start : tie.Need-part-eight-of-start
+part-eight-of-start c = search needs
 
-part-number-of-end : tie.Need-part-number-of-end
-part-number-of-end c = search needs
+part-eight-of-end : tie.Need-part-eight-of-end
+part-eight-of-end c = search needs
 
-number-of-requires : tie.Need-number-of-requires
-number-of-requires c κs = search needs
+eight-of-requires : tie.Need-eight-of-requires
+eight-of-requires c κs = search needs
 
 returns-2 : tie.Need-returns-2
 returns-2 c =
     let a = c .before .before .before .before .before .args in
-    λ seen q. target-high (a .s .now) (a .p) seen (c .before .before .before .if1 .left) (c .before .number-of .ensures) (c .if2 .taken)
+    λ seen q. target-high (a .s .now) (a .p) seen (c .before .before .before .if1 .left) (c .before .eight-of .ensures) (c .if2 .taken)
 
 is-seen-requires : tie.Need-is-seen-requires
 is-seen-requires c κs =
     let a = c .before .before .before .before .before in
-    (a .pre .0, a .pre .1, target-key (a .args .s .now) (a .args .p) [] (c .before .before .before .if1 .left) (c .before .number-of .ensures))
+    (a .pre .0, a .pre .1, target-key (a .args .s .now) (a .args .p) [] (c .before .before .before .if1 .left) (c .before .eight-of .ensures))
 
 returns-3 : tie.Need-returns-3
 returns-3 c =
     let a = c .before .before .before .before .before .before .before .args in
-    λ seen q. target-again (a .s .now) (a .p) seen (c .before .before .before .before .before .if1 .left) (c .before .before .before .number-of .ensures) (c .before .before .if2 .left) (c .before .is-seen .ensures seen q) (c .if3 .taken)
+    λ seen q. target-again (a .s .now) (a .p) seen (c .before .before .before .before .before .if1 .left) (c .before .before .before .eight-of .ensures) (c .before .before .if2 .left) (c .before .is-seen .ensures seen q) (c .if3 .taken)
 
 returns-4 : tie.Need-returns-4
 returns-4 c =
     let a = c .before .before .before .before .before .before .before .args in
-    λ seen q. target-whole (a .s .now) (a .p) seen (c .before .before .before .before .before .if1 .left) (c .before .before .before .number-of .ensures) (c .before .before .if2 .left) (c .before .is-seen .ensures seen q) (c .if3 .left)
+    λ seen q. target-whole (a .s .now) (a .p) seen (c .before .before .before .before .before .if1 .left) (c .before .before .before .eight-of .ensures) (c .before .before .if2 .left) (c .before .is-seen .ensures seen q) (c .if3 .left)
 
 pub target-at-spec : {M : Type 1} → statement M
 target-at-spec =
@@ -54,11 +54,11 @@ target-at-spec =
     (tie.spec
     sub-if1
     returns
-    add-number-of
-    sub-number-of
-    part-number-of-start
-    part-number-of-end
-    number-of-requires
+    add-eight-of
+    sub-eight-of
+    part-eight-of-start
+    part-eight-of-end
+    eight-of-requires
     returns-2
     is-seen-requires
     returns-3

@@ -9,17 +9,17 @@ use Rattle.heads.proofs.records.target_next.Tie as tie
 returns : tie.Need-returns
 returns c = target-cut _ (omega arith)
 
-sub-number-of : tie.Need-sub-number-of
-sub-number-of c = search needs
+sub-eight-of : tie.Need-sub-eight-of
+sub-eight-of c = search needs
 
-part-number-of-start : tie.Need-part-number-of-start
-part-number-of-start c = search needs
+part-eight-of-start : tie.Need-part-eight-of-start
+part-eight-of-start c = search needs
 
-part-number-of-end : tie.Need-part-number-of-end
-part-number-of-end c = search needs
+part-eight-of-end : tie.Need-part-eight-of-end
+part-eight-of-end c = search needs
 
-number-of-requires : tie.Need-number-of-requires
-number-of-requires c κs = search needs
+eight-of-requires : tie.Need-eight-of-requires
+eight-of-requires c κs = search needs
 
 sub-span-of : tie.Need-sub-span-of
 sub-span-of c = search needs
@@ -37,17 +37,17 @@ add-t4 : tie.Need-add-t4
 add-t4 c = omega (arith, span-within (c .before .before .before .before .before .before .args .s .now) _ 10 false (c .span-of .ensures) (omega arith))
 
 returns-2 : tie.Need-returns-2
-returns-2 c = target-whole _ _ _ (c .before .before .number-of .ensures) (c .span-of .ensures) (omega arith)
+returns-2 c = target-whole _ _ _ (c .before .before .eight-of .ensures) (c .span-of .ensures) (omega arith)
 
 pub target-next-spec : {M : Type 1} → statement M
 target-next-spec =
     tie.close
     (tie.spec
     returns
-    sub-number-of
-    part-number-of-start
-    part-number-of-end
-    number-of-requires
+    sub-eight-of
+    part-eight-of-start
+    part-eight-of-end
+    eight-of-requires
     sub-span-of
     part-span-of-start
     part-span-of-end

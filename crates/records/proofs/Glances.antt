@@ -12,7 +12,7 @@ use Rattle.format.specs.Coding.{Bytes, bytesNumber, number, oidBytes, lenWidth}
 use Rattle.format.specs.Table.{Form, Level, pack, isSet, isAlone, ruleOf, nameable}
 use Rattle.format.specs.Sheet.{markOf, is, valueAt}
 use Rattle.format.proofs.words.Bytes.{bytes-drop}
-use Rattle.coding.proofs.Rooms.{tail-part}
+use Rattle.coding.proofs.Rooms.{tail-part, bytes-room}
 use Rattle.coding.proofs.Counts.{len-one, count-start, count-done}
 use Rattle.items.specs.Meet.{levelOf}
 use Rattle.items.specs.Quick.{Quick}
@@ -64,14 +64,6 @@ head-is b (x ∷ y ∷ z ∷ w ∷ s) {tag} h bytes e l =
     let t = marked b x y (z * 256 + w) tag (omega (arith, e)) (bytes 1) (omega (arith, bytes 2, bytes 3)) l in
     (rw (eq-eqb x _ (t .0), eq-eqb y _ (t .1)), omega (arith, t .2))
 
-head-small : (u : List ℕ) → 4 ≤ length u → Bytes u → bytesNumber (take 4 u) < 4294967296
-unfolding number
-head-small [] h bytes = absurd (omega arith)
-head-small (x ∷ []) h bytes = absurd (omega arith)
-head-small (x ∷ y ∷ []) h bytes = absurd (omega arith)
-head-small (x ∷ y ∷ z ∷ []) h bytes = absurd (omega arith)
-head-small (x ∷ y ∷ z ∷ w ∷ s) h bytes = omega (arith, bytes 0, bytes 1, bytes 2, bytes 3)
-
 -- how what it marks is read
 mark-piece : (b : Bool) (f : Form) (seen u : List ℕ) → is (markOf (levelOf b)) u ≡ true → {r : Piece} → r ≡ pieceBy valueWhole (valueAt (levelOf b) f seen u) → r ≡ partPiece (levelOf b) f seen u
 mark-piece true f seen u m e = part-value f seen u refl refl m e
@@ -81,7 +73,7 @@ mark-piece false f seen u m e = part-inner f seen u refl e
 
 pub head-fits : (s : List ℕ) (p : ℕ) → Bytes s → p + 6 < length s → {head : ℕ} → head ≡ bytesNumber (take 4 (take (length s - p) (drop p s))) → head < 4294967296
 head-fits s p bytes h {head} e =
-    let l : bytesNumber (take 4 (drop p s)) < 4294967296 = head-small (drop p s) (rw length-drop (omega arith)) (bytes-drop p s bytes) in
+    let l : bytesNumber (take 4 (drop p s)) < 4294967296 = bytes-room 4 (drop p s) (bytes-drop p s bytes) (rw length-drop (omega arith)) in
     let z : head ≡ bytesNumber (take 4 (drop p s)) = rw tail-part at e in
     omega (arith, l, z)
 
@@ -97,9 +89,9 @@ named l f tag n first z h q = rw (lt-ltb 0 tag z, le-leb tag 16383 (omega arith)
 
 pub glance-from : (b : Bool) (f : Form) (s : List ℕ) (p top : ℕ) → Bytes s
     → {head word tag : ℕ} → head ≡ bytesNumber (take 4 (take (length s - p) (drop p s))) → word ≡ wordOf b → (tag + word) % 4294967296 ≡ head → top < tag → tag < 128
-    → {n : ℕ} → n ≡ bytesNumber (take 2 (take (length s - (p + 4)) (drop (p + 4) s))) → n < 128 → p + 6 + n ≤ length s
-    → Quick (levelOf b) f tag n (getD s (p + 6) 0) → {x : Bool} → x ≡ (not (isSet (levelOf b)) || not (isAlone f) || not (eqb p 0) || eqb tag 2) → x ≡ true → Glanced b f s p top tag n
-glance-from b f s p top bytes {head} {word} {tag} eh ew et above th {n} en nh room q ex tx =
+    → {n : ℕ} → n ≡ bytesNumber (take 2 (take (length s - (p + 4)) (drop (p + 4) s))) → n < 128 → {next : ℕ} → next ≡ p + 6 + n → next ≤ length s
+    → Quick (levelOf b) f tag n (getD s (p + 6) 0) → {x : Bool} → x ≡ (not (isSet (levelOf b)) || not (isAlone f) || not (eqb p 0) || eqb tag 2) → x ≡ true → Glanced b f s p top tag (next - (p + 6))
+glance-from b f s p top bytes {head} {word} {tag} eh ew et above th {n} en nh {next} ee room q ex tx =
     let u : List ℕ = drop p s in
     let long : 6 + n ≤ length u = rw length-drop (omega arith) in
     let e : bytesNumber (take 4 u) ≡ wordOf b + tag = sym (rw tail-part at eh) ∙ omega (arith, ew, word-small b, et) in
@@ -108,7 +100,8 @@ glance-from b f s p top bytes {head} {word} {tag} eh ew et above th {n} en nh ro
     let tagged : tag ≡ bytesNumber (take 2 (take (length u - 2) (drop 2 u))) = rw tail-part is-tag in
     let at = a-field (levelOf b) u tag (6 + n) (val-whole u n size tag tagged long) (omega arith) (named (levelOf b) f tag n _ (omega arith) th q) in
     let z : 6 + n - 6 ≡ n = omega arith in
-    record {
+    let y : next - (p + 6) ≡ n = omega arith in
+    rw y record {
       mark = mark;
       fields = rw z at at;
       quick = q;
@@ -121,7 +114,7 @@ glance-from b f s p top bytes {head} {word} {tag} eh ew et above th {n} en nh ro
 -- ---- the turn
 
 module _ {b : Bool} {f : Form} {s : List ℕ} {p top tag n : ℕ} (g : Glanced b f s p top tag n) where
-  pub glance-room : p + 6 + n ≤ length s
+  glance-room : p + 6 + n ≤ length s
   glance-room = omega (arith, value-within (drop p s) (levelOf b) (g .fields) refl, length-drop p s, g .quick .some)
 
   abbrev value : List ℕ
@@ -151,15 +144,20 @@ module _ {b : Bool} {f : Form} {s : List ℕ} {p top tag n : ℕ} (g : Glanced b
       (sym (ap length (g .quick .shortest value value-size value-head) ∙ value-size))
       refl)
 
+-- where it ends
+pub glance-next : {b : Bool} {f : Form} {s : List ℕ} {p top tag next : ℕ} → Glanced b f s p top tag (next - (p + 6)) → (p + 6 < next) × (next ≤ length s)
+glance-next g = (omega (arith, g .quick .some), omega (arith, glance-room g, g .quick .some))
+
 -- of a target; tags rise, and how low they were does not matter
-pub glance-more : {f : Form} {s : List ℕ} {p top tag n : ℕ} → Glanced false f s p top tag n
+pub glance-more : {f : Form} {s : List ℕ} {p top tag next : ℕ} → Glanced false f s p top tag (next - (p + 6))
     → {count : ℕ} {mark : Bool} → RecordsGoing false f s p (quickSizes count p) mark top 0 → 4 * count ≤ p → Bytes s → length s ≤ 65536
-    → {y mark′ : Bool} → y ≡ eqb tag 17 → mark′ ≡ (mark || y) → RecordsGoing false f s (p + 6 + n) (quickSizes (count + 1) (p + 6 + n)) mark′ tag 0
+    → {y mark′ : Bool} → y ≡ eqb tag 17 → mark′ ≡ (mark || y) → RecordsGoing false f s next (quickSizes (count + 1) next) mark′ tag 0
 unfolding itemSizes
-glance-more {f = f} {s = s} {p = p} {top = top} {tag = tag} {n = n} g {count = count} {mark = mark} go few bytes most ey em =
+glance-more {f = f} {s = s} {p = p} {top = top} {tag = tag} {next = next} g {count = count} {mark = mark} go few bytes most ey em =
+    let n : ℕ = next - (p + 6) in
     let i : PartAt false f s p _ _ top 0 tag 6 n n = record {
       going = go;
-      here = omega (arith, glance-room g);
+      here = omega (arith, glance-next g);
       more = g .mark;
       it = piece.Whole tag 6 n n;
       told = λ seen q. glance-piece g seen q;
@@ -167,6 +165,6 @@ glance-more {f = f} {s = s} {p = p} {top = top} {tag = tag} {n = n} g {count = c
       bytes = bytes;
       most = most;
     } in
-    let at : p + 6 + n ≡ p + (6 + n) = omega arith in
+    let at : next ≡ p + (6 + n) = omega (arith, glance-next g) in
     rw at (part-more i (item-told i {x = false} refl refl refl) refl (quick-plus tag n count p (g .small) (g .few) few) (em ∙ ap (λ z. mark || z) ey)
     (omega (arith, g .above), omega arith) (omega arith, omega arith))

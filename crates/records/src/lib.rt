@@ -98,12 +98,13 @@ pub fn part_at(
     ensures { λ r. ⌜ ((seen : List ℕ) → Past (peek true false set) (now (s .entry)) p top low seen → r ≡ partPiece (levelOf set) (formOf alone) seen (drop p (now (s .entry)))) ⌝ }
 {
     let g = quick::glance(table, s, p, set, alone, top);
-    if 0 < g.size {
+    if 0 < g.next {
+        let size = g.next - (p + 6);
         return Piece::Whole {
             tag: g.tag,
             from: 6,
-            size: g.size,
-            short: g.size,
+            size,
+            short: size,
         };
     }
     if set {

@@ -1,21 +1,21 @@
 // The quick way over a target's records: told at a glance, tags rising, from its start. What stops it is left to the walk.
 ghost use mathlib.Core.Path.{_≡_};
-ghost use Prim.Native.Nat.{_≤_, _<_};
+ghost use Prim.Native.Nat.{_+_, _-_, _≤_, _<_};
 ghost use lib.ListN.{length};
 ghost use Rattle.items.specs.Meet.{formOf, itemTable};
 ghost use Rattle.records.specs.Going.{TargetRan, Glanced, wordOf};
 use walks::Sizes;
 
-// A tag, and how many bytes its value has; 0 where no such record stands.
+// A tag, and where its record ends, which is a sum and so never 0 to the compiler; 0 where no such record stands.
 pub struct Told {
     pub tag: u64,
-    pub size: usize,
+    pub next: usize,
 }
 
 fn nothing() -> Told
-    ensures { λ r. ⌜ r .size ≡ 0 ⌝ }
+    ensures { λ r. ⌜ r .next ≡ 0 ⌝ }
 {
-    Told { tag: 0, size: 0 }
+    Told { tag: 0, next: 0 }
 }
 
 // `IT` or `TI`, before a tag of 0, as one number.
@@ -28,7 +28,7 @@ fn word_of(set: bool) -> u32
 // A level's record at p that is told at a glance, its tag above top.
 pub fn glance(table: &[u64], s: &[u8], p: usize, set: bool, alone: bool, top: u64) -> Told
     requires { ⌜ (now table ≡ itemTable) × (length (now s) ≤ 65536) × (p ≤ length (now s)) ⌝ }
-    ensures { λ r. ⌜ (0 < r .size → Glanced set (formOf alone) (now (s .entry)) p top (r .tag) (r .size)) ⌝ }
+    ensures { λ r. ⌜ (0 < r .next → Glanced set (formOf alone) (now (s .entry)) p top (r .tag) (r .next - (p + 6))) ⌝ }
 {
     let from = p + 6;
     if s.len() <= from {
@@ -42,12 +42,12 @@ pub fn glance(table: &[u64], s: &[u8], p: usize, set: bool, alone: bool, top: u6
     }
     let n = coding::number_of(&s[p + 4..], 2);
     if items::quick::is_quick(table, set, alone, tag, n, s[from]) {
-        let size = n as usize;
-        if s.len() < from + size {
+        let next = from + (n as usize);
+        if s.len() < next {
             return nothing();
         }
         if items::begins(set, alone, tag, p == 0) {
-            return Told { tag, size };
+            return Told { tag, next };
         }
     }
     nothing()
@@ -70,7 +70,7 @@ pub fn run(table: &[u64], s: &[u8], alone: bool) -> Ran
     let mut top: u64 = 0;
     loop {
         let g = glance(table, s, p, false, alone, top);
-        if g.size == 0 {
+        if g.next == 0 {
             let sizes = Sizes {
                 sheet: p,
                 rows: count,
@@ -82,6 +82,6 @@ pub fn run(table: &[u64], s: &[u8], alone: bool) -> Ran
         mark = walks::either(mark, walks::is_mark(false, g.tag));
         top = g.tag;
         count += 1;
-        p = p + 6 + g.size;
+        p = g.next;
     }
 }

@@ -1,16 +1,23 @@
 -- `records::part_at` meets its contract: told at a glance, or by the mark.
 use mathlib.Core.Path.{sym, _∙_}
+use native.Mathlib.Omega.{arith}
 use borrow.Author.Needs.{needs}
 use Rattle.records.proofs.Opens.{value-inner, value-set, clear-set, past-set, part-inner, part-value, part-series, part-unknown}
-use Rattle.records.proofs.Glances.{glance-piece}
+use Rattle.records.proofs.Glances.{glance-next, glance-piece}
 use Rattle.records.proofs.part_at.Statement.{statement}
 use Rattle.records.proofs.part_at.Tie as tie
 
 glance-requires : tie.Need-glance-requires
 glance-requires c κs = search needs
 
+add-size : tie.Need-add-size
+add-size c = omega (arith, glance-next (c .before .before .glance .ensures (c .if1 .taken)))
+
+sub-size : tie.Need-sub-size
+sub-size c = omega (arith, glance-next (c .before .before .before .glance .ensures (c .before .if1 .taken)))
+
 returns : tie.Need-returns
-returns c = λ seen q. glance-piece (c .before .before .glance .ensures (c .if1 .taken)) seen q
+returns c = λ seen q. glance-piece (c .before .before .before .glance .ensures (c .before .if1 .taken)) seen q
 
 is-mark-requires : tie.Need-is-mark-requires
 is-mark-requires c κs = search needs
@@ -52,6 +59,8 @@ part-at-spec =
     tie.close
     (tie.spec
     glance-requires
+    add-size
+    sub-size
     returns
     is-mark-requires
     value-at-requires

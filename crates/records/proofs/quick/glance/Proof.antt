@@ -1,4 +1,5 @@
 -- `records::quick::glance` meets its contract: where it has nothing to tell it says nothing.
+use mathlib.Core.Path.{refl}
 use native.Mathlib.Omega.{arith}
 use borrow.Author.Needs.{needs}
 use Rattle.records.proofs.Glances.{head-fits, glance-from}
@@ -67,8 +68,8 @@ shared-slice-read-is-quick c = search needs
 is-quick-requires : tie.Need-is-quick-requires
 is-quick-requires c κs = search needs
 
-add-if4 : tie.Need-add-if4
-add-if4 c =
+add-next : tie.Need-add-next
+add-next c =
     let (small, few, q) = c .before .is-quick .ensures (c .if3 .taken) in
     omega (arith, few, c .before .before .before .before .before .before .before .before .before .before .if1 .left, c .before .before .before .before .before .before .before .before .before .before .before .before .before .pre .1)
 
@@ -84,7 +85,7 @@ begins-requires c κs = search needs
 returns-4 : tie.Need-returns-4
 returns-4 c =
     let (small, few, q) = c .before .before .before .before .is-quick .ensures (c .before .before .before .if3 .taken) in
-    λ h. glance-from _ _ _ _ _ (λ i. c .before .before .before .before .before .before .before .before .before .before .before .before .before .before .shared-slice-known2 .given i .fits) (c .before .before .before .before .before .before .before .before .before .before .before .number-of .ensures) (c .before .before .before .before .before .before .before .before .before .before .word-of .ensures) (c .before .before .before .before .before .before .before .before .before .wrapping-sub-u32 .ensures) (omega (arith, c .before .before .before .before .before .before .before .before .if2 .left)) (omega (arith, small)) (c .before .before .before .before .before .before .number-of2 .ensures) (omega (arith, few)) (omega (arith, c .before .before .if4 .left)) q (c .before .begins .ensures) (c .if5 .taken)
+    λ h. glance-from _ _ _ _ _ (λ i. c .before .before .before .before .before .before .before .before .before .before .before .before .before .before .shared-slice-known2 .given i .fits) (c .before .before .before .before .before .before .before .before .before .before .before .number-of .ensures) (c .before .before .before .before .before .before .before .before .before .before .word-of .ensures) (c .before .before .before .before .before .before .before .before .before .wrapping-sub-u32 .ensures) (omega (arith, c .before .before .before .before .before .before .before .before .if2 .left)) (omega (arith, small)) (c .before .before .before .before .before .before .number-of2 .ensures) (omega (arith, few)) refl (omega (arith, c .before .before .if4 .left)) q (c .before .begins .ensures) (c .if5 .taken)
 
 nothing-requires-4 : tie.Need-nothing-requires-4
 nothing-requires-4 c κs = search needs
@@ -116,7 +117,7 @@ glance-spec =
     number-of-requires-2
     shared-slice-read-is-quick
     is-quick-requires
-    add-if4
+    add-next
     nothing-requires-3
     returns-3
     begins-requires

@@ -7,7 +7,7 @@ use borrow.Author.Needs.{needs}
 use Rattle.items.specs.Meet.{formOf}
 use Rattle.records.specs.Going.{RecordsGoing}
 use Rattle.records.proofs.PartTurns.{records-start}
-use Rattle.records.proofs.Glances.{quickSizes, glance-room, glance-more}
+use Rattle.records.proofs.Glances.{quickSizes, glance-next, glance-more}
 use Rattle.records.proofs.quick.run.Statement.{statement}
 use Rattle.records.proofs.quick.run.Tie as tie
 
@@ -39,21 +39,16 @@ either-requires : tie.Need-either-requires Inv-loop μ-loop
 either-requires c κs = search needs
 
 add-count : tie.Need-add-count Inv-loop μ-loop
-add-count c = omega (arith, c .before .before .before .before .before .loop .inv .1, glance-room (c .before .before .before .before .glance .ensures (omega (arith, c .before .before .if1 .left))), c .before .before .before .before .before .before .before .before .pre .1)
-
-add-p : tie.Need-add-p Inv-loop μ-loop
-add-p c = omega (arith, glance-room (c .before .before .before .before .glance .ensures (omega (arith, c .before .before .if1 .left))), c .before .before .before .before .before .before .before .before .pre .1)
-
-add-p-2 : tie.Need-add-p-2 Inv-loop μ-loop
-add-p-2 c = omega (arith, glance-room (c .before .before .before .before .before .glance .ensures (omega (arith, c .before .before .before .if1 .left))), c .before .before .before .before .before .before .before .before .before .pre .1)
+add-count c = omega (arith, c .before .before .before .before .before .loop .inv .1, glance-next (c .before .before .before .before .glance .ensures (omega (arith, c .before .before .if1 .left))), c .before .before .before .before .before .before .before .before .pre .1)
 
 loop-less : tie.Need-loop-less Inv-loop μ-loop
-loop-less c = omega (arith, glance-room (c .before .before .before .before .before .glance .ensures (omega (arith, c .before .before .before .if1 .left))))
+loop-less c = omega (arith, glance-next (c .before .before .before .before .glance .ensures (omega (arith, c .before .before .if1 .left))))
 
 loop-again : tie.Need-loop-again Inv-loop μ-loop
 loop-again c =
-    let g = c .before .before .before .before .before .glance .ensures (omega (arith, c .before .before .before .if1 .left)) in
-    (glance-more g (c .before .before .before .before .before .before .loop .inv .0) (c .before .before .before .before .before .before .loop .inv .1) (λ i. c .before .before .before .before .before .before .before .shared-slice-known2 .given i .fits) (c .before .before .before .before .before .before .before .before .before .pre .1) (c .before .before .is-mark .ensures) (c .before .either .ensures), omega (arith, c .before .before .before .before .before .before .loop .inv .1))
+    let g = c .before .before .before .before .glance .ensures (omega (arith, c .before .before .if1 .left)) in
+    let l = c .before .before .before .before .before .loop in
+    (glance-more g (l .inv .0) (l .inv .1) (λ i. c .before .before .before .before .before .before .shared-slice-known2 .given i .fits) (c .before .before .before .before .before .before .before .before .pre .1) (c .before .is-mark .ensures) (c .either .ensures), omega (arith, l .inv .1, glance-next g))
 
 pub run-spec : {M : Type 1} → statement M
 run-spec =
@@ -69,7 +64,5 @@ run-spec =
     is-mark-requires
     either-requires
     add-count
-    add-p
-    add-p-2
     loop-less
     loop-again)

@@ -7,7 +7,7 @@ use mathlib.Core.List.{List}
 use lib.ListN.{length, take, drop, length-drop}
 use lib.Seq.{drop-drop}
 use lib.Dec.{ltb}
-use borrow.Author.Tests.{le-leb, lt-leb, lt-ltb, le-ltb}
+use borrow.Author.Tests.{le-leb, lt-leb, lt-ltb, ltb-true}
 use Rattle.format.specs.Answer.{ok, Got, _>>=_, need}
 use Rattle.format.specs.Coding.{bytesNumber}
 use Rattle.format.specs.Lists.{has}
@@ -74,8 +74,13 @@ module _ (s : List ℕ) (p : ℕ) (seen : List ℕ) where
       unfolding peek peekRecord
       target-key = sym (ap (λ (x : Got ℕ). x .val) (target-there (drop p s) (rw length-drop h)) ∙ id-is)
 
-      pub target-high : 9223372036854775807 < i → piece.Fault 17 ≡ pieceBy targetWhole (targetOpens seen (drop p s))
-      target-high g = sym (ap (pieceBy targetWhole) (ten ∙ need-not _ _ _ (le-ltb idAt (2 ^ 63) (omega (arith, id-is)))))
+      -- r is the larger of it and an id within the limit
+      pub target-high : {r : ℕ} → (i < 2 ^ 63 → r < 2 ^ 63) → 9223372036854775807 < r → piece.Fault 17 ≡ pieceBy targetWhole (targetOpens seen (drop p s))
+      target-high w g = sym (ap (pieceBy targetWhole) (ten ∙ need-not _ _ _ (high (ltb idAt (2 ^ 63)) refl)))
+        where
+          high : (t : Bool) → ltb idAt (2 ^ 63) ≡ t → t ≡ false
+          high true e = absurd (omega (arith, g, w (omega (arith, id-is, ltb-true idAt (2 ^ 63) e))))
+          high false e = refl
 
       module _ (g : i ≤ 9223372036854775807) where
         low-is : targetOpens seen (drop p s) ≡ (need (not (has idAt seen)) 10 >>= λ _. ok idAt)

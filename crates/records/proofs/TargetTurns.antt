@@ -44,6 +44,9 @@ targets-start f s = going-start _ _ _ _ _ _ _ s refl
 
 -- ---- a target by its values
 
+pub same-good : {a b : Sizes} {m n : Bool} → a ≡ b → m ≡ n → Good a m ≡ Good b n
+same-good e g = cc
+
 -- a walk is over where no more of its kind stands, be it at the end of the bytes
 pub records-over : {X : Type 0} {look : List ℕ → Got ℕ} {more : List ℕ → Bool} {weight : X → Sizes} {mark : X → Bool} {key : X → ℕ} {step : Step X} {whole : Walked} {s : List ℕ} {p : ℕ} {a : Sizes} {m : Bool}
     {top low : ℕ} → Going look more weight mark key step whole s p a m top low → more (drop p s) ≡ false → (Good a m ≡ whole) × Within (Good a m) (length s)

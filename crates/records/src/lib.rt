@@ -1,6 +1,6 @@
 // The walks that check a sheet: one record at a time, the records of a level and the targets of the series, with the sizes of what they find.
 ghost use mathlib.Core.Path.{_≡_};
-ghost use Prim.Native.Nat.{ℕ, _≤_};
+ghost use Prim.Native.Nat.{ℕ, _^_, _≤_, _<_};
 ghost use mathlib.Core.List.{List};
 ghost use mathlib.Core.Bool.{true, false};
 ghost use lib.ListN.{length, drop};
@@ -119,16 +119,24 @@ pub fn part_at(
     value_at(table, s, p, clear, set, alone, top, low)
 }
 
+// The larger of an id and the largest before it. An id is held to the limit by this: tested alone, it would be read byte by byte.
+fn higher(top: u64, id: u64) -> u64
+    requires { ⌜ top < 2 ^ 63 ⌝ }
+    ensures { λ r. ⌜ (top ≤ r) × (id ≤ r) × (id < 2 ^ 63 → r < 2 ^ 63) ⌝ }
+{
+    if top < id { id } else { top }
+}
+
 // The `TG` at p, before its `TI`s: 17, 10. Its id stands for a tag.
 fn target_at(s: &[u8], p: usize, clear: usize, top: u64, low: u64) -> Piece
-    requires { ⌜ (p ≤ length (now s)) × Clear (peek true true false) (now s) clear ⌝ }
+    requires { ⌜ (p ≤ length (now s)) × Clear (peek true true false) (now s) clear × (top < 2 ^ 63) ⌝ }
     ensures { λ r. ⌜ ((seen : List ℕ) → Past (peek true true false) (now (s .entry)) p top low seen → r ≡ pieceBy targetWhole (targetOpens seen (drop p (now (s .entry))))) ⌝ }
 {
     if s.len() - p < 10 {
         return Piece::Fault(17);
     }
     let id = coding::eight_of(&s[p + 2..]);
-    if 9223372036854775807 < id {
+    if 9223372036854775807 < higher(top, id) {
         return Piece::Fault(17);
     }
     if heads::is_seen(s, p, clear, top, low, id, true, true, false) {
@@ -237,31 +245,23 @@ pub fn target_records(table: &[u64], s: &[u8], alone: bool) -> Walked
         let from = p + 10;
         let items = &s[from..];
         let q = quick::run(table, items, alone);
-        let all = q.sizes;
-        let w = if goes_on(items, all.sheet, false) {
-            item_records(table, items, false, alone)
-        } else {
-            // field by field: a copy of the whole would wait for what was just stored
-            Walked::Good {
-                sizes: Sizes {
-                    sheet: all.sheet,
-                    rows: all.rows,
-                    normal: all.normal,
-                    inner: all.inner,
-                },
-                mark: q.mark,
-            }
-        };
-        let Walked::Good { sizes, mark } = w else {
-            return walks::later(w, from);
-        };
+        let mut sizes = q.sizes;
+        let mut mark = q.mark;
+        if goes_on(items, sizes.sheet, false) {
+            let w = item_records(table, items, false, alone);
+            let Walked::Good { sizes: z, mark: m } = w else {
+                return walks::later(w, from);
+            };
+            sizes = z;
+            mark = m;
+        }
         if walks::either(!alone, mark) {
             sum = walks::weights::plus(
                 sum,
                 walks::weights::pack_sizes(coding::widths::oid_width(id), sizes),
             );
             clear = heads::clear::after(s, p, clear, top, low, id, true, true, false);
-            top = walks::larger(top, id);
+            top = higher(top, id);
             low = walks::smaller(low, id);
             p = from + sizes.sheet;
         } else {

@@ -3,7 +3,7 @@
 use mathlib.Core.Path.{_≡_, refl, sym, ap, _∙_}
 use mathlib.Core.Bool.{Bool, true, false, not, _||_}
 use mathlib.Core.Logic.{⊎-elim}
-use Prim.Native.Nat.{ℕ, _+_, _-_, _<_}
+use Prim.Native.Nat.{ℕ, _+_, _-_, _^_, _<_}
 use native.Mathlib.Omega.{arith}
 use lib.ListN.{length}
 use borrow.Author.Needs.{needs}
@@ -14,6 +14,7 @@ use Rattle.format.specs.Table.{pack, isAlone}
 use Rattle.items.specs.Meet.{formOf}
 use Rattle.heads.specs.Meet.{peek, Clear}
 use Rattle.heads.proofs.Clears.{clear-none}
+use Rattle.walks.specs.declared.Walked.the-variants.{Good}
 use Rattle.walks.specs.Meet.{plusSizes, Within}
 use Rattle.walks.proofs.Turns.{within-more, told-as, turn-done, turn-over}
 use Rattle.records.specs.Meet.{recordsWalk}
@@ -21,7 +22,7 @@ use Rattle.records.specs.Going.{RecordsGoing}
 use Rattle.walks.proofs.ItemTurns.{depth, series-deep}
 use Rattle.walks.proofs.PackTurns.{either-is}
 use Rattle.records.proofs.PartTurns.{PartAt, records-start, piece-fault, PartTold, item-small, item-told, series-room, lent-small, series-told, part-bad, bad-within, part-room, good-small, part-more}
-use Rattle.records.proofs.TargetTurns.{TargetAt, TargetsGoing, targets-start, records-over, head-fault, target-room, vals-within, vals-fault, next-room, vals-small, no-location, target-small, target-more}
+use Rattle.records.proofs.TargetTurns.{TargetAt, TargetsGoing, targets-start, same-good, records-over, head-fault, target-room, vals-within, vals-fault, next-room, vals-small, no-location, target-small, target-more}
 use Rattle.records.proofs.TargetTurns as target-turns
 use Rattle.records.proofs.item_records.Reads as item-records
 use Rattle.records.proofs.item_records.Kinds as item-records-kinds
@@ -33,6 +34,7 @@ use Rattle.coding.proofs.widths.oid_width.Reads as oid-width-reads
 use Rattle.heads.proofs.clear.after.Reads as after-reads
 use Rattle.heads.proofs.records.is_mark.Reads as is-mark-reads
 use Rattle.records.proofs.goes_on.Reads as goes-on-reads
+use Rattle.records.proofs.higher.Reads as higher-reads
 use Rattle.records.proofs.quick.run.Reads as run-reads
 use Rattle.walks.proofs.later.Reads as later-reads
 use Rattle.records.proofs.part_at.Reads as part-at-reads
@@ -89,7 +91,7 @@ abbrev item-claims : ℕ → item-records-lts.Claims
 item-claims t = (goes-on-reads.Asked, goes-on-reads.Learnt, part-at-reads.Asked, part-at-reads.Learnt, stop-reads.Asked, stop-reads.Learnt, is-series-reads.Asked, is-series-reads.Learnt, target-records-below t, target-records.Post, series-of-reads.Asked, series-of-reads.Learnt, one-item-reads.Asked, one-item-reads.Learnt, later-reads.Asked, later-reads.Learnt, plus-reads.Asked, plus-reads.Learnt, either-reads.Asked, either-reads.Learnt, after-reads.Asked, after-reads.Learnt, larger-reads.Asked, larger-reads.Learnt, smaller-reads.Asked, smaller-reads.Learnt)
 
 abbrev target-claims : ℕ → target-records-lts.Claims
-target-claims t = (is-mark-reads.Asked, is-mark-reads.Learnt, target-at-reads.Asked, target-at-reads.Learnt, stop-reads.Asked, stop-reads.Learnt, run-reads.Asked, run-reads.Learnt, goes-on-reads.Asked, goes-on-reads.Learnt, item-records-below t, item-records.Post, later-reads.Asked, later-reads.Learnt, either-reads.Asked, either-reads.Learnt, oid-width-reads.Asked, oid-width-reads.Learnt, pack-sizes-reads.Asked, pack-sizes-reads.Learnt, plus-reads.Asked, plus-reads.Learnt, after-reads.Asked, after-reads.Learnt, larger-reads.Asked, larger-reads.Learnt, smaller-reads.Asked, smaller-reads.Learnt)
+target-claims t = (is-mark-reads.Asked, is-mark-reads.Learnt, target-at-reads.Asked, target-at-reads.Learnt, stop-reads.Asked, stop-reads.Learnt, run-reads.Asked, run-reads.Learnt, goes-on-reads.Asked, goes-on-reads.Learnt, item-records-below t, item-records.Post, later-reads.Asked, later-reads.Learnt, either-reads.Asked, either-reads.Learnt, oid-width-reads.Asked, oid-width-reads.Learnt, pack-sizes-reads.Asked, pack-sizes-reads.Learnt, plus-reads.Asked, plus-reads.Learnt, after-reads.Asked, after-reads.Learnt, higher-reads.Asked, higher-reads.Learnt, smaller-reads.Asked, smaller-reads.Learnt)
 
 abbrev item-records-Inv-loop : item-records-lts.InvT-loop
 item-records-Inv-loop table s set alone p₀ sum₀ mark₀ top₀ low₀ clear₀ p sum mark top low clear = RecordsGoing set (formOf alone) s p sum mark top low × Clear (peek true false set) s clear
@@ -237,7 +239,7 @@ item-records-returns-4 : (t : ℕ) → item-records-lts.Need-returns-4 (item-cla
 item-records-returns-4 t c = turn-done (c .before .loop .inv .0) (c .loop-test .left)
 
 abbrev target-records-Inv-loop : target-records-lts.InvT-loop
-target-records-Inv-loop table s alone p₀ sum₀ top₀ low₀ clear₀ p sum top low clear = TargetsGoing (formOf alone) s p sum top low × Clear (peek true true false) s clear
+target-records-Inv-loop table s alone p₀ sum₀ top₀ low₀ clear₀ p sum top low clear = TargetsGoing (formOf alone) s p sum top low × Clear (peek true true false) s clear × (top < 2 ^ 63)
 
 abbrev target-records-μ-loop : target-records-lts.MeasureT-loop
 target-records-μ-loop table s alone p₀ sum₀ top₀ low₀ clear₀ p sum top low clear = length s - p
@@ -257,7 +259,7 @@ target-here t a = record {
 }
 
 target-records-loop-holds : (t : ℕ) → target-records-lts.Need-loop-holds (target-claims t) (target-records-at t) target-records.Post target-records-Inv-loop target-records-μ-loop
-target-records-loop-holds t c = (targets-start _ _, clear-none _ _)
+target-records-loop-holds t c = (targets-start _ _, clear-none _ _, omega arith)
 
 target-records-is-mark-requires : (t : ℕ) → target-records-lts.Need-is-mark-requires (target-claims t) (target-records-at t) target-records.Post target-records-Inv-loop target-records-μ-loop
 target-records-is-mark-requires t c κs = search needs
@@ -266,7 +268,7 @@ target-records-returns : (t : ℕ) → target-records-lts.Need-returns (target-c
 target-records-returns t c = turn-over (c .before .before .before .loop .inv .0) (c .before .before .loop-test .taken) (sym (c .before .is-mark .ensures) ∙ not-true _ (c .if1 .taken))
 
 target-records-target-at-requires : (t : ℕ) → target-records-lts.Need-target-at-requires (target-claims t) (target-records-at t) target-records.Post target-records-Inv-loop target-records-μ-loop
-target-records-target-at-requires t c κs = (omega (arith, c .before .before .loop-test .taken), c .before .before .before .loop .inv .1)
+target-records-target-at-requires t c κs = (omega (arith, c .before .before .loop-test .taken), c .before .before .before .loop .inv .1, c .before .before .before .loop .inv .2)
 
 target-records-enum-known-a : (t : ℕ) → target-records-lts.Need-enum-known-a (target-claims t) (target-records-at t) target-records.Post target-records-Inv-loop target-records-μ-loop
 target-records-enum-known-a t c = search needs
@@ -315,11 +317,11 @@ target-records-item-records-requires t c κs =
 
 -- what the records of a target say, whichever way they were walked
 target-told : (t : ℕ) (j : target-records-lts.Joined2 (target-claims t) (target-records-at t) target-records.Post target-records-Inv-loop target-records-μ-loop)
-    → (j .if2 .w ≡ recordsWalk pack (formOf (j .before .before .before .before .before .before .before .before .before .before .before .before .before .before .before .args .alone)) (target-turns.lent (target-here t (j .before .before .before .before .before .before)))) × Within (j .if2 .w) (length (target-turns.lent (target-here t (j .before .before .before .before .before .before))))
+    → (Good (j .if2 .sizes) (j .if2 .mark) ≡ recordsWalk pack (formOf (j .before .before .before .before .before .before .before .before .before .before .before .before .before .before .before .args .alone)) (target-turns.lent (target-here t (j .before .before .before .before .before .before)))) × Within (Good (j .if2 .sizes) (j .if2 .mark)) (length (target-turns.lent (target-here t (j .before .before .before .before .before .before))))
 target-told t j =
     ⊎-elim
-    (λ x. told-as _ (x .2) (x .1 .ensures))
-    (λ x. told-as _ (x .1) (records-over (j .before .before .before .run .ensures .1) (sym (j .before .goes-on .ensures) ∙ x .0 .left)))
+    (λ x. told-as _ (same-good (x .5) (x .6) ∙ sym (x .3 .given .1)) (x .1 .ensures))
+    (λ x. told-as _ (same-good (x .1) (x .2)) (records-over (j .before .before .before .run .ensures .1) (sym (j .before .goes-on .ensures) ∙ x .0 .left)))
     (j .if2 .came)
 
 target-records-enum-known-w : (t : ℕ) → target-records-lts.Need-enum-known-w (target-claims t) (target-records-at t) target-records.Post target-records-Inv-loop target-records-μ-loop
@@ -330,60 +332,61 @@ target-records-enum-told-2 t c = search needs
 
 target-records-later-requires : (t : ℕ) → target-records-lts.Need-later-requires (target-claims t) (target-records-at t) target-records.Post target-records-Inv-loop target-records-μ-loop
 target-records-later-requires t c κs =
-    let a = c .before .before .before .before .before .before .before .before in
-    vals-within (target-here t a) (target-told t (c .before .before))
+    let a = c .before .before .before .before .before .before .before .before .before in
+    vals-within (target-here t a) (c .before .before .item-records .ensures)
 
 target-records-returns-3 : (t : ℕ) → target-records-lts.Need-returns-3 (target-claims t) (target-records-at t) target-records.Post target-records-Inv-loop target-records-μ-loop
 target-records-returns-3 t c =
-    let a = c .before .before .before .before .before .before .before .before .before in
-    vals-fault (target-here t a) (target-told t (c .before .before .before)) (c .before .enum-told2 .given .1) (c .later .ensures)
+    let a = c .before .before .before .before .before .before .before .before .before .before in
+    vals-fault (target-here t a) (c .before .before .before .item-records .ensures) (c .before .enum-told2 .given .1) (c .later .ensures)
 
 target-records-either-requires : (t : ℕ) → target-records-lts.Need-either-requires (target-claims t) (target-records-at t) target-records.Post target-records-Inv-loop target-records-μ-loop
 target-records-either-requires t c κs = search needs
 
 target-records-oid-width-requires : (t : ℕ) → target-records-lts.Need-oid-width-requires (target-claims t) (target-records-at t) target-records.Post target-records-Inv-loop target-records-μ-loop
 target-records-oid-width-requires t c κs =
-    let a = c .before .before .before .before .before .before .before .before .before .before .before in
+    let a = c .before .before .before .before .before .before .before .before in
     target-room (target-here t a) .1
 
 target-records-pack-sizes-requires : (t : ℕ) → target-records-lts.Need-pack-sizes-requires (target-claims t) (target-records-at t) target-records.Post target-records-Inv-loop target-records-μ-loop
 target-records-pack-sizes-requires t c κs =
-    let a = c .before .before .before .before .before .before .before .before .before .before .before .before in
-    (c .oid-width .ensures .1, vals-small (target-here t a) (target-told t (c .before .before .before .before .before .before)) (c .before .before .before .before .w .given .1))
+    let a = c .before .before .before .before .before .before .before .before .before in
+    (c .oid-width .ensures .1, vals-small (target-here t a) (target-told t (c .before .before .before)) refl)
 
 target-records-plus-requires : (t : ℕ) → target-records-lts.Need-plus-requires (target-claims t) (target-records-at t) target-records.Post target-records-Inv-loop target-records-μ-loop
 target-records-plus-requires t c κs =
-    let a = c .before .before .before .before .before .before .before .before .before .before .before .before .before in
-    target-small (target-here t a) (target-told t (c .before .before .before .before .before .before .before)) (c .before .before .before .before .before .w .given .1) (c .before .oid-width .ensures) (c .pack-sizes .ensures)
+    let a = c .before .before .before .before .before .before .before .before .before .before in
+    target-small (target-here t a) (target-told t (c .before .before .before .before)) refl (c .before .oid-width .ensures) (c .pack-sizes .ensures)
 
 target-records-after-requires : (t : ℕ) → target-records-lts.Need-after-requires (target-claims t) (target-records-at t) target-records.Post target-records-Inv-loop target-records-μ-loop
-target-records-after-requires t c κs = c .before .before .before .before .before .before .before .before .before .before .before .before .before .before .before .before .before .before .before .before .loop .inv .1
+target-records-after-requires t c κs = c .before .before .before .before .before .before .before .before .before .before .before .before .before .before .before .before .before .loop .inv .1
 
-target-records-larger-requires : (t : ℕ) → target-records-lts.Need-larger-requires (target-claims t) (target-records-at t) target-records.Post target-records-Inv-loop target-records-μ-loop
-target-records-larger-requires t c κs = search needs
+target-records-higher-requires : (t : ℕ) → target-records-lts.Need-higher-requires (target-claims t) (target-records-at t) target-records.Post target-records-Inv-loop target-records-μ-loop
+target-records-higher-requires t c κs = c .before .before .before .before .before .before .before .before .before .before .before .before .before .before .before .before .before .before .loop .inv .2
 
 target-records-smaller-requires : (t : ℕ) → target-records-lts.Need-smaller-requires (target-claims t) (target-records-at t) target-records.Post target-records-Inv-loop target-records-μ-loop
 target-records-smaller-requires t c κs = search needs
 
 target-records-add-p : (t : ℕ) → target-records-lts.Need-add-p (target-claims t) (target-records-at t) target-records.Post target-records-Inv-loop target-records-μ-loop
 target-records-add-p t c =
-    let a = c .before .before .before .before .before .before .before .before .before .before .before .before .before .before .before .before .before .before in
-    omega (arith, next-room (target-here t a) (target-told t (c .before .before .before .before .before .before .before .before .before .before .before .before)) (c .before .before .before .before .before .before .before .before .before .before .w .given .1), a .before .before .before .before .before .before .before .before .before .pre .1 .1)
+    let a = c .before .before .before .before .before .before .before .before .before .before .before .before .before .before .before in
+    omega (arith, next-room (target-here t a) (target-told t (c .before .before .before .before .before .before .before .before .before)) refl, a .before .before .before .before .before .before .before .before .before .pre .1 .1)
 
 target-records-loop-less : (t : ℕ) → target-records-lts.Need-loop-less (target-claims t) (target-records-at t) target-records.Post target-records-Inv-loop target-records-μ-loop
 target-records-loop-less t c =
-    let a = c .before .before .before .before .before .before .before .before .before .before .before .before .before .before .before .before .before .before in
-    omega (arith, next-room (target-here t a) (target-told t (c .before .before .before .before .before .before .before .before .before .before .before .before)) (c .before .before .before .before .before .before .before .before .before .before .w .given .1), a .before .before .before .before .before .loop-test .taken)
+    let a = c .before .before .before .before .before .before .before .before .before .before .before .before .before .before .before in
+    omega (arith, next-room (target-here t a) (target-told t (c .before .before .before .before .before .before .before .before .before)) refl, a .before .before .before .before .before .loop-test .taken)
 
 target-records-loop-again : (t : ℕ) → target-records-lts.Need-loop-again (target-claims t) (target-records-at t) target-records.Post target-records-Inv-loop target-records-μ-loop
 target-records-loop-again t c =
-    let a = c .before .before .before .before .before .before .before .before .before .before .before .before .before .before .before .before .before .before in
-    (target-more (target-here t a) (target-told t (c .before .before .before .before .before .before .before .before .before .before .before .before)) (c .before .before .before .before .before .before .before .before .before .before .w .given .1) (c .before .before .before .before .before .before .oid-width .ensures) (either-is (a .before .before .before .before .before .before .before .before .before .args .alone) _ (c .before .before .before .before .before .before .before .before .either .ensures)) (c .before .before .before .before .before .before .before .if3 .taken) (c .before .before .before .before .plus .ensures ∙ ap (plusSizes _) (c .before .before .before .before .before .pack-sizes .ensures)) (c .before .before .larger .ensures) (c .before .smaller .ensures), c .before .before .before .after .ensures)
+    let a = c .before .before .before .before .before .before .before .before .before .before .before .before .before .before .before in
+    let u = c .before .before .higher .ensures in
+    (target-more (target-here t a) (target-told t (c .before .before .before .before .before .before .before .before .before)) refl (c .before .before .before .before .before .before .oid-width .ensures) (either-is (a .before .before .before .before .before .before .before .before .before .args .alone) _ (c .before .before .before .before .before .before .before .before .either .ensures)) (c .before .before .before .before .before .before .before .if3 .taken) (c .before .before .before .before .plus .ensures ∙ ap (plusSizes _) (c .before .before .before .before .before .pack-sizes .ensures)) (u .0, u .1) (c .before .smaller .ensures), c .before .before .before .after .ensures, u .2 (target-room (target-here t a) .1))
 
 target-records-returns-4 : (t : ℕ) → target-records-lts.Need-returns-4 (target-claims t) (target-records-at t) target-records.Post target-records-Inv-loop target-records-μ-loop
 target-records-returns-4 t c =
-    let a = c .before .before .before .before .before .before .before .before .before .before .before in
-    no-location (target-here t a) (target-told t (c .before .before .before .before .before)) (c .before .before .before .w .given .1) (either-is (a .before .before .before .before .before .before .before .before .before .args .alone) _ (c .before .either .ensures)) (c .if3 .left) refl
+    let a = c .before .before .before .before .before .before .before .before in
+    no-location (target-here t a) (target-told t (c .before .before)) refl (either-is (a .before .before .before .before .before .before .before .before .before .args .alone) _ (c .before .either .ensures)) (c .if3 .left) refl
 
 target-records-returns-5 : (t : ℕ) → target-records-lts.Need-returns-5 (target-claims t) (target-records-at t) target-records.Post target-records-Inv-loop target-records-μ-loop
 target-records-returns-5 t c = turn-done (c .before .loop .inv .0) (c .loop-test .left)
@@ -406,5 +409,5 @@ pub +item-records+target-records-spec : {M : Type 1} → statement M
     (target-records-run-requires t) (target-records-goes-on-requires t)
     (target-records-item-records-requires t) (target-records-enum-known-w t) (target-records-enum-told-2 t) (target-records-later-requires t)
     (target-records-returns-3 t) (target-records-either-requires t) (target-records-oid-width-requires t) (target-records-pack-sizes-requires t)
-    (target-records-plus-requires t) (target-records-after-requires t) (target-records-larger-requires t) (target-records-smaller-requires t) (target-records-add-p t)
+    (target-records-plus-requires t) (target-records-after-requires t) (target-records-higher-requires t) (target-records-smaller-requires t) (target-records-add-p t)
     (target-records-loop-less t) (target-records-loop-again t) (target-records-returns-4 t) (target-records-returns-5 t))

@@ -6,7 +6,7 @@ ghost use Prim.Native.Nat.{_+_, _*_, _-_, _≤_, _<_};
 ghost use lib.ListN.{length, getD};
 ghost use Rattle.items.specs.Meet.{formOf, itemTable};
 ghost use Rattle.walks.specs.Meet.{noSizes, sizes};
-ghost use Rattle.walks.specs.Going.{LevelGoing, SeriesGoing, quickAt, Begun, Glanced, New, Reached, Plain};
+ghost use Rattle.walks.specs.Going.{LevelGoing, SeriesGoing, quickAt, Begun, Glanced, New, Plain};
 use super::Sizes;
 use heads::Head;
 
@@ -206,40 +206,6 @@ fn passed(p: usize, rows: usize, more: usize, top: u64, low: u64) -> Quick
     stands(p, sizes, false, top, low)
 }
 
-// Whether an id is told to be new, and between what the ids are then. Those before p are not above top or below low.
-pub struct Reach {
-    pub new: bool,
-    pub top: u64,
-    pub low: u64,
-}
-
-// An id above the top or below the low moves that alone, but for the first.
-fn reach_of(p: usize, top: u64, low: u64, key: u64) -> Reach
-    requires { ⌜ (p ≡ 0 → key ≤ low) × (0 < p → low ≤ top) ⌝ }
-    ensures { λ r. ⌜ (r .new ≡ true → Reached p top low key (r .top) (r .low)) ⌝ }
-{
-    if top < key {
-        let low = if p == 0 { key } else { low };
-        return Reach {
-            new: true,
-            top: key,
-            low,
-        };
-    }
-    if low <= key {
-        return Reach {
-            new: false,
-            top,
-            low,
-        };
-    }
-    Reach {
-        new: true,
-        top,
-        low: key,
-    }
-}
-
 // The packs whose length has one byte and whose id has one or two, ids rising or falling, and whose items are all told at a glance, one after
 // another, from a series' start. Of a pack and its items a sheet has four bytes more for each row, and five, but for the id's.
 pub fn packs(table: &[u64], s: &[u8], alone: bool) -> Quick
@@ -262,8 +228,7 @@ pub fn packs(table: &[u64], s: &[u8], alone: bool) -> Quick
         else {
             return passed(p, rows, more, top, low);
         };
-        let to = reach_of(p, top, low, key);
-        if !to.new {
+        if !is_new(p, top, low, key) {
             return passed(p, rows, more, top, low);
         }
         let from = p + width + used;
@@ -278,8 +243,8 @@ pub fn packs(table: &[u64], s: &[u8], alone: bool) -> Quick
         }
         rows = rows + 1 + q.sizes.rows;
         more = more + 5 - used;
-        top = to.top;
-        low = to.low;
+        top = super::larger(top, key);
+        low = super::smaller(low, key);
         p = next;
     }
     passed(p, rows, more, top, low)

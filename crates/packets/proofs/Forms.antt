@@ -21,6 +21,7 @@ use Rattle.walks.specs.Runs.{madeOf}
 use Rattle.walks.proofs.Totals.{body-normal}
 use Rattle.normals.specs.Meet.{seriesFront, packFront}
 use Rattle.packets.specs.Meet.{partNormal, targetNormal, InnerPart, InnerParts}
+use Rattle.packets.specs.Writing.{partBytes}
 
 pub flat-map : {X Y : Type 0} (g : X → Y) (flat : Y → List ℕ) (xs : List X) → flatAll flat (map g xs) ≡ flatAll (λ x. flat (g x)) xs
 unfolding flatAll
@@ -28,11 +29,6 @@ flat-map g flat [] = refl
 flat-map g flat (x ∷ xs) = ap (λ y. flat (g x) ++ y) (flat-map g flat xs)
 
 -- ---- a part
-
--- where the packs of a series take n bytes
-abbrev pub partBytes : ℕ → Part → List ℕ
-partBytes n (one v) = flatItem (itemOf v)
-partBytes n (targets ts) = seriesFront n ++ flatAll targetNormal ts
 
 part-bytes : (n : ℕ) (p : Part) → InnerPart n p → partNormal p ≡ partBytes n p
 unfolding flatEntry entryOf seriesWith seriesFront

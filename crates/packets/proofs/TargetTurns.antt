@@ -26,9 +26,10 @@ use Rattle.stores.proofs.Writing.{each, writing-begins, none-over, writing-over
 use Rattle.stores.proofs.Entries.{ran, ran-ok}
 use Rattle.normals.specs.Meet.{packFront}
 use Rattle.packets.specs.Meet.{usedOf, recordsRun, targetsRun, targetNormal, partNormal, recordsNormal, targetsNormal}
+use Rattle.packets.specs.Writing.{RecordsAsked, RecordsWriting}
 use Rattle.packets.proofs.Steps.{mark-room, TargetHere, target-here, vals-read}
 use Rattle.packets.proofs.Forms.{target-normal, len-some, vals-normal, no-inner}
-use Rattle.packets.proofs.Turns.{RecordsAsked, TargetsAsked}
+use Rattle.packets.proofs.Turns.{TargetsAsked, records-start}
 
 pub record TargetsWriting (f : Form) (s out₀ out : List ℕ) (p k : ℕ) : Type 0 where
   pub writes : Writing (is TG) (λ (_ : Unit {0}). flatAll targetNormal) idOfTarget (targetAt f) (targetsNormal f s) s out₀ out tt p k
@@ -199,12 +200,19 @@ module _ {f : Form} {s out₀ out : List ℕ} {p k : ℕ} (i : TargetAt f s out�
           pub vals-behind : m ≤ length out₂
           vals-behind = head-behind again headed
 
-          pub again-asked : RecordsAsked 0 false f valsLent (length (take (length out₂ - m) (drop m out₂)))
-          again-asked = let a = vals-asked in (a .0, a .1, a .2, a .3, rest-room again headed, a .5)
+          -- the tail behind it
+          abbrev tail : List ℕ
+          tail = take (length out₂ - m) (drop m out₂)
 
-          pub again-more : {v r : ℕ} {o₂ : List ℕ} → (v ≡ usedOf (recordsRun pack f valsLent)) × (r ≡ length normal) × (o₂ ≡ sets (take (length out₂ - m) (drop m out₂)) 0 normal)
+          tail-asked : RecordsAsked 0 false f valsLent (length tail)
+          tail-asked = let a = vals-asked in (a .0, a .1, a .2, a .3, rest-room again headed, a .5)
+
+          pub again-asked : RecordsAsked 0 false f valsLent (length tail) × ((o : List ℕ) × RecordsWriting 0 false f valsLent o tail 0 0)
+          again-asked = (tail-asked, (tail, records-start tail-asked))
+
+          pub again-more : {v r : ℕ} {o₂ : List ℕ} → (v ≡ usedOf (recordsRun pack f valsLent)) × (r ≡ length normal) × ((o : List ℕ) → RecordsWriting 0 false f valsLent o tail 0 0 → o₂ ≡ sets o 0 normal)
               → TargetsWriting f s out₀ (putMid m (length out₂ - m) out₂ o₂) (p + 10 + u) (m + n)
           again-more q =
-              let e = rest-put again headed (q .1, q .2) in
+              let e = rest-put again headed (q .1, q .2 tail (records-start tail-asked)) in
               let one : 1 ≤ lenWidth body = len-some body in
               turned (omega (arith, e .0, q .1, ed .1), e .1 ∙ ap (λ x. sets x k written) early ∙ sets-under out (k + 1 + w) normal k written (omega arith) (omega (arith, whole-long, front-long, one)))

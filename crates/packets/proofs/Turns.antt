@@ -4,7 +4,7 @@ use Prim.Native.Nat.{ℕ, _+_, _-_, _≤_, _<_}
 use native.Mathlib.Omega.{arith}
 use mathlib.Core.Bool.{Bool, true, false}
 use mathlib.Core.List.{List, _++_}
-use lib.ListN.{length, take, drop, length-append, length-drop}
+use lib.ListN.{length, take, drop, getD, length-append, length-drop}
 use lib.Seq.{sets, drop-drop, length-take-le}
 use borrow.Rule.Slice.PartMut.{putMid}
 use Rattle.format.specs.Answer.{ok}
@@ -12,38 +12,29 @@ use Rattle.format.specs.Coding.{Bytes, bytesNumber}
 use Rattle.format.specs.Lists.{flatAll}
 use Rattle.format.specs.Table.{Form}
 use Rattle.format.specs.Packet.{flatItem}
-use Rattle.format.specs.Sheet.{tagOfPart, TS, is}
+use Rattle.format.specs.Sheet.{tagOfPart, TS, TI, is}
 use Rattle.format.specs.Calls.{itemOf}
 use Rattle.format.proofs.words.Bytes.{bytes-drop}
 use Rattle.coding.proofs.Rooms.{tail-part}
 use Rattle.items.specs.Meet.{levelOf}
 use Rattle.walks.specs.Runs.{Ran, madeOf}
 use Rattle.records.specs.Meet.{moreAt, partStep}
-use Rattle.stores.specs.Writing.{Writing}
 use Rattle.records.proofs.Runs.{targets-used}
 use Rattle.stores.proofs.Puts.{Puts, Parted, head-room, head-behind, rest-room, rest-put}
 use Rattle.stores.proofs.Writing.{each, writing-begins, none-over, writing-done, writing-over, Next, next-here, next-room, writing-passes, long}
 use Rattle.stores.proofs.Entries.{ran, ran-ok}
 use Rattle.normals.specs.Meet.{seriesFront}
-use Rattle.packets.specs.Meet.{usedOf, recordsRun, targetsRun, targetNormal, recordsNormal, targetsNormal, InnerParts}
-use Rattle.packets.proofs.Steps.{tagAt, sizeAt, OneHere, one-here, SeriesHere, series-here}
-use Rattle.packets.proofs.Forms.{partBytes, run-bytes}
+use Rattle.packets.specs.Meet.{usedOf, recordsRun, targetsRun, targetNormal, recordsNormal, targetsNormal}
+use Rattle.packets.specs.Writing.{partBytes, RecordsAsked, RecordsWriting, Small}
+use Rattle.packets.proofs.Steps.{tagAt, sizeAt, OneHere, one-here, mark-room, SeriesHere, series-here}
+use Rattle.packets.proofs.Forms.{run-bytes}
+use Rattle.packets.proofs.Smalls.{two-small}
 
 -- what is asked of the targets
 abbrev pub TargetsAsked : Form → List ℕ → ℕ → Type 0
 TargetsAsked f s n = (length s ≤ 65536) × Ran (targetsRun f s) × (length (targetsNormal f s) ≤ n) × (length (targetsNormal f s) ≤ 8192)
 
 -- ---- the records of a level
-
--- what is asked of them
-abbrev pub RecordsAsked : ℕ → Bool → Form → List ℕ → ℕ → Type 0
-RecordsAsked inner b f s n =
-    (length s ≤ 65536) × Ran (recordsRun (levelOf b) f s) × (inner ≤ 65536) × InnerParts inner (recordsRun (levelOf b) f s)
-    × (length (recordsNormal (levelOf b) f s) ≤ n) × (length (recordsNormal (levelOf b) f s) ≤ 8192)
-
-pub record RecordsWriting (inner : ℕ) (b : Bool) (f : Form) (s out₀ out : List ℕ) (p k : ℕ) : Type 0 where
-  pub writes : Writing (moreAt (levelOf b)) (λ (_ : Unit {0}). flatAll (partBytes inner)) tagOfPart (partStep (levelOf b) f) (recordsNormal (levelOf b) f s) s out₀ out tt p k
-  pub passed : p + writes .things .used ≡ usedOf (recordsRun (levelOf b) f s)
 
 module _ {inner : ℕ} {b : Bool} {f : Form} {s out₀ : List ℕ} where
   pub records-start : RecordsAsked inner b f s (length out₀) → RecordsWriting inner b f s out₀ out₀ 0 0
@@ -55,6 +46,13 @@ module _ {inner : ℕ} {b : Bool} {f : Form} {s out₀ : List ℕ} where
       record { writes = w; passed = omega (arith, u, ap usedOf e) }
 
   module _ {out : List ℕ} {p k : ℕ} (g : RecordsWriting inner b f s out₀ out p k) where
+    -- what is asked of what was lent first is asked of what it is by now, and back
+    pub asked-now : RecordsAsked inner b f s (length out₀) → RecordsAsked inner b f s (length out)
+    asked-now a = (a .0, a .1, a .2, a .3, omega (arith, a .4, g .writes .same), a .5)
+
+    pub asked-first : RecordsAsked inner b f s (length out) → RecordsAsked inner b f s (length out₀)
+    asked-first a = (a .0, a .1, a .2, a .3, omega (arith, a .4, g .writes .same), a .5)
+
     pub records-done : length s ≤ p → (k ≡ length (recordsNormal (levelOf b) f s)) × (out ≡ sets out₀ 0 (recordsNormal (levelOf b) f s))
     records-done h = writing-done (each (partBytes inner)) _ _ _ _ _ _ (g .writes) h
 
@@ -73,6 +71,11 @@ pub record RecordAt (inner : ℕ) (b : Bool) (f : Form) (s out₀ out : List ℕ
   pub more : moreAt (levelOf b) (drop p s) ≡ true
   pub bytes : Bytes s
   pub asked : RecordsAsked inner b f s (length out₀)
+
+-- a record of a target does, where its mark was seen
+pub val-here : {f : Form} {s out₀ out : List ℕ} {p k : ℕ} → RecordsWriting 0 false f s out₀ out p k → is TI (drop p s) ≡ true → Bytes s → RecordsAsked 0 false f s (length out₀)
+    → RecordAt 0 false f s out₀ out p k
+val-here {s = s} {p = p} g m h a = record { going = g; here = omega (arith, mark-room TI (drop p s) m, length-drop p s); more = m; bytes = h; asked = a }
 
 module _ {inner : ℕ} {b : Bool} {f : Form} {s out₀ out : List ℕ} {p k : ℕ} (i : RecordAt inner b f s out₀ out p k) where
   part : Next (each (partBytes inner)) _ _ _ _ _ _ (i .going .writes)
@@ -129,15 +132,35 @@ module _ {inner : ℕ} {b : Bool} {f : Form} {s out₀ out : List ℕ} {p k : �
       item-stored = ap (partBytes inner) (item .it-is) ∙ ap (λ v. flatItem (itemOf (record { tag = tagAt (drop p s); value = v }))) (sym value-is)
           ∙ ap (λ t. flatItem (itemOf (record { tag = t; value = value }))) tag-is
 
+      pub value-long : length value ≡ n
+      value-long = length-take-le (p + 6 + n - (p + 6)) (drop (p + 6) s) (rw length-drop (omega (arith, item-room))) ∙ omega arith
+
       pub item-asked : (tag ≤ 16383) × (length value ≤ 65536) × (k + length coded ≤ length out)
       item-asked = (
         omega (arith, item .tag-small, tag-is),
-        omega (arith, length-take-le (p + 6 + n - (p + 6)) (drop (p + 6) s) (rw length-drop (omega (arith, item-room))), item-room),
+        omega (arith, value-long, item-room),
         omega (arith, ap length item-stored, stored-fits),
       )
 
       pub item-more : {k′ : ℕ} {out′ : List ℕ} → Puts out k coded k′ out′ → RecordsWriting inner b f s out₀ out′ (p + 6 + n) k′
       item-more e = stored-more (omega (arith, item .used-is, size-is)) (omega arith) (item-room .1) (rw item-stored e)
+
+    -- they have a byte each
+    module _ (m : Small s p) {n : ℕ} (e : n ≡ getD s (p + 5) 0) where
+      pub tag-small : getD s (p + 3) 0 ≡ bytesNumber (take 2 (drop (p + 2) s))
+      tag-small = two-small s (p + 2) (omega arith) (omega (arith, fields-room)) (m .tag-high)
+
+      pub size-small : n ≡ bytesNumber (take 2 (drop (p + 4) s))
+      size-small = e ∙ two-small s (p + 4) (omega arith) (omega (arith, fields-room)) (m .size-high)
+
+      pub small-room : (p + 6 ≤ p + 6 + n) × (p + 6 + n ≤ length s) × (length s ≤ 65536)
+      small-room = item-room tag-small size-small
+
+      pub small-asked : (getD s (p + 3) 0 < 128) × (length (value tag-small size-small) < 128) × (k + length (coded tag-small size-small) ≤ length out)
+      small-asked = (m .tag-low, omega (arith, value-long tag-small size-small, e, m .size-low), item-asked tag-small size-small .2)
+
+      pub small-more : {k′ : ℕ} {out′ : List ℕ} → Puts out k (coded tag-small size-small) k′ out′ → RecordsWriting inner b f s out₀ out′ (p + 6 + n) k′
+      small-more = item-more tag-small size-small
 
   -- ---- the series
 

@@ -1,6 +1,8 @@
 // The entries of a packet's set in normal form, written into a lent output from a sheet that was checked, record by record.
 ghost use mathlib.Core.Path.{_≡_};
-ghost use Prim.Native.Nat.{_+_, _-_, _≤_};
+ghost use Prim.Native.Nat.{ℕ, _+_, _≤_, _<_};
+ghost use mathlib.Core.Bool.{true, false};
+ghost use mathlib.Core.List.{List};
 ghost use lib.ListN.{length, take, drop};
 ghost use lib.Seq.{sets};
 ghost use Rattle.items.specs.Meet.{formOf, levelOf};
@@ -10,6 +12,7 @@ ghost use Rattle.format.specs.Table.{pack};
 ghost use Rattle.format.specs.Packet.{flatItem};
 ghost use Rattle.format.specs.Calls.{itemOf};
 ghost use Rattle.packets.specs.Meet.{usedOf, recordsRun, targetsRun, recordsNormal, targetsNormal, InnerParts};
+ghost use Rattle.packets.specs.Writing.{RecordsAsked, RecordsWriting, Small};
 use stores::Passed;
 
 // The number of two bytes at p, as a record's tag and its value's length are.
@@ -20,25 +23,55 @@ fn two_at(s: &[u8], p: usize) -> u64
     coding::number_of(&s[p..], 2)
 }
 
-// The item of a tag whose value is the bytes from `from` to `to`; where it ends. Most tags and lengths have one byte: what is left is kept
-// out of the loop over a target's records.
-fn put_val(s: &[u8], from: usize, to: usize, tag: u64, out: &mut [u8], at: usize) -> usize
-    requires { ⌜ (from ≤ to) × (to ≤ length (now s)) × ((tag ≤ 16383) × (length (take (to - from) (drop from (now s))) ≤ 65536) × (at + length (flatItem (itemOf (record { tag = tag; value = take (to - from) (drop from (now s)) }))) ≤ length (now out))) ⌝ }
-    ensures { λ r. ⌜ (r ≡ at + length (flatItem (itemOf (record { tag = tag; value = take (to - from) (drop from (now (s .entry))) })))) × (now (out .exit) ≡ sets (now (out .entry)) at (flatItem (itemOf (record { tag = tag; value = take (to - from) (drop from (now (s .entry))) })))) ⌝ }
+// Whether the tag and the value's length of the record at p have a byte each, below 128, as most have. In one number the four bytes are read
+// and tested at once.
+fn is_small(s: &[u8], p: usize) -> bool
+    requires { ⌜ p + 6 ≤ length (now s) ⌝ }
+    ensures { λ r. ⌜ (r ≡ true → Small (now (s .entry)) p) ⌝ }
 {
-    if 127 < tag {
-        return stores::coded::put_short(out, at, tag, &s[from..to]);
-    }
-    if 127 < to - from {
-        return stores::coded::put_short(out, at, tag, &s[from..to]);
-    }
-    out[at] = tag as u8;
-    let a = at + 1;
-    out[a] = (to - from) as u8;
-    stores::copy(out, a + 1, &s[from..to])
+    let a = coding::wide(s[p + 2]);
+    let b = coding::wide(s[p + 3]);
+    let c = coding::wide(s[p + 4]);
+    let d = coding::wide(s[p + 5]);
+    (a + 256 * b + 65536 * c + 16777216 * d) & 0x80ff80ff == 0
 }
 
-// The records of a target.
+// The item of such a record; where it ends. Most values have one byte, for which `copy` costs more than it stores.
+fn put_small(out: &mut [u8], at: usize, tag: u8, v: &[u8]) -> usize
+    requires { ⌜ (tag < 128) × (length (now v) < 128) × (at + length (flatItem (itemOf (record { tag = tag; value = now v }))) ≤ length (now out)) ⌝ }
+    ensures { λ r. ⌜ (r ≡ at + length (flatItem (itemOf (record { tag = tag; value = now (v .entry) })))) × (now (out .exit) ≡ sets (now (out .entry)) at (flatItem (itemOf (record { tag = tag; value = now (v .entry) })))) ⌝ }
+{
+    out[at] = tag;
+    let a = at + 1;
+    out[a] = v.len() as u8;
+    let b = a + 1;
+    if v.len() == 1 {
+        out[b] = v[0];
+        return b + 1;
+    }
+    stores::copy(out, b, v)
+}
+
+// The records of a target from a place on, where at bytes are written for those before it.
+fn rest_vals(s: &[u8], from: usize, at: usize, alone: bool, out: &mut [u8]) -> Passed
+    requires { ⌜ RecordsAsked 0 false (formOf alone) (now s) (length (now out)) × ((o : List ℕ) × RecordsWriting 0 false (formOf alone) (now s) o (now out) from at) ⌝ }
+    ensures { λ r. ⌜ (r .used ≡ usedOf (recordsRun pack (formOf alone) (now (s .entry)))) × (r .wrote ≡ length (recordsNormal pack (formOf alone) (now (s .entry)))) × ((o : List ℕ) → RecordsWriting 0 false (formOf alone) (now (s .entry)) o (now (out .entry)) from at → now (out .exit) ≡ sets o 0 (recordsNormal pack (formOf alone) (now (s .entry)))) ⌝ }
+{
+    let mut p = from;
+    let mut k = at;
+    loop {
+        if !heads::records::is_mark(s, p, b'T', b'I') {
+            return Passed { used: p, wrote: k };
+        }
+        let tag = two_at(s, p + 2);
+        let n = two_at(s, p + 4);
+        let next = p + 6 + n as usize;
+        k = stores::coded::put_short(out, k, tag, &s[p + 6..next]);
+        p = next;
+    }
+}
+
+// The records of a target, the small ones one after another: what stops them is left to the rest, which is kept out of the loop over the targets.
 fn put_vals(s: &[u8], alone: bool, out: &mut [u8]) -> Passed
     requires { ⌜ (length (now s) ≤ 65536) × Ran (recordsRun pack (formOf alone) (now s)) × (0 ≤ 65536) × InnerParts 0 (recordsRun pack (formOf alone) (now s)) × (length (recordsNormal pack (formOf alone) (now s)) ≤ length (now out)) × (length (recordsNormal pack (formOf alone) (now s)) ≤ 8192) ⌝ }
     ensures { λ r. ⌜ (r .used ≡ usedOf (recordsRun pack (formOf alone) (now (s .entry)))) × (r .wrote ≡ length (recordsNormal pack (formOf alone) (now (s .entry)))) × (now (out .exit) ≡ sets (now (out .entry)) 0 (recordsNormal pack (formOf alone) (now (s .entry)))) ⌝ }
@@ -49,10 +82,12 @@ fn put_vals(s: &[u8], alone: bool, out: &mut [u8]) -> Passed
         if !heads::records::is_mark(s, p, b'T', b'I') {
             return Passed { used: p, wrote: k };
         }
-        let tag = two_at(s, p + 2);
-        let n = two_at(s, p + 4);
+        if !is_small(s, p) {
+            return rest_vals(s, p, k, alone, out);
+        }
+        let n = coding::wide(s[p + 5]);
         let next = p + 6 + n as usize;
-        k = put_val(s, p + 6, next, tag, out, k);
+        k = put_small(out, k, s[p + 3], &s[p + 6..next]);
         p = next;
     }
 }
@@ -105,7 +140,7 @@ fn target_packet(s: &[u8], alone: bool, out: &mut [u8]) -> Passed
         let body = w + d.wrote;
         let m = normals::put_pack(out, k, body, id);
         if 127 < body {
-            put_vals(&s[from..], alone, &mut out[m..]);
+            rest_vals(&s[from..], 0, 0, alone, &mut out[m..]);
         }
         k = m + d.wrote;
         p = next;

@@ -6,7 +6,8 @@ use lib.ListN.{length}
 use borrow.Author.Needs.{needs}
 use borrow.Author.Tests.{not-true, not-false}
 use Rattle.items.specs.Meet.{formOf}
-use Rattle.packets.proofs.Turns.{RecordsWriting, records-start, records-done, records-over, RecordAt, fields-room, item-room, item-asked, item-more, series-room, head-asked, series-behind, series-asked, series-next, series-more}
+use Rattle.packets.specs.Writing.{RecordsWriting}
+use Rattle.packets.proofs.Turns.{records-start, records-done, records-over, RecordAt, fields-room, item-room, item-asked, item-more, series-room, head-asked, series-behind, series-asked, series-next, series-more}
 use Rattle.packets.proofs.item_packet.Statement.{statement}
 use Rattle.packets.proofs.item_packet.Tie as tie
 use Rattle.packets.proofs.item_packet.Reads as reads

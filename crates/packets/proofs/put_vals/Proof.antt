@@ -1,22 +1,26 @@
 -- `packets::put_vals` meets its contract: each turn stores what one record of a target is in the packet.
-use mathlib.Core.Path.{_≡_, sym, _∙_}
+use mathlib.Core.Path.{_≡_, sym, ap, _∙_}
 use Prim.Native.Nat.{_-_}
 use native.Mathlib.Omega.{arith}
 use mathlib.Core.Bool.{true, false}
-use lib.ListN.{length, drop, length-drop}
+use lib.ListN.{length, drop}
+use lib.Seq.{length-sets}
 use borrow.Author.Needs.{needs}
 use borrow.Author.Tests.{not-true, not-false}
 use Rattle.format.specs.Sheet.{TS, TI, is}
 use Rattle.items.specs.Meet.{formOf}
-use Rattle.packets.proofs.Steps.{mark-room, ti-no-ts}
-use Rattle.packets.proofs.Turns.{RecordsWriting, records-start, records-over, records-passed, RecordAt, fields-room, item-room, item-asked, item-more}
+use Rattle.packets.specs.Writing.{RecordsWriting, Small}
+use Rattle.packets.proofs.Steps.{ti-no-ts}
+use Rattle.packets.proofs.Turns.{asked-now, records-start, records-over, records-passed, RecordAt, val-here, fields-room, small-room, small-asked, small-more}
 use Rattle.packets.proofs.put_vals.Statement.{statement}
 use Rattle.packets.proofs.put_vals.Tie as tie
 use Rattle.packets.proofs.put_vals.Reads as reads
 use Rattle.packets.proofs.put_vals.Lts as lts
+use Rattle.coding.proofs.wide.Reads as wide-reads
 use Rattle.heads.proofs.records.is_mark.Reads as is-mark-reads
-use Rattle.packets.proofs.put_val.Reads as put-val-reads
-use Rattle.packets.proofs.two_at.Reads as two-at-reads
+use Rattle.packets.proofs.is_small.Reads as is-small-reads
+use Rattle.packets.proofs.put_small.Reads as put-small-reads
+use Rattle.packets.proofs.rest_vals.Reads as rest-vals-reads
 
 abbrev Inv-loop : tie.InvT-loop
 Inv-loop s alone out₀ p₀ k₀ out p k = RecordsWriting 0 false (formOf alone) s out₀ out p k
@@ -25,21 +29,18 @@ abbrev μ-loop : tie.MeasureT-loop
 μ-loop s alone out₀ p₀ k₀ out p k = length s - p
 
 -- a `TI` stands there, and no `TS`
-marked : (a : lts.Else1 (is-mark-reads.Asked, is-mark-reads.Learnt, two-at-reads.Asked, two-at-reads.Learnt, put-val-reads.Asked, put-val-reads.Learnt) reads.Pre reads.Post Inv-loop μ-loop) → is TI (drop (a .before .before .loop .p) (a .before .before .before .before .before .args .s .now)) ≡ true
+marked : (a : lts.Else1 (is-mark-reads.Asked, is-mark-reads.Learnt, is-small-reads.Asked, is-small-reads.Learnt, rest-vals-reads.Asked, rest-vals-reads.Learnt, wide-reads.Asked, wide-reads.Learnt, put-small-reads.Asked, put-small-reads.Learnt) reads.Pre reads.Post Inv-loop μ-loop) → is TI (drop (a .before .before .loop .p) (a .before .before .before .before .before .args .s .now)) ≡ true
 marked a = sym (a .before .is-mark .ensures) ∙ not-false _ (a .if1 .left)
 
-no-series : (a : lts.Else1 (is-mark-reads.Asked, is-mark-reads.Learnt, two-at-reads.Asked, two-at-reads.Learnt, put-val-reads.Asked, put-val-reads.Learnt) reads.Pre reads.Post Inv-loop μ-loop) → is TS (drop (a .before .before .loop .p) (a .before .before .before .before .before .args .s .now)) ≡ false
+no-series : (a : lts.Else1 (is-mark-reads.Asked, is-mark-reads.Learnt, is-small-reads.Asked, is-small-reads.Learnt, rest-vals-reads.Asked, rest-vals-reads.Learnt, wide-reads.Asked, wide-reads.Learnt, put-small-reads.Asked, put-small-reads.Learnt) reads.Pre reads.Post Inv-loop μ-loop) → is TS (drop (a .before .before .loop .p) (a .before .before .before .before .before .args .s .now)) ≡ false
 no-series a = ti-no-ts (drop (a .before .before .loop .p) (a .before .before .before .before .before .args .s .now)) (marked a)
 
-here : (a : lts.Else1 (is-mark-reads.Asked, is-mark-reads.Learnt, two-at-reads.Asked, two-at-reads.Learnt, put-val-reads.Asked, put-val-reads.Learnt) reads.Pre reads.Post Inv-loop μ-loop)
+here : (a : lts.Else1 (is-mark-reads.Asked, is-mark-reads.Learnt, is-small-reads.Asked, is-small-reads.Learnt, rest-vals-reads.Asked, rest-vals-reads.Learnt, wide-reads.Asked, wide-reads.Learnt, put-small-reads.Asked, put-small-reads.Learnt) reads.Pre reads.Post Inv-loop μ-loop)
     → RecordAt 0 false (formOf (a .before .before .before .before .before .args .alone)) (a .before .before .before .before .before .args .s .now) (a .before .before .before .before .before .args .out .now) (a .before .before .loop .out) (a .before .before .loop .p) (a .before .before .loop .k)
-here a = record {
-  going = a .before .before .loop .inv;
-  here = omega (arith, mark-room TI (drop (a .before .before .loop .p) (a .before .before .before .before .before .args .s .now)) (marked a), length-drop (a .before .before .loop .p) (a .before .before .before .before .before .args .s .now));
-  more = marked a;
-  bytes = λ i. a .before .before .before .before .shared-slice-known .given i .fits;
-  asked = a .before .before .before .before .before .pre;
-}
+here a = val-here (a .before .before .loop .inv) (marked a) (λ i. a .before .before .before .before .shared-slice-known .given i .fits) (a .before .before .before .before .before .pre)
+
+small : (a : lts.Else2 (is-mark-reads.Asked, is-mark-reads.Learnt, is-small-reads.Asked, is-small-reads.Learnt, rest-vals-reads.Asked, rest-vals-reads.Learnt, wide-reads.Asked, wide-reads.Learnt, put-small-reads.Asked, put-small-reads.Learnt) reads.Pre reads.Post Inv-loop μ-loop) → Small (a .before .before .before .before .before .before .before .args .s .now) (a .before .before .before .before .loop .p)
+small a = a .before .is-small .ensures (not-false _ (a .if2 .left))
 
 loop-holds : tie.Need-loop-holds Inv-loop μ-loop
 loop-holds c = records-start (c .before .before .pre)
@@ -56,37 +57,59 @@ returns c =
     let g = c .before .before .loop .inv in
     (records-passed g m, records-over g m .0, records-over g m .1)
 
-add-two-at : tie.Need-add-two-at Inv-loop μ-loop
-add-two-at c = omega (arith, fields-room (here c) (no-series c))
+is-small-requires : tie.Need-is-small-requires Inv-loop μ-loop
+is-small-requires c κs = omega (arith, fields-room (here c) (no-series c))
 
-two-at-requires : tie.Need-two-at-requires Inv-loop μ-loop
-two-at-requires c κs = omega (arith, fields-room (here c) (no-series c))
+rest-vals-requires : tie.Need-rest-vals-requires Inv-loop μ-loop
+rest-vals-requires c κs = (asked-now (c .before .before .before .before .before .loop .inv) (c .before .before .before .before .before .before .before .before .pre), (c .before .before .before .before .before .before .before .before .args .out .now, c .before .before .before .before .before .loop .inv))
 
-add-two-at-2 : tie.Need-add-two-at-2 Inv-loop μ-loop
-add-two-at-2 c = omega (arith, fields-room (here (c .before)) (no-series (c .before)))
+same-length-2 : tie.Need-same-length-2 Inv-loop μ-loop
+same-length-2 c = ap length (c .before .before .rest-vals .ensures .2 _ (c .before .before .before .before .before .before .before .before .loop .inv)) ∙ simp length-sets
 
-two-at-requires-2 : tie.Need-two-at-requires-2 Inv-loop μ-loop
-two-at-requires-2 c κs = omega (arith, fields-room (here (c .before)) (no-series (c .before)))
+returns-2 : tie.Need-returns-2 Inv-loop μ-loop
+returns-2 c = let e = c .before .before .rest-vals .ensures in (e .0, e .1, e .2 _ (c .before .before .before .before .before .before .before .before .loop .inv))
+
+add-wide : tie.Need-add-wide Inv-loop μ-loop
+add-wide c = omega (arith, fields-room (here (c .before .before)) (no-series (c .before .before)))
+
+shared-slice-read-wide : tie.Need-shared-slice-read-wide Inv-loop μ-loop
+shared-slice-read-wide c = omega (arith, fields-room (here (c .before .before .before)) (no-series (c .before .before .before)))
+
+wide-requires : tie.Need-wide-requires Inv-loop μ-loop
+wide-requires c κs = search needs
 
 add-next : tie.Need-add-next Inv-loop μ-loop
-add-next c = omega (arith, item-room (here (c .before .before)) (no-series (c .before .before)) (c .before .two-at .ensures) (c .two-at2 .ensures))
+add-next c = omega (arith, small-room (here (c .before .before .before .before)) (no-series (c .before .before .before .before)) (small (c .before .before)) (c .wide .ensures .0))
 
 add-next-2 : tie.Need-add-next-2 Inv-loop μ-loop
-add-next-2 c = omega (arith, item-room (here (c .before .before)) (no-series (c .before .before)) (c .before .two-at .ensures) (c .two-at2 .ensures))
+add-next-2 c = omega (arith, small-room (here (c .before .before .before .before)) (no-series (c .before .before .before .before)) (small (c .before .before)) (c .wide .ensures .0))
 
-add-put-val : tie.Need-add-put-val Inv-loop μ-loop
-add-put-val c = omega (arith, item-room (here (c .before .before)) (no-series (c .before .before)) (c .before .two-at .ensures) (c .two-at2 .ensures))
+add-put-small : tie.Need-add-put-small Inv-loop μ-loop
+add-put-small c = omega (arith, small-room (here (c .before .before .before .before .before)) (no-series (c .before .before .before .before .before)) (small (c .before .before .before)) (c .before .wide .ensures .0))
 
-put-val-requires : tie.Need-put-val-requires Inv-loop μ-loop
-put-val-requires c κs =
-    let r = item-room (here (c .before .before .before)) (no-series (c .before .before .before)) (c .before .before .two-at .ensures) (c .before .two-at2 .ensures) in
-    (r .0, r .1, item-asked (here (c .before .before .before)) (no-series (c .before .before .before)) (c .before .before .two-at .ensures) (c .before .two-at2 .ensures))
+shared-slice-read-put-small : tie.Need-shared-slice-read-put-small Inv-loop μ-loop
+shared-slice-read-put-small c = omega (arith, small-room (here (c .before .before .before .before .before .before)) (no-series (c .before .before .before .before .before .before)) (small (c .before .before .before .before)) (c .before .before .wide .ensures .0))
+
+add-put-small-2 : tie.Need-add-put-small-2 Inv-loop μ-loop
+add-put-small-2 c = omega (arith, small-room (here (c .before .before .before .before .before .before)) (no-series (c .before .before .before .before .before .before)) (small (c .before .before .before .before)) (c .before .before .wide .ensures .0))
+
+sub-put-small : tie.Need-sub-put-small Inv-loop μ-loop
+sub-put-small c = omega (arith, small-room (here (c .before .before .before .before .before .before)) (no-series (c .before .before .before .before .before .before)) (small (c .before .before .before .before)) (c .before .before .wide .ensures .0))
+
+part-put-small-start : tie.Need-part-put-small-start Inv-loop μ-loop
+part-put-small-start c = omega (arith, small-room (here (c .before .before .before .before .before .before)) (no-series (c .before .before .before .before .before .before)) (small (c .before .before .before .before)) (c .before .before .wide .ensures .0))
+
+part-put-small-end : tie.Need-part-put-small-end Inv-loop μ-loop
+part-put-small-end c = omega (arith, small-room (here (c .before .before .before .before .before .before)) (no-series (c .before .before .before .before .before .before)) (small (c .before .before .before .before)) (c .before .before .wide .ensures .0))
+
+put-small-requires : tie.Need-put-small-requires Inv-loop μ-loop
+put-small-requires c κs = small-asked (here (c .before .before .before .before .before .before .before)) (no-series (c .before .before .before .before .before .before .before)) (small (c .before .before .before .before .before)) (c .before .before .before .wide .ensures .0)
 
 loop-less : tie.Need-loop-less Inv-loop μ-loop
-loop-less c = omega (arith, item-room (here (c .before .before .before .before .before .before)) (no-series (c .before .before .before .before .before .before)) (c .before .before .before .before .before .two-at .ensures) (c .before .before .before .before .two-at2 .ensures))
+loop-less c = omega (arith, small-room (here (c .before .before .before .before .before .before .before .before .before .before)) (no-series (c .before .before .before .before .before .before .before .before .before .before)) (small (c .before .before .before .before .before .before .before .before)) (c .before .before .before .before .before .before .wide .ensures .0))
 
 loop-again : tie.Need-loop-again Inv-loop μ-loop
-loop-again c = item-more (here (c .before .before .before .before .before .before)) (no-series (c .before .before .before .before .before .before)) (c .before .before .before .before .before .two-at .ensures) (c .before .before .before .before .two-at2 .ensures) (c .before .before .put-val .ensures)
+loop-again c = small-more (here (c .before .before .before .before .before .before .before .before .before .before)) (no-series (c .before .before .before .before .before .before .before .before .before .before)) (small (c .before .before .before .before .before .before .before .before)) (c .before .before .before .before .before .before .wide .ensures .0) (c .before .before .put-small .ensures)
 
 pub put-vals-spec : {M : Type 1} → statement M
 put-vals-spec =
@@ -98,13 +121,21 @@ put-vals-spec =
     is-mark-requires
     same-length
     returns
-    add-two-at
-    two-at-requires
-    add-two-at-2
-    two-at-requires-2
+    is-small-requires
+    rest-vals-requires
+    same-length-2
+    returns-2
+    add-wide
+    shared-slice-read-wide
+    wide-requires
     add-next
     add-next-2
-    add-put-val
-    put-val-requires
+    add-put-small
+    shared-slice-read-put-small
+    add-put-small-2
+    sub-put-small
+    part-put-small-start
+    part-put-small-end
+    put-small-requires
     loop-less
     loop-again)

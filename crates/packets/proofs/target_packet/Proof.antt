@@ -17,6 +17,7 @@ use Rattle.coding.proofs.widths.oid_width.Reads as oid-width-reads
 use Rattle.heads.proofs.records.is_mark.Reads as is-mark-reads
 use Rattle.normals.proofs.put_pack.Reads as put-pack-reads
 use Rattle.packets.proofs.put_vals.Reads as put-vals-reads
+use Rattle.packets.proofs.rest_vals.Reads as rest-vals-reads
 
 abbrev Inv-loop : tie.InvT-loop
 Inv-loop s alone out₀ p₀ k₀ out p k = TargetsWriting (formOf alone) s out₀ out p k
@@ -25,7 +26,7 @@ abbrev μ-loop : tie.MeasureT-loop
 μ-loop s alone out₀ p₀ k₀ out p k = length s - p
 
 -- the target whose mark was seen
-target-at : (a : lts.Else1 (is-mark-reads.Asked, is-mark-reads.Learnt, number-of-reads.Asked, number-of-reads.Learnt, oid-width-reads.Asked, oid-width-reads.Learnt, put-vals-reads.Asked, put-vals-reads.Learnt, put-pack-reads.Asked, put-pack-reads.Learnt) reads.Pre reads.Post Inv-loop μ-loop)
+target-at : (a : lts.Else1 (is-mark-reads.Asked, is-mark-reads.Learnt, number-of-reads.Asked, number-of-reads.Learnt, oid-width-reads.Asked, oid-width-reads.Learnt, put-vals-reads.Asked, put-vals-reads.Learnt, put-pack-reads.Asked, put-pack-reads.Learnt, rest-vals-reads.Asked, rest-vals-reads.Learnt) reads.Pre reads.Post Inv-loop μ-loop)
     → TargetAt (formOf (a .before .before .before .before .before .args .alone)) (a .before .before .before .before .before .args .s .now) (a .before .before .before .before .before .args .out .now) (a .before .before .loop .out) (a .before .before .loop .p) (a .before .before .loop .k)
 target-at a = record {
   going = a .before .before .loop .inv;
@@ -103,26 +104,26 @@ add-body c = omega (arith, body-few (target-at (c .before .before .before .befor
 put-pack-requires : tie.Need-put-pack-requires Inv-loop μ-loop
 put-pack-requires c κs = pack-asked (target-at (c .before .before .before .before .before .before .before .before .before .before .before)) (c .before .before .before .before .before .before .before .before .before .number-of .ensures) (c .before .before .before .before .before .before .before .before .oid-width .ensures) (c .before .before .before .before .before .put-vals .ensures)
 
-sub-put-vals-3 : tie.Need-sub-put-vals-3 Inv-loop μ-loop
-sub-put-vals-3 c = omega (arith, target-room (target-at (c .before .before .before .before .before .before .before .before .before .before .before .before .before .before .before)))
+sub-rest-vals : tie.Need-sub-rest-vals Inv-loop μ-loop
+sub-rest-vals c = omega (arith, target-room (target-at (c .before .before .before .before .before .before .before .before .before .before .before .before .before .before .before)))
 
-part-put-vals-start-3 : tie.Need-part-put-vals-start-3 Inv-loop μ-loop
-part-put-vals-start-3 c = omega (arith, target-room (target-at (c .before .before .before .before .before .before .before .before .before .before .before .before .before .before .before)))
+part-rest-vals-start : tie.Need-part-rest-vals-start Inv-loop μ-loop
+part-rest-vals-start c = omega (arith, target-room (target-at (c .before .before .before .before .before .before .before .before .before .before .before .before .before .before .before)))
 
-part-put-vals-end-3 : tie.Need-part-put-vals-end-3 Inv-loop μ-loop
-part-put-vals-end-3 c = omega (arith, target-room (target-at (c .before .before .before .before .before .before .before .before .before .before .before .before .before .before .before)))
+part-rest-vals-end : tie.Need-part-rest-vals-end Inv-loop μ-loop
+part-rest-vals-end c = omega (arith, target-room (target-at (c .before .before .before .before .before .before .before .before .before .before .before .before .before .before .before)))
 
-sub-put-vals-4 : tie.Need-sub-put-vals-4 Inv-loop μ-loop
-sub-put-vals-4 c = vals-behind (target-at (c .before .before .before .before .before .before .before .before .before .before .before .before .before .before .before .before)) (c .before .before .before .before .before .before .before .before .before .before .before .before .before .before .number-of .ensures) (c .before .before .before .before .before .before .before .before .before .before .before .before .before .oid-width .ensures) (c .before .before .before .before .before .before .before .before .before .before .put-vals .ensures) (c .before .before .before .before .put-pack .ensures)
+sub-rest-vals-2 : tie.Need-sub-rest-vals-2 Inv-loop μ-loop
+sub-rest-vals-2 c = vals-behind (target-at (c .before .before .before .before .before .before .before .before .before .before .before .before .before .before .before .before)) (c .before .before .before .before .before .before .before .before .before .before .before .before .before .before .number-of .ensures) (c .before .before .before .before .before .before .before .before .before .before .before .before .before .oid-width .ensures) (c .before .before .before .before .before .before .before .before .before .before .put-vals .ensures) (c .before .before .before .before .put-pack .ensures)
 
-part-put-vals-start-4 : tie.Need-part-put-vals-start-4 Inv-loop μ-loop
-part-put-vals-start-4 c = vals-behind (target-at (c .before .before .before .before .before .before .before .before .before .before .before .before .before .before .before .before)) (c .before .before .before .before .before .before .before .before .before .before .before .before .before .before .number-of .ensures) (c .before .before .before .before .before .before .before .before .before .before .before .before .before .oid-width .ensures) (c .before .before .before .before .before .before .before .before .before .before .put-vals .ensures) (c .before .before .before .before .put-pack .ensures)
+part-rest-vals-start-2 : tie.Need-part-rest-vals-start-2 Inv-loop μ-loop
+part-rest-vals-start-2 c = vals-behind (target-at (c .before .before .before .before .before .before .before .before .before .before .before .before .before .before .before .before)) (c .before .before .before .before .before .before .before .before .before .before .before .before .before .before .number-of .ensures) (c .before .before .before .before .before .before .before .before .before .before .before .before .before .oid-width .ensures) (c .before .before .before .before .before .before .before .before .before .before .put-vals .ensures) (c .before .before .before .before .put-pack .ensures)
 
-part-put-vals-end-4 : tie.Need-part-put-vals-end-4 Inv-loop μ-loop
-part-put-vals-end-4 c = search needs
+part-rest-vals-end-2 : tie.Need-part-rest-vals-end-2 Inv-loop μ-loop
+part-rest-vals-end-2 c = search needs
 
-put-vals-requires-2 : tie.Need-put-vals-requires-2 Inv-loop μ-loop
-put-vals-requires-2 c κs = again-asked (target-at (c .before .before .before .before .before .before .before .before .before .before .before .before .before .before .before .before .before)) (c .before .before .before .before .before .before .before .before .before .before .before .before .before .before .before .number-of .ensures) (c .before .before .before .before .before .before .before .before .before .before .before .before .before .before .oid-width .ensures) (c .before .before .before .before .before .before .before .before .before .before .before .put-vals .ensures) (c .before .before .before .before .before .put-pack .ensures)
+rest-vals-requires : tie.Need-rest-vals-requires Inv-loop μ-loop
+rest-vals-requires c κs = again-asked (target-at (c .before .before .before .before .before .before .before .before .before .before .before .before .before .before .before .before .before)) (c .before .before .before .before .before .before .before .before .before .before .before .before .before .before .before .number-of .ensures) (c .before .before .before .before .before .before .before .before .before .before .before .before .before .before .oid-width .ensures) (c .before .before .before .before .before .before .before .before .before .before .before .put-vals .ensures) (c .before .before .before .before .before .put-pack .ensures)
 
 add-k : tie.Need-add-k Inv-loop μ-loop
 add-k c = omega (arith, ends-few (target-at (c .before .before .before .before .before .before .before .before .before .before .before .before .before .before .before .before)) (c .before .before .before .before .before .before .before .before .before .before .before .before .before .before .number-of .ensures) (c .before .before .before .before .before .before .before .before .before .before .before .before .before .oid-width .ensures) (c .before .before .before .before .before .before .before .before .before .before .put-vals .ensures) (c .before .before .before .before .put-pack .ensures))
@@ -165,13 +166,13 @@ target-packet-spec =
     add-next
     add-body
     put-pack-requires
-    sub-put-vals-3
-    part-put-vals-start-3
-    part-put-vals-end-3
-    sub-put-vals-4
-    part-put-vals-start-4
-    part-put-vals-end-4
-    put-vals-requires-2
+    sub-rest-vals
+    part-rest-vals-start
+    part-rest-vals-end
+    sub-rest-vals-2
+    part-rest-vals-start-2
+    part-rest-vals-end-2
+    rest-vals-requires
     add-k
     loop-less
     loop-again)

@@ -8,12 +8,11 @@ use lib.ListN.{length, take, drop, length-append, length-drop}
 use lib.Seq.{sets, drop-drop, length-sets}
 use borrow.Rule.Slice.PartMut.{putMid}
 use Rattle.format.specs.Answer.{ok, got}
-use Rattle.format.specs.Coding.{Bytes, bytesNumber, lenWidth, lenBytes, oidBytes}
+use Rattle.format.specs.Coding.{Bytes, bytesNumber, lenWidth, oidBytes}
 use Rattle.format.specs.Lists.{flatAll}
 use Rattle.format.specs.Table.{Form, pack}
 use Rattle.format.specs.Sheet.{one, idOfTarget, TG, is, targetAt}
 use Rattle.format.proofs.words.Bytes.{bytes-drop}
-use Rattle.format.proofs.coding.Lengths.{length-len}
 use Rattle.coding.proofs.Counts.{len-one}
 use Rattle.coding.proofs.Rooms.{tail-part}
 use Rattle.walks.specs.Meet.{total, weightOfVal}
@@ -29,6 +28,7 @@ use Rattle.packets.specs.Meet.{usedOf, recordsRun, targetsRun, targetNor
 use Rattle.packets.specs.Writing.{RecordsAsked, RecordsWriting}
 use Rattle.packets.proofs.Steps.{mark-room, TargetHere, target-here, vals-read}
 use Rattle.packets.proofs.Forms.{target-normal, len-some, vals-normal, no-inner}
+use Rattle.packets.proofs.Heads.{front-sized}
 use Rattle.packets.proofs.Turns.{TargetsAsked, records-start}
 
 pub record TargetsWriting (f : Form) (s out₀ out : List ℕ) (p k : ℕ) : Type 0 where
@@ -125,8 +125,7 @@ module _ {f : Form} {s out₀ out : List ℕ} {p k : ℕ} (i : TargetAt f s out�
       }
 
       front-long : length (packFront body id) ≡ lenWidth body + w
-      unfolding packFront
-      front-long = length-append (lenBytes (lenWidth body) body) (oidBytes id) ∙ omega (arith, length-len (lenWidth body) body, ew .0)
+      front-long = omega (arith, front-sized body id, ew .0)
 
       whole-long : length written ≡ length (packFront body id) + length normal
       whole-long = ap length (parts .is) ∙ length-append (packFront body id) normal

@@ -1,16 +1,17 @@
 // The entries of a packet's set in normal form, written into a lent output from a sheet that was checked, record by record.
 ghost use mathlib.Core.Path.{_≡_};
-ghost use Prim.Native.Nat.{ℕ, _+_, _≤_, _<_};
+ghost use Prim.Native.Nat.{ℕ, _+_, _^_, _≤_, _<_};
 ghost use mathlib.Core.Bool.{true, false};
 ghost use mathlib.Core.List.{List};
 ghost use lib.ListN.{length, take, drop};
 ghost use lib.Seq.{sets};
 ghost use Rattle.items.specs.Meet.{formOf, levelOf};
 ghost use Rattle.walks.specs.Runs.{Ran};
-ghost use Rattle.format.specs.Coding.{bytesNumber};
+ghost use Rattle.format.specs.Coding.{bytesNumber, oidBytes};
 ghost use Rattle.format.specs.Table.{pack};
 ghost use Rattle.format.specs.Packet.{flatItem};
 ghost use Rattle.format.specs.Calls.{itemOf};
+ghost use Rattle.normals.specs.Meet.{packFront};
 ghost use Rattle.packets.specs.Meet.{usedOf, recordsRun, targetsRun, recordsNormal, targetsNormal, InnerParts};
 ghost use Rattle.packets.specs.Writing.{RecordsAsked, RecordsWriting, Small};
 use stores::Passed;
@@ -137,6 +138,43 @@ pub fn item_packet(s: &[u8], set: bool, alone: bool, inner: usize, out: &mut [u8
     k
 }
 
+// The bytes of an id. Most have one or two, and make no turn.
+fn id_width(id: u64) -> usize
+    requires { ⌜ id < 2 ^ 63 ⌝ }
+    ensures { λ r. ⌜ (r ≡ length (oidBytes id)) × (r ≤ 9) ⌝ }
+{
+    if id < 128 {
+        return 1;
+    }
+    if id < 16384 {
+        return 2;
+    }
+    coding::widths::oid_width(id)
+}
+
+// What stands in front of a pack's items, where its id and its items are n bytes; where it ends. Most packs have one byte for n, and one or two for
+// the id.
+fn put_head(out: &mut [u8], at: usize, n: usize, id: u64) -> usize
+    requires { ⌜ (n ≤ 65536) × (id < 2 ^ 63) × (at + length (packFront n id) ≤ length (now out)) ⌝ }
+    ensures { λ r. ⌜ (r ≡ at + length (packFront n id)) × (now (out .exit) ≡ sets (now (out .entry)) at (packFront n id)) ⌝ }
+{
+    if 127 < n {
+        return normals::put_pack(out, at, n, id);
+    }
+    if 16383 < id {
+        return normals::put_pack(out, at, n, id);
+    }
+    out[at] = n as u8;
+    let a = at + 1;
+    if id < 128 {
+        out[a] = id as u8;
+        return a + 1;
+    }
+    out[a] = (id / 128 + 128) as u8;
+    out[a + 1] = (id % 128) as u8;
+    a + 2
+}
+
 // The targets of the series.
 fn target_packet(s: &[u8], alone: bool, out: &mut [u8]) -> Passed
     requires { ⌜ (length (now s) ≤ 65536) × Ran (targetsRun (formOf alone) (now s)) × (length (targetsNormal (formOf alone) (now s)) ≤ length (now out)) × (length (targetsNormal (formOf alone) (now s)) ≤ 8192) ⌝ }
@@ -150,13 +188,13 @@ fn target_packet(s: &[u8], alone: bool, out: &mut [u8]) -> Passed
         }
         let id = coding::number_of(&s[p + 2..], 8);
         let from = p + 10;
-        let w = coding::widths::oid_width(id);
+        let w = id_width(id);
         // The items go behind the head that most packs have, a length of one byte and the id; behind a longer one they go again.
         let at = k + 1 + w;
         let d = put_vals(&s[from..], alone, &mut out[at..]);
         let next = from + d.used;
         let body = w + d.wrote;
-        let m = normals::put_pack(out, k, body, id);
+        let m = put_head(out, k, body, id);
         if 127 < body {
             rest_vals(&s[from..], 0, 0, alone, &mut out[m..]);
         }

@@ -13,9 +13,9 @@ use Rattle.packets.proofs.target_packet.Tie as tie
 use Rattle.packets.proofs.target_packet.Reads as reads
 use Rattle.packets.proofs.target_packet.Lts as lts
 use Rattle.coding.proofs.number_of.Reads as number-of-reads
-use Rattle.coding.proofs.widths.oid_width.Reads as oid-width-reads
 use Rattle.heads.proofs.records.is_mark.Reads as is-mark-reads
-use Rattle.normals.proofs.put_pack.Reads as put-pack-reads
+use Rattle.packets.proofs.id_width.Reads as id-width-reads
+use Rattle.packets.proofs.put_head.Reads as put-head-reads
 use Rattle.packets.proofs.put_vals.Reads as put-vals-reads
 use Rattle.packets.proofs.rest_vals.Reads as rest-vals-reads
 
@@ -26,7 +26,7 @@ abbrev μ-loop : tie.MeasureT-loop
 μ-loop s alone out₀ p₀ k₀ out p k = length s - p
 
 -- the target whose mark was seen
-target-at : (a : lts.Else1 (is-mark-reads.Asked, is-mark-reads.Learnt, number-of-reads.Asked, number-of-reads.Learnt, oid-width-reads.Asked, oid-width-reads.Learnt, put-vals-reads.Asked, put-vals-reads.Learnt, put-pack-reads.Asked, put-pack-reads.Learnt, rest-vals-reads.Asked, rest-vals-reads.Learnt) reads.Pre reads.Post Inv-loop μ-loop)
+target-at : (a : lts.Else1 (is-mark-reads.Asked, is-mark-reads.Learnt, number-of-reads.Asked, number-of-reads.Learnt, id-width-reads.Asked, id-width-reads.Learnt, put-vals-reads.Asked, put-vals-reads.Learnt, put-head-reads.Asked, put-head-reads.Learnt, rest-vals-reads.Asked, rest-vals-reads.Learnt) reads.Pre reads.Post Inv-loop μ-loop)
     → TargetAt (formOf (a .before .before .before .before .before .args .alone)) (a .before .before .before .before .before .args .s .now) (a .before .before .before .before .before .args .out .now) (a .before .before .loop .out) (a .before .before .loop .p) (a .before .before .loop .k)
 target-at a = record {
   going = a .before .before .loop .inv;
@@ -65,14 +65,14 @@ number-of-requires c κs = id-asked (target-at (c .before))
 add-from : tie.Need-add-from Inv-loop μ-loop
 add-from c = omega (arith, target-room (target-at (c .before .before)))
 
-oid-width-requires : tie.Need-oid-width-requires Inv-loop μ-loop
-oid-width-requires c κs = id-low (target-at (c .before .before)) (c .number-of .ensures)
+id-width-requires : tie.Need-id-width-requires Inv-loop μ-loop
+id-width-requires c κs = id-low (target-at (c .before .before)) (c .number-of .ensures)
 
 add-at : tie.Need-add-at Inv-loop μ-loop
-add-at c = omega (arith, behind (target-at (c .before .before .before)) (c .before .number-of .ensures) (c .oid-width .ensures))
+add-at c = omega (arith, behind (target-at (c .before .before .before)) (c .before .number-of .ensures) (c .id-width .ensures))
 
 add-at-2 : tie.Need-add-at-2 Inv-loop μ-loop
-add-at-2 c = omega (arith, behind (target-at (c .before .before .before)) (c .before .number-of .ensures) (c .oid-width .ensures))
+add-at-2 c = omega (arith, behind (target-at (c .before .before .before)) (c .before .number-of .ensures) (c .id-width .ensures))
 
 sub-put-vals : tie.Need-sub-put-vals Inv-loop μ-loop
 sub-put-vals c = omega (arith, target-room (target-at (c .before .before .before)))
@@ -84,25 +84,25 @@ part-put-vals-end : tie.Need-part-put-vals-end Inv-loop μ-loop
 part-put-vals-end c = omega (arith, target-room (target-at (c .before .before .before)))
 
 sub-put-vals-2 : tie.Need-sub-put-vals-2 Inv-loop μ-loop
-sub-put-vals-2 c = behind (target-at (c .before .before .before .before)) (c .before .before .number-of .ensures) (c .before .oid-width .ensures) .0
+sub-put-vals-2 c = behind (target-at (c .before .before .before .before)) (c .before .before .number-of .ensures) (c .before .id-width .ensures) .0
 
 part-put-vals-start-2 : tie.Need-part-put-vals-start-2 Inv-loop μ-loop
-part-put-vals-start-2 c = behind (target-at (c .before .before .before .before)) (c .before .before .number-of .ensures) (c .before .oid-width .ensures) .0
+part-put-vals-start-2 c = behind (target-at (c .before .before .before .before)) (c .before .before .number-of .ensures) (c .before .id-width .ensures) .0
 
 part-put-vals-end-2 : tie.Need-part-put-vals-end-2 Inv-loop μ-loop
 part-put-vals-end-2 c = search needs
 
 put-vals-requires : tie.Need-put-vals-requires Inv-loop μ-loop
-put-vals-requires c κs = vals-asked (target-at (c .before .before .before .before .before)) (c .before .before .before .number-of .ensures) (c .before .before .oid-width .ensures)
+put-vals-requires c κs = vals-asked (target-at (c .before .before .before .before .before)) (c .before .before .before .number-of .ensures) (c .before .before .id-width .ensures)
 
 add-next : tie.Need-add-next Inv-loop μ-loop
-add-next c = omega (arith, target-next (target-at (c .before .before .before .before .before .before .before .before .before)) (c .before .before .before .before .before .before .before .number-of .ensures) (c .before .before .before .before .before .before .oid-width .ensures) (c .before .before .before .put-vals .ensures))
+add-next c = omega (arith, target-next (target-at (c .before .before .before .before .before .before .before .before .before)) (c .before .before .before .before .before .before .before .number-of .ensures) (c .before .before .before .before .before .before .id-width .ensures) (c .before .before .before .put-vals .ensures))
 
 add-body : tie.Need-add-body Inv-loop μ-loop
-add-body c = omega (arith, body-few (target-at (c .before .before .before .before .before .before .before .before .before .before)) (c .before .before .before .before .before .before .before .before .number-of .ensures) (c .before .before .before .before .before .before .before .oid-width .ensures) (c .before .before .before .before .put-vals .ensures))
+add-body c = omega (arith, body-few (target-at (c .before .before .before .before .before .before .before .before .before .before)) (c .before .before .before .before .before .before .before .before .number-of .ensures) (c .before .before .before .before .before .before .before .id-width .ensures) (c .before .before .before .before .put-vals .ensures))
 
-put-pack-requires : tie.Need-put-pack-requires Inv-loop μ-loop
-put-pack-requires c κs = pack-asked (target-at (c .before .before .before .before .before .before .before .before .before .before .before)) (c .before .before .before .before .before .before .before .before .before .number-of .ensures) (c .before .before .before .before .before .before .before .before .oid-width .ensures) (c .before .before .before .before .before .put-vals .ensures)
+put-head-requires : tie.Need-put-head-requires Inv-loop μ-loop
+put-head-requires c κs = pack-asked (target-at (c .before .before .before .before .before .before .before .before .before .before .before)) (c .before .before .before .before .before .before .before .before .before .number-of .ensures) (c .before .before .before .before .before .before .before .before .id-width .ensures) (c .before .before .before .before .before .put-vals .ensures)
 
 sub-rest-vals : tie.Need-sub-rest-vals Inv-loop μ-loop
 sub-rest-vals c = omega (arith, target-room (target-at (c .before .before .before .before .before .before .before .before .before .before .before .before .before .before .before)))
@@ -114,27 +114,27 @@ part-rest-vals-end : tie.Need-part-rest-vals-end Inv-loop μ-loop
 part-rest-vals-end c = omega (arith, target-room (target-at (c .before .before .before .before .before .before .before .before .before .before .before .before .before .before .before)))
 
 sub-rest-vals-2 : tie.Need-sub-rest-vals-2 Inv-loop μ-loop
-sub-rest-vals-2 c = vals-behind (target-at (c .before .before .before .before .before .before .before .before .before .before .before .before .before .before .before .before)) (c .before .before .before .before .before .before .before .before .before .before .before .before .before .before .number-of .ensures) (c .before .before .before .before .before .before .before .before .before .before .before .before .before .oid-width .ensures) (c .before .before .before .before .before .before .before .before .before .before .put-vals .ensures) (c .before .before .before .before .put-pack .ensures)
+sub-rest-vals-2 c = vals-behind (target-at (c .before .before .before .before .before .before .before .before .before .before .before .before .before .before .before .before)) (c .before .before .before .before .before .before .before .before .before .before .before .before .before .before .number-of .ensures) (c .before .before .before .before .before .before .before .before .before .before .before .before .before .id-width .ensures) (c .before .before .before .before .before .before .before .before .before .before .put-vals .ensures) (c .before .before .before .before .put-head .ensures)
 
 part-rest-vals-start-2 : tie.Need-part-rest-vals-start-2 Inv-loop μ-loop
-part-rest-vals-start-2 c = vals-behind (target-at (c .before .before .before .before .before .before .before .before .before .before .before .before .before .before .before .before)) (c .before .before .before .before .before .before .before .before .before .before .before .before .before .before .number-of .ensures) (c .before .before .before .before .before .before .before .before .before .before .before .before .before .oid-width .ensures) (c .before .before .before .before .before .before .before .before .before .before .put-vals .ensures) (c .before .before .before .before .put-pack .ensures)
+part-rest-vals-start-2 c = vals-behind (target-at (c .before .before .before .before .before .before .before .before .before .before .before .before .before .before .before .before)) (c .before .before .before .before .before .before .before .before .before .before .before .before .before .before .number-of .ensures) (c .before .before .before .before .before .before .before .before .before .before .before .before .before .id-width .ensures) (c .before .before .before .before .before .before .before .before .before .before .put-vals .ensures) (c .before .before .before .before .put-head .ensures)
 
 part-rest-vals-end-2 : tie.Need-part-rest-vals-end-2 Inv-loop μ-loop
 part-rest-vals-end-2 c = search needs
 
 rest-vals-requires : tie.Need-rest-vals-requires Inv-loop μ-loop
-rest-vals-requires c κs = again-asked (target-at (c .before .before .before .before .before .before .before .before .before .before .before .before .before .before .before .before .before)) (c .before .before .before .before .before .before .before .before .before .before .before .before .before .before .before .number-of .ensures) (c .before .before .before .before .before .before .before .before .before .before .before .before .before .before .oid-width .ensures) (c .before .before .before .before .before .before .before .before .before .before .before .put-vals .ensures) (c .before .before .before .before .before .put-pack .ensures)
+rest-vals-requires c κs = again-asked (target-at (c .before .before .before .before .before .before .before .before .before .before .before .before .before .before .before .before .before)) (c .before .before .before .before .before .before .before .before .before .before .before .before .before .before .before .number-of .ensures) (c .before .before .before .before .before .before .before .before .before .before .before .before .before .before .id-width .ensures) (c .before .before .before .before .before .before .before .before .before .before .before .put-vals .ensures) (c .before .before .before .before .before .put-head .ensures)
 
 add-k : tie.Need-add-k Inv-loop μ-loop
-add-k c = omega (arith, ends-few (target-at (c .before .before .before .before .before .before .before .before .before .before .before .before .before .before .before .before)) (c .before .before .before .before .before .before .before .before .before .before .before .before .before .before .number-of .ensures) (c .before .before .before .before .before .before .before .before .before .before .before .before .before .oid-width .ensures) (c .before .before .before .before .before .before .before .before .before .before .put-vals .ensures) (c .before .before .before .before .put-pack .ensures))
+add-k c = omega (arith, ends-few (target-at (c .before .before .before .before .before .before .before .before .before .before .before .before .before .before .before .before)) (c .before .before .before .before .before .before .before .before .before .before .before .before .before .before .number-of .ensures) (c .before .before .before .before .before .before .before .before .before .before .before .before .before .id-width .ensures) (c .before .before .before .before .before .before .before .before .before .before .put-vals .ensures) (c .before .before .before .before .put-head .ensures))
 
 loop-less : tie.Need-loop-less Inv-loop μ-loop
-loop-less c = omega (arith, target-next (target-at (c .before .before .before .before .before .before .before .before .before .before .before .before .before .before .before .before)) (c .before .before .before .before .before .before .before .before .before .before .before .before .before .before .number-of .ensures) (c .before .before .before .before .before .before .before .before .before .before .before .before .before .oid-width .ensures) (c .before .before .before .before .before .before .before .before .before .before .put-vals .ensures))
+loop-less c = omega (arith, target-next (target-at (c .before .before .before .before .before .before .before .before .before .before .before .before .before .before .before .before)) (c .before .before .before .before .before .before .before .before .before .before .before .before .before .before .number-of .ensures) (c .before .before .before .before .before .before .before .before .before .before .before .before .before .id-width .ensures) (c .before .before .before .before .before .before .before .before .before .before .put-vals .ensures))
 
 loop-again : tie.Need-loop-again Inv-loop μ-loop
 loop-again c = ⊎-elim
-    (λ w. rw (w .6) (again-more (target-at (c .before .before .before .before .before .before .before .before .before .before .before .before .before .before .before .before)) (c .before .before .before .before .before .before .before .before .before .before .before .before .before .before .number-of .ensures) (c .before .before .before .before .before .before .before .before .before .before .before .before .before .oid-width .ensures) (c .before .before .before .before .before .before .before .before .before .before .put-vals .ensures) (c .before .before .before .before .put-pack .ensures) (w .3 .ensures)))
-    (λ w. rw (w .1) (short-more (target-at (c .before .before .before .before .before .before .before .before .before .before .before .before .before .before .before .before)) (c .before .before .before .before .before .before .before .before .before .before .before .before .before .before .number-of .ensures) (c .before .before .before .before .before .before .before .before .before .before .before .before .before .oid-width .ensures) (c .before .before .before .before .before .before .before .before .before .before .put-vals .ensures) (c .before .before .before .before .put-pack .ensures) (omega (arith, w .0 .left))))
+    (λ w. rw (w .6) (again-more (target-at (c .before .before .before .before .before .before .before .before .before .before .before .before .before .before .before .before)) (c .before .before .before .before .before .before .before .before .before .before .before .before .before .before .number-of .ensures) (c .before .before .before .before .before .before .before .before .before .before .before .before .before .id-width .ensures) (c .before .before .before .before .before .before .before .before .before .before .put-vals .ensures) (c .before .before .before .before .put-head .ensures) (w .3 .ensures)))
+    (λ w. rw (w .1) (short-more (target-at (c .before .before .before .before .before .before .before .before .before .before .before .before .before .before .before .before)) (c .before .before .before .before .before .before .before .before .before .before .before .before .before .before .number-of .ensures) (c .before .before .before .before .before .before .before .before .before .before .before .before .before .id-width .ensures) (c .before .before .before .before .before .before .before .before .before .before .put-vals .ensures) (c .before .before .before .before .put-head .ensures) (omega (arith, w .0 .left))))
     (c .before .if2 .came)
 
 pub target-packet-spec : {M : Type 1} → statement M
@@ -153,7 +153,7 @@ target-packet-spec =
     part-number-of-end
     number-of-requires
     add-from
-    oid-width-requires
+    id-width-requires
     add-at
     add-at-2
     sub-put-vals
@@ -165,7 +165,7 @@ target-packet-spec =
     put-vals-requires
     add-next
     add-body
-    put-pack-requires
+    put-head-requires
     sub-rest-vals
     part-rest-vals-start
     part-rest-vals-end

@@ -1,6 +1,6 @@
 -- The pack walk, step by step: what the code's answers say of a series' step.
 use mathlib.Core.Path.{_≡_, refl, sym, ap, _∙_}
-use Prim.Native.Nat.{ℕ, _+_, _-_, _≤_, _<_}
+use Prim.Native.Nat.{ℕ, _+_, _-_, _≤_, _<_, _^_}
 use native.Mathlib.Omega.{arith}
 use mathlib.Core.Bool.{Bool, true, false, not, _||_}
 use mathlib.Core.List.{List, [], _∷_, map}
@@ -74,12 +74,13 @@ module _ (f : Form) (seen s : List ℕ) (k u w n : ℕ) (e : packHeadOf (heads.W
     pub body : u ≤ n
     pub id-long : length (oidBytes k) ≡ u
     pub id-few : u ≤ 9
+    pub id-range : k < 2 ^ 63
 
   pub pack-stood : Bytes s → PackStood
   pack-stood b =
       let h = pack-head-says s (record { width = w; size = n; id = k; used = u }) b (sym e) in
       let l = h .size-is in
-      record { room = h .room; len = holds-pos w n (h .coded); key = h .id-took .pos; body = omega (arith, h .id-took .room, l); id-long = took-length _ _ _ (h .id-took); id-few = omega (arith, took-length _ _ _ (h .id-took), oid-most k) }
+      record { room = h .room; len = holds-pos w n (h .coded); key = h .id-took .pos; body = omega (arith, h .id-took .room, l); id-long = took-length _ _ _ (h .id-took); id-few = omega (arith, took-length _ _ _ (h .id-took), oid-most k); id-range = h .id-range }
 
   pub pack-10 : true ≡ has k seen → onePack f seen s ≡ refused 10 0
   unfolding onePack

@@ -42,6 +42,18 @@ module _ {X : Type 0} {look : List ℕ → Got ℕ} {more : List ℕ → Bool} {
   within : Within (Good a m) (length s)
   within = few-more a p (length s) (g .to) (g .few)
 
+  -- bounds may be wider than they need be
+  pub going-wide : {top′ low′ : ℕ} → top ≤ top′ → low′ ≤ low → Going look more weight mark key step whole s p a m top′ low′
+  going-wide t l =
+      let q = g .past in
+      record {
+        seen = g .seen;
+        past = record { keys = q .keys; heads = q .heads; same = q .same; under = λ k h. q .under k (omega arith); over = λ k h. q .over k (omega arith); first = q .first };
+        rest = g .rest;
+        few = g .few;
+        to = g .to;
+      }
+
   pub turn-done : length s ≤ p → (Good a m ≡ whole) × Within (Good a m) (length s)
   turn-done h = (going-done weight mark key step look more whole s p a m top low g h, within)
 

@@ -69,6 +69,13 @@ Glanced b f s p top next = (n : ℕ) × (next ≡ p + 2 + n) × (0 < n) × (p + 
 abbrev pub New : ℕ → ℕ → ℕ → ℕ → Type 0
 New p top low key = (p ≡ 0) ⊎ (top < key) ⊎ (key < low)
 
+-- such a key, and what it and the keys before are not above or below
+pub record Reached (p top low key top′ low′ : ℕ) : Type 0 where
+  pub new : New p top low key
+  pub over : (top ≤ top′) × (key ≤ top′)
+  pub under : (low′ ≤ low) × (low′ ≤ key)
+  pub between : low′ ≤ top′
+
 -- an item of n bytes at p that may stand there whatever they are
 pub record Plain (b : Bool) (f : Form) (p top low tag n : ℕ) : Type 0 where
   pub some : 0 < n

@@ -228,8 +228,17 @@ pub fn packs(table: &[u64], s: &[u8], alone: bool) -> Quick
         else {
             return passed(p, rows, more, top, low);
         };
-        if !is_new(p, top, low, key) {
-            return passed(p, rows, more, top, low);
+        // an id above or below all before moves one bound, but for the first
+        if top < key {
+            top = key;
+            if p == 0 {
+                low = key;
+            }
+        } else {
+            if low <= key {
+                return passed(p, rows, more, top, low);
+            }
+            low = key;
         }
         let from = p + width + used;
         let next = p + width + size;
@@ -243,8 +252,6 @@ pub fn packs(table: &[u64], s: &[u8], alone: bool) -> Quick
         }
         rows = rows + 1 + q.sizes.rows;
         more = more + 5 - used;
-        top = super::larger(top, key);
-        low = super::smaller(low, key);
         p = next;
     }
     passed(p, rows, more, top, low)

@@ -1,5 +1,6 @@
 -- `walks::quick::packs` meets its contract: each turn is a turn of the pack walk. `a` is where a pack's head was read.
 use mathlib.Core.Path.{_≡_, refl}
+use mathlib.Core.Logic.{inl, inr, ⊎-elim}
 use Prim.Native.Nat.{_+_, _-_, _≤_, _<_}
 use native.Mathlib.Omega.{arith}
 use lib.ListN.{length}
@@ -8,9 +9,9 @@ use borrow.Author.Tests.{not-false}
 use Rattle.items.specs.Meet.{formOf}
 use Rattle.heads.specs.declared.Head.the-variants as heads
 use Rattle.heads.proofs.Heads.{pack-head-if}
-use Rattle.walks.specs.Going.{SeriesGoing}
+use Rattle.walks.specs.Going.{SeriesGoing, Reached}
 use Rattle.walks.proofs.Glances.{packedSizes, packed-plus}
-use Rattle.walks.proofs.Turns.{turn-done, new-key}
+use Rattle.walks.proofs.Turns.{going-wide, turn-done, new-key}
 use Rattle.walks.proofs.PackTurns.{PackAt, series-start, either-is, head-stood, head-room, lent-long, pack-more}
 use Rattle.walks.proofs.quick.packs.Statement.{statement}
 use Rattle.walks.proofs.quick.packs.Tie as tie
@@ -18,20 +19,17 @@ use Rattle.walks.proofs.quick.packs.Reads as reads
 use Rattle.walks.proofs.quick.packs.Lts as lts
 use Rattle.heads.proofs.short_pack_head.Reads as short-pack-head-reads
 use Rattle.walks.proofs.either.Reads as either-reads
-use Rattle.walks.proofs.larger.Reads as larger-reads
-use Rattle.walks.proofs.quick.is_new.Reads as is-new-reads
 use Rattle.walks.proofs.quick.passed.Reads as passed-reads
 use Rattle.walks.proofs.quick.run.Reads as run-reads
-use Rattle.walks.proofs.smaller.Reads as smaller-reads
 
 abbrev Inv-loop : tie.InvT-loop
-Inv-loop table s alone p₀ rows₀ more₀ top₀ low₀ p rows more top low = SeriesGoing (formOf alone) s p (packedSizes p rows more) top low
+Inv-loop table s alone p₀ rows₀ more₀ top₀ low₀ p rows more top low = SeriesGoing (formOf alone) s p (packedSizes p rows more) top low × (p ≡ 0 → low ≡ 18446744073709551615) × (0 < p → low ≤ top)
 
 abbrev μ-loop : tie.MeasureT-loop
 μ-loop table s alone p₀ rows₀ more₀ top₀ low₀ p rows more top low = length s - p
 
 abbrev Head-read : Type 0
-Head-read = lts.After-h (short-pack-head-reads.Asked, short-pack-head-reads.Learnt, passed-reads.Asked, passed-reads.Learnt, is-new-reads.Asked, is-new-reads.Learnt, run-reads.Asked, run-reads.Learnt, either-reads.Asked, either-reads.Learnt, larger-reads.Asked, larger-reads.Learnt, smaller-reads.Asked, smaller-reads.Learnt) reads.Pre reads.Post Inv-loop μ-loop
+Head-read = lts.After-h (short-pack-head-reads.Asked, short-pack-head-reads.Learnt, passed-reads.Asked, passed-reads.Learnt, run-reads.Asked, run-reads.Learnt, either-reads.Asked, either-reads.Learnt) reads.Pre reads.Post Inv-loop μ-loop
 
 -- its length has one byte, its id one or two
 short : (a : Head-read) → (a .h .given .0 .1 .1 .0 ≡ 1) × (a .h .given .0 .1 .1 .1 .0 < 128) × (a .h .given .0 .1 .0 ≤ 2)
@@ -39,7 +37,7 @@ short a = let i = pack-head-if _ (a .h .given .1) (a .before .before .short-pack
 
 here : (a : Head-read) → PackAt (formOf (a .before .before .before .before .before .before .before .before .args .alone)) (a .before .before .before .before .before .before .before .before .args .s .now) (a .before .before .before .before .before .loop .p) (packedSizes (a .before .before .before .before .before .loop .p) (a .before .before .before .before .before .loop .rows) (a .before .before .before .before .before .loop .more)) (a .before .before .before .before .before .loop .top) (a .before .before .before .before .before .loop .low) (a .h .given .0 .0) (a .h .given .0 .1 .0) (a .h .given .0 .1 .1 .0) (a .h .given .0 .1 .1 .1 .0)
 here a = record {
-  going = a .before .before .before .before .before .loop .inv;
+  going = a .before .before .before .before .before .loop .inv .0;
   here = a .before .before .before .before .loop-test .taken;
   it = heads.Whole _ _ _ _;
   told = pack-head-if _ (a .h .given .1) (a .before .before .short-pack-head .ensures) .0;
@@ -52,8 +50,21 @@ here a = record {
 room : (a : Head-read) → (a .before .before .before .before .before .loop .p + a .h .given .0 .1 .1 .0 + a .h .given .0 .1 .1 .1 .0 ≤ length (a .before .before .before .before .before .before .before .before .args .s .now)) × (a .h .given .0 .1 .0 ≤ a .h .given .0 .1 .1 .1 .0) × (length (a .before .before .before .before .before .before .before .before .args .s .now) ≤ 8192)
 room a = (head-room (here a), head-stood (here a) .body, a .before .before .before .before .before .before .before .before .pre .1)
 
+-- its id is new, and between the bounds that the code has then
+reached : (j : lts.Joined1 (short-pack-head-reads.Asked, short-pack-head-reads.Learnt, passed-reads.Asked, passed-reads.Learnt, run-reads.Asked, run-reads.Learnt, either-reads.Asked, either-reads.Learnt) reads.Pre reads.Post Inv-loop μ-loop) → Reached (j .before .before .before .before .before .before .before .loop .p) (j .before .before .before .before .before .before .before .loop .top) (j .before .before .before .before .before .before .before .loop .low) (j .before .before .h .given .0 .0) (j .if1 .top) (j .if1 .low)
+reached j =
+    let i = j .before .before .before .before .before .before .before .loop .inv in
+    let most = head-stood (here (j .before .before)) .id-range in
+    ⊎-elim
+    (λ x. record { new = inr (inl (x .0 .taken)); over = (omega (arith, x .2, x .0 .taken), omega (arith, x .2)); under = (omega (arith, x .3, i .1 (x .1 .taken), most), omega (arith, x .3)); between = omega (arith, x .2, x .3) })
+    (λ y. ⊎-elim
+    (λ x. let l = i .2 (omega (arith, x .1 .left)) in record { new = inr (inl (x .0 .taken)); over = (omega (arith, x .2, x .0 .taken), omega (arith, x .2)); under = (omega (arith, x .3), omega (arith, x .3, l, x .0 .taken)); between = omega (arith, x .2, x .3, l, x .0 .taken) })
+    (λ x. record { new = inr (inr (omega (arith, x .1 .left))); over = (omega (arith, x .2), omega (arith, x .2, x .0 .left)); under = (omega (arith, x .3, x .1 .left), omega (arith, x .3)); between = omega (arith, x .2, x .3, x .0 .left) })
+    y)
+    (j .if1 .came)
+
 loop-holds : tie.Need-loop-holds Inv-loop μ-loop
-loop-holds c = series-start _ _
+loop-holds c = (series-start _ _, λ _. refl, λ h. absurd (omega (arith, h)))
 
 sub-short-pack-head : tie.Need-sub-short-pack-head Inv-loop μ-loop
 sub-short-pack-head c = search needs
@@ -74,93 +85,88 @@ enum-told : tie.Need-enum-told Inv-loop μ-loop
 enum-told c = search needs
 
 passed-requires : tie.Need-passed-requires Inv-loop μ-loop
-passed-requires c κs = let i = c .before .before .before .before .before .loop .inv in omega (arith, i .few .sheet, i .to, c .before .before .before .before .before .before .before .before .pre .1)
+passed-requires c κs = let i = c .before .before .before .before .before .loop .inv .0 in omega (arith, i .few .sheet, i .to, c .before .before .before .before .before .before .before .before .pre .1)
 
 returns : tie.Need-returns Inv-loop μ-loop
-returns c = rw (c .passed .ensures) (c .before .before .before .before .before .before .loop .inv)
-
-is-new-requires : tie.Need-is-new-requires Inv-loop μ-loop
-is-new-requires c κs = search needs
+returns c = rw (c .passed .ensures) (c .before .before .before .before .before .before .loop .inv .0)
 
 passed-requires-2 : tie.Need-passed-requires-2 Inv-loop μ-loop
-passed-requires-2 c κs = let i = c .before .before .before .before .before .before .before .before .loop .inv in omega (arith, i .few .sheet, i .to, c .before .before .before .before .before .before .before .before .before .before .before .pre .1)
+passed-requires-2 c κs = let i = c .before .before .before .before .before .before .before .before .loop .inv .0 in omega (arith, i .few .sheet, i .to, c .before .before .before .before .before .before .before .before .before .before .before .pre .1)
 
 returns-2 : tie.Need-returns-2 Inv-loop μ-loop
-returns-2 c = rw (c .passed2 .ensures) (c .before .before .before .before .before .before .before .before .before .loop .inv)
+returns-2 c = rw (c .passed2 .ensures) (c .before .before .before .before .before .before .before .before .before .loop .inv .0)
 
 add-from : tie.Need-add-from Inv-loop μ-loop
-add-from c = omega (arith, room (c .before .before .before))
+add-from c = omega (arith, room (c .before .before))
 
 add-from-2 : tie.Need-add-from-2 Inv-loop μ-loop
-add-from-2 c = omega (arith, room (c .before .before .before))
+add-from-2 c = omega (arith, room (c .before .before))
 
 add-next : tie.Need-add-next Inv-loop μ-loop
-add-next c = omega (arith, room (c .before .before .before))
+add-next c = omega (arith, room (c .before .before))
 
 add-next-2 : tie.Need-add-next-2 Inv-loop μ-loop
-add-next-2 c = omega (arith, room (c .before .before .before))
+add-next-2 c = omega (arith, room (c .before .before))
 
 sub-items : tie.Need-sub-items Inv-loop μ-loop
-sub-items c = omega (arith, room (c .before .before .before))
+sub-items c = omega (arith, room (c .before .before))
 
 part-items-start : tie.Need-part-items-start Inv-loop μ-loop
-part-items-start c = omega (arith, room (c .before .before .before))
+part-items-start c = omega (arith, room (c .before .before))
 
 part-items-end : tie.Need-part-items-end Inv-loop μ-loop
-part-items-end c = omega (arith, room (c .before .before .before))
+part-items-end c = omega (arith, room (c .before .before))
 
 run-requires : tie.Need-run-requires Inv-loop μ-loop
-run-requires c κs = (c .before .before .before .before .before .before .before .before .before .before .before .before .pre .0, omega (arith, lent-long (here (c .before .before .before .before)) (new-key (c .before .before .is-new .ensures (not-false _ (c .before .if1 .left)))) refl, room (c .before .before .before .before)))
+run-requires c κs = (c .before .before .before .before .before .before .before .before .before .before .before .pre .0, omega (arith, lent-long (here (c .before .before .before)) (new-key (reached (c .before) .new)) refl, room (c .before .before .before)))
 
 passed-requires-3 : tie.Need-passed-requires-3 Inv-loop μ-loop
-passed-requires-3 c κs = let i = c .before .before .before .before .before .before .before .before .before .before .before .before .loop .inv in omega (arith, i .few .sheet, i .to, c .before .before .before .before .before .before .before .before .before .before .before .before .before .before .before .pre .1)
+passed-requires-3 c κs = let i = c .before .before .before .before .before .before .before .before .before .before .before .loop .inv .0 in omega (arith, i .few .sheet, i .to, c .before .before .before .before .before .before .before .before .before .before .before .before .before .before .pre .1)
 
 returns-3 : tie.Need-returns-3 Inv-loop μ-loop
-returns-3 c = rw (c .passed3 .ensures) (c .before .before .before .before .before .before .before .before .before .before .before .before .before .loop .inv)
+returns-3 c = rw (c .passed3 .ensures) (going-wide (c .before .before .before .before .before .before .before .before .before .before .before .before .loop .inv .0) (reached (c .before .before .before .before .before) .over .0) (reached (c .before .before .before .before .before) .under .0))
 
 either-requires : tie.Need-either-requires Inv-loop μ-loop
 either-requires c κs = search needs
 
 passed-requires-4 : tie.Need-passed-requires-4 Inv-loop μ-loop
-passed-requires-4 c κs = let i = c .before .before .before .before .before .before .before .before .before .before .before .before .before .before .loop .inv in omega (arith, i .few .sheet, i .to, c .before .before .before .before .before .before .before .before .before .before .before .before .before .before .before .before .before .pre .1)
+passed-requires-4 c κs = let i = c .before .before .before .before .before .before .before .before .before .before .before .before .before .loop .inv .0 in omega (arith, i .few .sheet, i .to, c .before .before .before .before .before .before .before .before .before .before .before .before .before .before .before .before .pre .1)
 
 returns-4 : tie.Need-returns-4 Inv-loop μ-loop
-returns-4 c = rw (c .passed4 .ensures) (c .before .before .before .before .before .before .before .before .before .before .before .before .before .before .before .loop .inv)
+returns-4 c = rw (c .passed4 .ensures) (going-wide (c .before .before .before .before .before .before .before .before .before .before .before .before .before .before .loop .inv .0) (reached (c .before .before .before .before .before .before .before) .over .0) (reached (c .before .before .before .before .before .before .before) .under .0))
 
 add-rows : tie.Need-add-rows Inv-loop μ-loop
-add-rows c = let i = c .before .before .before .before .before .before .before .before .before .before .before .before .before .before .loop .inv in omega (arith, i .few .rows, i .to, c .before .before .before .before .before .before .before .before .before .before .before .before .before .before .before .before .before .pre .1)
+add-rows c = let i = c .before .before .before .before .before .before .before .before .before .before .before .before .before .loop .inv .0 in omega (arith, i .few .rows, i .to, c .before .before .before .before .before .before .before .before .before .before .before .before .before .before .before .before .pre .1)
 
 add-rows-2 : tie.Need-add-rows-2 Inv-loop μ-loop
-add-rows-2 c = let i = c .before .before .before .before .before .before .before .before .before .before .before .before .before .before .before .loop .inv in let k = c .before .before .before .before .before .run .ensures .0 in omega (arith, i .few .rows, i .to, k .few .rows, k .to, lent-long (here (c .before .before .before .before .before .before .before .before .before .before)) (new-key (c .before .before .before .before .before .before .before .before .is-new .ensures (not-false _ (c .before .before .before .before .before .before .before .if1 .left)))) refl, room (c .before .before .before .before .before .before .before .before .before .before))
+add-rows-2 c = let i = c .before .before .before .before .before .before .before .before .before .before .before .before .before .before .loop .inv .0 in let k = c .before .before .before .before .before .run .ensures .0 in omega (arith, i .few .rows, i .to, k .few .rows, k .to, lent-long (here (c .before .before .before .before .before .before .before .before .before)) (new-key (reached (c .before .before .before .before .before .before .before) .new)) refl, room (c .before .before .before .before .before .before .before .before .before))
 
 add-more : tie.Need-add-more Inv-loop μ-loop
-add-more c = let i = c .before .before .before .before .before .before .before .before .before .before .before .before .before .before .before .loop .inv in omega (arith, i .few .sheet, i .to, c .before .before .before .before .before .before .before .before .before .before .before .before .before .before .before .before .before .before .pre .1)
+add-more c = let i = c .before .before .before .before .before .before .before .before .before .before .before .before .before .before .loop .inv .0 in omega (arith, i .few .sheet, i .to, c .before .before .before .before .before .before .before .before .before .before .before .before .before .before .before .before .before .pre .1)
 
 sub-more : tie.Need-sub-more Inv-loop μ-loop
-sub-more c = omega (arith, short (c .before .before .before .before .before .before .before .before .before .before))
-
-larger-requires : tie.Need-larger-requires Inv-loop μ-loop
-larger-requires c κs = search needs
-
-smaller-requires : tie.Need-smaller-requires Inv-loop μ-loop
-smaller-requires c κs = search needs
+sub-more c = omega (arith, short (c .before .before .before .before .before .before .before .before .before))
 
 loop-less : tie.Need-loop-less Inv-loop μ-loop
-loop-less c = omega (arith, head-stood (here (c .before .before .before .before .before .before .before .before .before .before .before .before)) .len, c .before .before .before .before .before .before .before .before .before .before .before .before .before .before .before .before .loop-test .taken)
+loop-less c = omega (arith, head-stood (here (c .before .before .before .before .before .before .before .before .before)) .len, c .before .before .before .before .before .before .before .before .before .before .before .before .before .loop-test .taken)
 
 loop-again : tie.Need-loop-again Inv-loop μ-loop
 loop-again c =
-    let a = c .before .before .before .before .before .before .before .before .before .before .before .before in
-    let q = c .before .before .before .before .before .before .before .run .ensures in
-    let l = lent-long (here a) (new-key (c .before .before .before .before .before .before .before .before .before .before .is-new .ensures (not-false _ (c .before .before .before .before .before .before .before .before .before .if1 .left)))) refl in
-    pack-more (here a) (new-key (c .before .before .before .before .before .before .before .before .before .before .is-new .ensures (not-false _ (c .before .before .before .before .before .before .before .before .before .if1 .left)))) refl (turn-done (q .0) (omega (arith, c .before .before .before .before .before .if2 .left))) refl (either-is (a .before .before .before .before .before .before .before .before .args .alone) _ (c .before .before .before .before .either .ensures)) (not-false _ (c .before .before .before .if3 .left))
-    (packed-plus _ _ _ _ _ (short a) (room a .1) (omega (arith, c .before .before .before .before .before .if2 .left, l)) (q .1)) (c .before .larger .ensures) (c .smaller .ensures)
+    let a = c .before .before .before .before .before .before .before .before .before in
+    let q = c .before .before .before .before .before .run .ensures in
+    let r = reached (c .before .before .before .before .before .before .before) in
+    let new = new-key (r .new) in (
+      pack-more (here a) new refl (turn-done (q .0) (omega (arith, c .before .before .before .if4 .left))) refl (either-is (a .before .before .before .before .before .before .before .before .args .alone) _ (c .before .before .either .ensures)) (not-false _ (c .before .if5 .left))
+          (packed-plus _ _ _ _ _ (short a) (room a .1) (omega (arith, c .before .before .before .if4 .left, lent-long (here a) new refl)) (q .1)) (r .over) (r .under),
+      λ e. absurd (omega (arith, e, head-stood (here a) .len)),
+      λ _. r .between,
+    )
 
 passed-requires-5 : tie.Need-passed-requires-5 Inv-loop μ-loop
-passed-requires-5 c κs = let i = c .before .loop .inv in omega (arith, i .few .sheet, i .to, c .before .before .before .before .pre .1)
+passed-requires-5 c κs = let i = c .before .loop .inv .0 in omega (arith, i .few .sheet, i .to, c .before .before .before .before .pre .1)
 
 returns-5 : tie.Need-returns-5 Inv-loop μ-loop
-returns-5 c = rw (c .passed5 .ensures) (c .before .before .loop .inv)
+returns-5 c = rw (c .passed5 .ensures) (c .before .before .loop .inv .0)
 
 pub packs-spec : {M : Type 1} → statement M
 packs-spec =
@@ -177,7 +183,6 @@ packs-spec =
     enum-told
     passed-requires
     returns
-    is-new-requires
     passed-requires-2
     returns-2
     add-from
@@ -197,8 +202,6 @@ packs-spec =
     add-rows-2
     add-more
     sub-more
-    larger-requires
-    smaller-requires
     loop-less
     loop-again
     passed-requires-5

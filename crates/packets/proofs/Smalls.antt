@@ -1,15 +1,14 @@
 -- A record whose tag and whose value's length have a byte each, below 128: how it is told, and what it says.
 use mathlib.Core.Path.{_≡_, refl, sym, ap, _∙_}
-use Prim.Native.Nat.{ℕ, zero, suc, _+_, _*_, _/_, _%_, _≤_, _<_}
+use Prim.Native.Nat.{ℕ, _+_, _*_, _/_, _%_, _≤_, _<_}
 use native.Mathlib.Omega.{arith}
 use native.Mathlib.Nat.{add-zero, mod-eq-of-lt}
-use mathlib.Core.List.{List, [], _∷_}
-use lib.ListN.{length, take, drop, getD, set, length-drop}
-use lib.Seq.{sets, getD-drop}
+use mathlib.Core.List.{List}
+use lib.ListN.{length, take, drop, getD, length-drop}
+use lib.Seq.{getD-drop}
 use lib.Bits.{bitAnd, and-block, and-mask, and-high}
 use Rattle.format.specs.Coding.{number, bytesNumber}
 use Rattle.coding.proofs.Lens.{number-more}
-use Rattle.stores.proofs.Stores.{sets-under}
 
 -- ---- four bytes tested at once
 
@@ -51,21 +50,3 @@ two-small s q e h z =
     let first : bytesNumber (take 0 (drop q s)) * 256 + getD (drop q s) 0 0 ≡ bytesNumber (take 1 (drop q s)) = number-more (drop q s) 0 (omega (arith, long)) in
     let second : bytesNumber (take 1 (drop q s)) * 256 + getD (drop q s) 1 0 ≡ bytesNumber (take 2 (drop q s)) = number-more (drop q s) 1 (omega (arith, long)) in
     omega (arith, none (drop q s), zero-first, first, second, getD-drop q s 1 0, ap (λ i. getD s i 0) e)
-
--- ---- a value of few bytes
-
-abbrev pub listed : ℕ → (ℕ → ℕ) → List ℕ
-listed zero f = []
-listed (suc n) f = f 0 ∷ listed n (λ i. f (suc i))
-
-listed-is : (v : List ℕ) → v ≡ listed (length v) (λ i. getD v i 0)
-listed-is [] = refl
-listed-is (x ∷ v) = ap (λ u. x ∷ u) (listed-is v)
-
--- v has n bytes: these
-pub all-bytes : (v : List ℕ) (n : ℕ) → length v ≡ n → listed n (λ i. getD v i 0) ≡ v
-all-bytes v n e = ap (λ m. listed m (λ i. getD v i 0)) (sym e) ∙ sym (listed-is v)
-
--- what is stored over a tag and a length leaves nothing of them
-pub head-under : (o : List ℕ) (a x y : ℕ) (xs : List ℕ) → 2 ≤ length xs → sets (set (set o a x) (a + 1) y) a xs ≡ sets o a xs
-head-under o a x y xs h = sets-under (set o a x) (a + 1) (y ∷ []) a xs (omega arith) (omega (arith, h)) ∙ sets-under o a (x ∷ []) a xs (omega arith) (omega (arith, h))

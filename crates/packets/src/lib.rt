@@ -37,38 +37,15 @@ fn is_small(s: &[u8], p: usize) -> bool
     (a + 256 * b + 65536 * c + 16777216 * d) & 0x80ff80ff == 0
 }
 
-// The item of such a record; where it ends. Most values have few bytes, for which `copy` costs more than it stores; read before they are
-// stored, they go as one number.
+// The item of such a record; where it ends.
 fn put_small(out: &mut [u8], at: usize, tag: u8, v: &[u8]) -> usize
     requires { ⌜ (tag < 128) × (length (now v) < 128) × (at + length (flatItem (itemOf (record { tag = tag; value = now v }))) ≤ length (now out)) ⌝ }
     ensures { λ r. ⌜ (r ≡ at + length (flatItem (itemOf (record { tag = tag; value = now (v .entry) })))) × (now (out .exit) ≡ sets (now (out .entry)) at (flatItem (itemOf (record { tag = tag; value = now (v .entry) })))) ⌝ }
 {
     out[at] = tag;
     let a = at + 1;
-    let n = v.len();
-    out[a] = n as u8;
-    let b = a + 1;
-    if n == 1 {
-        out[b] = v[0];
-        return b + 1;
-    }
-    if n == 2 {
-        let x = v[0];
-        let y = v[1];
-        out[b] = x;
-        out[b + 1] = y;
-        return b + 2;
-    }
-    if n == 3 {
-        let x = v[0];
-        let y = v[1];
-        let z = v[2];
-        out[b] = x;
-        out[b + 1] = y;
-        out[b + 2] = z;
-        return b + 3;
-    }
-    stores::coded::put_short(out, at, coding::wide(tag), &v[0..])
+    out[a] = v.len() as u8;
+    stores::copy(out, a + 1, v)
 }
 
 // The records of a target from a place on, where at bytes are written for those before it.

@@ -93,7 +93,8 @@ pub fn copy_run(out: &mut [u8], at: usize, s: &[u8]) -> usize
     copy_long(out, at, s)
 }
 
-// The same for a value. Most have few bytes: they are stored where it is called.
+// The same for a value. Most have few bytes: they are stored where it is called. A longer one is lent anew, so that its place and length go to
+// memory then alone.
 pub fn copy(out: &mut [u8], at: usize, s: &[u8]) -> usize
     requires { ⌜ at + length (now s) ≤ length (now out) ⌝ }
     ensures { λ r. ⌜ (r ≡ at + length (now (s .entry))) × (now (out .exit) ≡ sets (now (out .entry)) at (now (s .entry))) ⌝ }
@@ -116,7 +117,7 @@ pub fn copy(out: &mut [u8], at: usize, s: &[u8]) -> usize
         move_four(out, at, s, 0);
         return at + n;
     }
-    copy_run(out, at, s)
+    copy_run(out, at, &s[0..])
 }
 
 // Four numbers, a row; where they end.

@@ -2,6 +2,7 @@
 use mathlib.Core.Path.{refl}
 use native.Mathlib.Nat.{add-zero}
 use native.Mathlib.Omega.{arith}
+use Rattle.coding.proofs.Rooms.{tail-part}
 use Rattle.stores.proofs.Copies.{Copied, copy-start, copy-one, copy-front, copy-back, copy-done}
 use borrow.Author.Needs.{needs}
 use Rattle.stores.proofs.copy.Statement.{statement}
@@ -62,6 +63,15 @@ returns-4 c =
     let p = copy-back (begun (c .before .before .before .before .before .before .before .before .before .before .before .before .before)) 4 (omega arith) (c .before .before .before .before .before .before .move-four .ensures) in
     (refl, copy-done (copy-front p 4 (omega arith) (c .before .before .move-four2 .ensures)) (omega arith))
 
+sub-copy-run : tie.Need-sub-copy-run
+sub-copy-run c = search needs
+
+part-copy-run-start : tie.Need-part-copy-run-start
+part-copy-run-start c = search needs
+
+part-copy-run-end : tie.Need-part-copy-run-end
+part-copy-run-end c = search needs
+
 copy-run-requires : tie.Need-copy-run-requires
 copy-run-requires c κs = search needs
 
@@ -69,7 +79,7 @@ same-length-4 : tie.Need-same-length-4
 same-length-4 c = search needs
 
 returns-5 : tie.Need-returns-5
-returns-5 c = search needs
+returns-5 c = rw (tail-part 0 (c .before .before .before .before .before .before .before .before .before .before .args .s .now)) at (c .before .before .copy-run .ensures)
 
 pub copy-spec : {M : Type 1} → statement M
 copy-spec =
@@ -91,6 +101,9 @@ copy-spec =
     add-result-3
     same-length-3
     returns-4
+    sub-copy-run
+    part-copy-run-start
+    part-copy-run-end
     copy-run-requires
     same-length-4
     returns-5)

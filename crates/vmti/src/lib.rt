@@ -49,7 +49,8 @@ fn head_of(alone: bool) -> u64
 pub fn read(packet: &[u8], alone: bool, sheet: &mut [u8]) -> Answer
     ensures { λ r. ⌜ leftOf r (now (sheet .exit)) ≡ leaves (now (sheet .entry)) (Calls.read (formOf alone) (now (packet .entry))) ⌝ }
 {
-    let c = walks::whole::check(packet, alone);
+    let table = items::table();
+    let c = walks::whole::check(&table, packet, alone);
     let Checked::Fine(sizes) = c else {
         return refusal(c);
     };
@@ -58,7 +59,6 @@ pub fn read(packet: &[u8], alone: bool, sheet: &mut [u8]) -> Answer
     }
     let from = walks::whole::set_start(packet, alone);
     stores::put_number(sheet, 0, head_of(alone), 3);
-    let table = items::table();
     sheets::item_sheet(&table, &packet[from..], true, alone, &mut sheet[3..]);
     answer_of(0, sizes.sheet)
 }
@@ -107,7 +107,8 @@ pub fn write(sheet: &[u8], packet: &mut [u8]) -> Answer
 pub fn normalise(packet: &[u8], alone: bool, out: &mut [u8]) -> Answer
     ensures { λ r. ⌜ leftOf r (now (out .exit)) ≡ leaves (now (out .entry)) (Calls.normalise (formOf alone) (now (packet .entry))) ⌝ }
 {
-    let c = walks::whole::check(packet, alone);
+    let table = items::table();
+    let c = walks::whole::check(&table, packet, alone);
     let Checked::Fine(sizes) = c else {
         return refusal(c);
     };
@@ -121,7 +122,6 @@ pub fn normalise(packet: &[u8], alone: bool, out: &mut [u8]) -> Answer
         return answer_of(0, size);
     }
     let from = walks::whole::set_start(packet, alone);
-    let table = items::table();
     let a = frames::open(out, alone, sizes.normal);
     let n = normals::item_normal(
         &table,
@@ -165,12 +165,12 @@ pub fn edit(
 ) -> Answer
     ensures { λ r. ⌜ leftOf r (now (out .exit)) ≡ leaves (now (out .entry)) (Edit.edit (formOf alone) (holderOf set id) tag (changeOf removal (now (value .entry))) (now (packet .entry))) ⌝ }
 {
-    let c = walks::whole::check(packet, alone);
+    let table = items::table();
+    let c = walks::whole::check(&table, packet, alone);
     let Checked::Fine(_) = c else {
         return refusal(c);
     };
     let from = walks::whole::set_start(packet, alone);
-    let table = items::table();
     let s = &packet[from..];
     let f = edits::judge(&table, s, alone, set, id, tag, removal, value);
     let Found::There(p) = f else {
@@ -208,7 +208,8 @@ pub fn edit(
 pub fn locate_numbers(packet: &[u8], alone: bool, rows: &mut [u64]) -> Answer
     ensures { λ r. ⌜ leftOf r (now (rows .exit)) ≡ leavesRows (now (rows .entry)) (Rows.locate (formOf alone) (now (packet .entry))) ⌝ }
 {
-    let c = walks::whole::check(packet, alone);
+    let table = items::table();
+    let c = walks::whole::check(&table, packet, alone);
     let Checked::Fine(sizes) = c else {
         return refusal(c);
     };

@@ -8,7 +8,7 @@ ghost use Rattle.format.specs.Coding.{bytesNumber};
 ghost use Rattle.format.specs.Packet.{checksum};
 ghost use Rattle.format.specs.Table.{standalone};
 ghost use Rattle.format.specs.Read.{opening, start, parse};
-ghost use Rattle.items.specs.Meet.{formOf};
+ghost use Rattle.items.specs.Meet.{formOf, itemTable};
 ghost use Rattle.walks.specs.Meet.{checkedOf, Within};
 ghost use Rattle.walks.specs.Whole.{widthOf, numFault, walkFault, closingBy, fineOf};
 use super::Checked;
@@ -136,7 +136,8 @@ fn wrong_set(w: Walked, k: usize) -> Checked
 }
 
 // The sizes of what a packet says, or the refusal: 1, what opens it, the set, what closes it.
-pub fn check(s: &[u8], alone: bool) -> Checked
+pub fn check(table: &[u64], s: &[u8], alone: bool) -> Checked
+    requires { ⌜ now table ≡ itemTable ⌝ }
     ensures { λ r. ⌜ r ≡ checkedOf (parse (formOf alone) (now (s .entry))) ⌝ }
 {
     if 8192 < s.len() {
@@ -154,8 +155,7 @@ pub fn check(s: &[u8], alone: bool) -> Checked
         return wrong_num(a);
     };
     let from = start_of(alone, width);
-    let table = items::table();
-    let w = super::item_walk(&table, &s[from..], true, alone);
+    let w = super::item_walk(table, &s[from..], true, alone);
     let Walked::Good { sizes, mark } = w else {
         return wrong_set(w, from);
     };

@@ -14,8 +14,14 @@ use Rattle.vmti.proofs.Editing.{not-long, set-is, edit-unread, edit-rul
 use Rattle.vmti.proofs.edit.Statement.{statement}
 use Rattle.vmti.proofs.edit.Tie as tie
 
+table-requires : tie.Need-table-requires
+table-requires c κs = search needs
+
+slice-aggregate-check : tie.Need-slice-aggregate-check
+slice-aggregate-check c = search needs
+
 check-requires : tie.Need-check-requires
-check-requires c κs = search needs
+check-requires c κs = c .before .table .ensures
 
 enum-told : tie.Need-enum-told
 enum-told c = search needs
@@ -32,16 +38,13 @@ returns c = edit-unread _ _ _ _ _ (c .before .before .before .check .ensures) _ 
 set-start-requires : tie.Need-set-start-requires
 set-start-requires c κs =
     let a = c in
-    opened _ _ (a .before .before .check .ensures) (λ i. a .before .before .before .before .before .shared-slice-known .given i .fits) (a .enum-told .given .1) .short
-
-table-requires : tie.Need-table-requires
-table-requires c κs = search needs
+    opened _ _ (a .before .before .check .ensures) (λ i. a .before .before .before .before .before .before .before .shared-slice-known .given i .fits) (a .enum-told .given .1) .short
 
 sub-s : tie.Need-sub-s
 sub-s c =
-    let k = c .before in
+    let k = c in
     let a = k .before in
-    set-room _ _ (a .before .before .check .ensures) (λ i. a .before .before .before .before .before .shared-slice-known .given i .fits) (a .enum-told .given .1) (k .set-start .ensures)
+    set-room _ _ (a .before .before .check .ensures) (λ i. a .before .before .before .before .before .before .before .shared-slice-known .given i .fits) (a .enum-told .given .1) (k .set-start .ensures)
 
 part-s-start : tie.Need-part-s-start
 part-s-start c = sub-s c
@@ -54,9 +57,9 @@ slice-aggregate-judge c = search needs
 
 judge-requires : tie.Need-judge-requires
 judge-requires c κs =
-    let k = c .before .before .before in
+    let k = c .before .before in
     let a = k .before in
-    (c .before .before .table .ensures, set-is _ _ (a .before .before .check .ensures) (λ i. a .before .before .before .before .before .shared-slice-known .given i .fits) (a .enum-told .given .1) (k .set-start .ensures))
+    (a .before .before .before .before .table .ensures, set-is _ _ (a .before .before .check .ensures) (λ i. a .before .before .before .before .before .before .before .shared-slice-known .given i .fits) (a .enum-told .given .1) (k .set-start .ensures))
 
 enum-known-f : tie.Need-enum-known-f
 enum-known-f c = search needs
@@ -70,9 +73,9 @@ edit-refusal-requires c κs = search needs
 returns-2 : tie.Need-returns-2
 returns-2 c =
     let j = c .before .before .before in
-    let k = j .before .before .before .before in
+    let k = j .before .before .before in
     let a = k .before in
-    edit-ruled _ _ _ _ _ (a .before .before .check .ensures) (λ i. a .before .before .before .before .before .shared-slice-known .given i .fits) (a .enum-told .given .1) (k .set-start .ensures) (j .judge .ensures) _ (c .before .enum-told3 .given .1) (c .edit-refusal .ensures)
+    edit-ruled _ _ _ _ _ (a .before .before .check .ensures) (λ i. a .before .before .before .before .before .before .before .shared-slice-known .given i .fits) (a .enum-told .given .1) (k .set-start .ensures) (j .judge .ensures) _ (c .before .enum-told3 .given .1) (c .edit-refusal .ensures)
 
 over-long-requires : tie.Need-over-long-requires
 over-long-requires c κs = search needs
@@ -84,9 +87,9 @@ returns-3 : tie.Need-returns-3
 returns-3 c =
     let f = c .before .before .before .before in
     let j = f .before .before in
-    let k = j .before .before .before .before in
+    let k = j .before .before .before in
     let a = k .before in
-    edit-over _ _ _ _ _ (a .before .before .check .ensures) (λ i. a .before .before .before .before .before .shared-slice-known .given i .fits) (a .enum-told .given .1) (k .set-start .ensures) (j .judge .ensures) (f .f .given .1) (a .before .before .before .before .before .before .args .removal) (a .before .before .before .before .before .before .args .value .now) refl (c .before .before .over-long .ensures) (c .before .if1 .taken) _ (c .answer-of .ensures)
+    edit-over _ _ _ _ _ (a .before .before .check .ensures) (λ i. a .before .before .before .before .before .before .before .shared-slice-known .given i .fits) (a .enum-told .given .1) (k .set-start .ensures) (j .judge .ensures) (f .f .given .1) (a .before .before .before .before .before .before .before .before .args .removal) (a .before .before .before .before .before .before .before .before .args .value .now) refl (c .before .before .over-long .ensures) (c .before .if1 .taken) _ (c .answer-of .ensures)
 
 slice-aggregate-edited-size : tie.Need-slice-aggregate-edited-size
 slice-aggregate-edited-size c = search needs
@@ -95,18 +98,18 @@ edited-size-requires : tie.Need-edited-size-requires
 edited-size-requires c κs =
     let f = c .before .before .before .before in
     let j = f .before .before in
-    let k = j .before .before .before .before in
+    let k = j .before .before .before in
     let a = k .before in
-    (c .before .before .before .before .before .before .before .before .before .table .ensures, editing _ _ _ _ _ (a .before .before .check .ensures) (λ i. a .before .before .before .before .before .shared-slice-known .given i .fits) (a .enum-told .given .1) (k .set-start .ensures) (j .judge .ensures) (f .f .given .1) (not-long (a .before .before .before .before .before .before .args .removal) (a .before .before .before .before .before .before .args .value .now) (c .before .before .over-long .ensures) (c .before .if1 .left)))
+    (a .before .before .before .before .table .ensures, editing _ _ _ _ _ (a .before .before .check .ensures) (λ i. a .before .before .before .before .before .before .before .shared-slice-known .given i .fits) (a .enum-told .given .1) (k .set-start .ensures) (j .judge .ensures) (f .f .given .1) (not-long (a .before .before .before .before .before .before .before .before .args .removal) (a .before .before .before .before .before .before .before .before .args .value .now) (c .before .before .over-long .ensures) (c .before .if1 .left)))
 
 frame-size-requires : tie.Need-frame-size-requires
 frame-size-requires c κs =
     let m = c in
     let f = m .before .before .before .before .before in
     let j = m .before .before .before .before .before .before .before in
-    let k = m .before .before .before .before .before .before .before .before .before .before .before in
+    let k = m .before .before .before .before .before .before .before .before .before .before in
     let a = k .before in
-    omega (arith, m .edited-size .ensures, edited-small _ (a .before .before .before .before .before .before .args .set) (a .before .before .before .before .before .before .args .id) _ _ _ _ (editing _ _ _ _ _ (a .before .before .check .ensures) (λ i. a .before .before .before .before .before .shared-slice-known .given i .fits) (a .enum-told .given .1) (k .set-start .ensures) (j .judge .ensures) (f .f .given .1) (not-long (a .before .before .before .before .before .before .args .removal) (a .before .before .before .before .before .before .args .value .now) (m .before .before .before .over-long .ensures) (m .before .before .if1 .left))))
+    omega (arith, m .edited-size .ensures, edited-small _ (a .before .before .before .before .before .before .before .before .args .set) (a .before .before .before .before .before .before .before .before .args .id) _ _ _ _ (editing _ _ _ _ _ (a .before .before .check .ensures) (λ i. a .before .before .before .before .before .before .before .shared-slice-known .given i .fits) (a .enum-told .given .1) (k .set-start .ensures) (j .judge .ensures) (f .f .given .1) (not-long (a .before .before .before .before .before .before .before .before .args .removal) (a .before .before .before .before .before .before .before .before .args .value .now) (m .before .before .before .over-long .ensures) (m .before .before .if1 .left))))
 
 answer-of-requires-2 : tie.Need-answer-of-requires-2
 answer-of-requires-2 c κs = search needs
@@ -117,9 +120,9 @@ returns-4 c =
     let m = z .before in
     let f = m .before .before .before .before .before in
     let j = m .before .before .before .before .before .before .before in
-    let k = m .before .before .before .before .before .before .before .before .before .before .before in
+    let k = m .before .before .before .before .before .before .before .before .before .before in
     let a = k .before in
-    packs-long (edit-packs _ _ _ _ _ (a .before .before .check .ensures) (λ i. a .before .before .before .before .before .shared-slice-known .given i .fits) (a .enum-told .given .1) (k .set-start .ensures) (j .judge .ensures) (f .f .given .1) (m .edited-size .ensures) (z .frame-size .ensures)) _ (c .before .if2 .taken) (c .answer-of2 .ensures)
+    packs-long (edit-packs _ _ _ _ _ (a .before .before .check .ensures) (λ i. a .before .before .before .before .before .before .before .shared-slice-known .given i .fits) (a .enum-told .given .1) (k .set-start .ensures) (j .judge .ensures) (f .f .given .1) (m .edited-size .ensures) (z .frame-size .ensures)) _ (c .before .if2 .taken) (c .answer-of2 .ensures)
 
 answer-of-requires-3 : tie.Need-answer-of-requires-3
 answer-of-requires-3 c κs = search needs
@@ -131,9 +134,9 @@ returns-5 c =
     let m = z .before in
     let f = m .before .before .before .before .before in
     let j = m .before .before .before .before .before .before .before in
-    let k = m .before .before .before .before .before .before .before .before .before .before .before in
+    let k = m .before .before .before .before .before .before .before .before .before .before in
     let a = k .before in
-    packs-short (edit-packs _ _ _ _ _ (a .before .before .check .ensures) (λ i. a .before .before .before .before .before .shared-slice-known .given i .fits) (a .enum-told .given .1) (k .set-start .ensures) (j .judge .ensures) (f .f .given .1) (m .edited-size .ensures) (z .frame-size .ensures)) _ (g .before .if2 .left) (g .if3 .taken) (c .answer-of3 .ensures)
+    packs-short (edit-packs _ _ _ _ _ (a .before .before .check .ensures) (λ i. a .before .before .before .before .before .before .before .shared-slice-known .given i .fits) (a .enum-told .given .1) (k .set-start .ensures) (j .judge .ensures) (f .f .given .1) (m .edited-size .ensures) (z .frame-size .ensures)) _ (g .before .if2 .left) (g .if3 .taken) (c .answer-of3 .ensures)
 
 open-requires : tie.Need-open-requires
 open-requires c κs =
@@ -142,12 +145,12 @@ open-requires c κs =
     let m = z .before in
     let f = m .before .before .before .before .before in
     let j = m .before .before .before .before .before .before .before in
-    let k = m .before .before .before .before .before .before .before .before .before .before .before in
+    let k = m .before .before .before .before .before .before .before .before .before .before in
     let a = k .before in
-    open-asked (packs-fit (edit-packs _ _ _ _ _ (a .before .before .check .ensures) (λ i. a .before .before .before .before .before .shared-slice-known .given i .fits) (a .enum-told .given .1) (k .set-start .ensures) (j .judge .ensures) (f .f .given .1) (m .edited-size .ensures) (z .frame-size .ensures)) (a .before .before .before .before .before .before .args .out .now) (g .before .if2 .left) (g .if3 .left))
+    open-asked (packs-fit (edit-packs _ _ _ _ _ (a .before .before .check .ensures) (λ i. a .before .before .before .before .before .before .before .shared-slice-known .given i .fits) (a .enum-told .given .1) (k .set-start .ensures) (j .judge .ensures) (f .f .given .1) (m .edited-size .ensures) (z .frame-size .ensures)) (a .before .before .before .before .before .before .before .before .args .out .now) (g .before .if2 .left) (g .if3 .left))
 
 slice-aggregate-put-edited : tie.Need-slice-aggregate-put-edited
-slice-aggregate-put-edited c = sym (table-long _ (c .before .before .before .before .before .before .before .before .before .before .before .before .before .before .before .before .before .before .table .ensures))
+slice-aggregate-put-edited c = sym (table-long _ (c .before .before .before .before .before .before .before .before .before .before .before .before .before .before .before .before .before .before .before .before .before .before .before .table .ensures))
 
 sub-put-edited : tie.Need-sub-put-edited
 sub-put-edited c =
@@ -157,9 +160,9 @@ sub-put-edited c =
     let m = z .before in
     let f = m .before .before .before .before .before in
     let j = m .before .before .before .before .before .before .before in
-    let k = m .before .before .before .before .before .before .before .before .before .before .before in
+    let k = m .before .before .before .before .before .before .before .before .before .before in
     let a = k .before in
-    rest-from (packs-fit (edit-packs _ _ _ _ _ (a .before .before .check .ensures) (λ i. a .before .before .before .before .before .shared-slice-known .given i .fits) (a .enum-told .given .1) (k .set-start .ensures) (j .judge .ensures) (f .f .given .1) (m .edited-size .ensures) (z .frame-size .ensures)) (a .before .before .before .before .before .before .args .out .now) (g .before .if2 .left) (g .if3 .left)) (o .«open» .ensures)
+    rest-from (packs-fit (edit-packs _ _ _ _ _ (a .before .before .check .ensures) (λ i. a .before .before .before .before .before .before .before .shared-slice-known .given i .fits) (a .enum-told .given .1) (k .set-start .ensures) (j .judge .ensures) (f .f .given .1) (m .edited-size .ensures) (z .frame-size .ensures)) (a .before .before .before .before .before .before .before .before .args .out .now) (g .before .if2 .left) (g .if3 .left)) (o .«open» .ensures)
 
 part-put-edited-start : tie.Need-part-put-edited-start
 part-put-edited-start c = sub-put-edited c
@@ -175,9 +178,9 @@ put-edited-requires c κs =
     let m = z .before in
     let f = m .before .before .before .before .before in
     let j = m .before .before .before .before .before .before .before in
-    let k = m .before .before .before .before .before .before .before .before .before .before .before in
+    let k = m .before .before .before .before .before .before .before .before .before .before in
     let a = k .before in
-    (m .before .before .before .before .before .before .before .before .before .before .table .ensures, (editing _ _ _ _ _ (a .before .before .check .ensures) (λ i. a .before .before .before .before .before .shared-slice-known .given i .fits) (a .enum-told .given .1) (k .set-start .ensures) (j .judge .ensures) (f .f .given .1) (not-long (a .before .before .before .before .before .before .args .removal) (a .before .before .before .before .before .before .args .value .now) (m .before .before .before .over-long .ensures) (m .before .before .if1 .left))), rest-room (packs-fit (edit-packs _ _ _ _ _ (a .before .before .check .ensures) (λ i. a .before .before .before .before .before .shared-slice-known .given i .fits) (a .enum-told .given .1) (k .set-start .ensures) (j .judge .ensures) (f .f .given .1) (m .edited-size .ensures) (z .frame-size .ensures)) (a .before .before .before .before .before .before .args .out .now) (g .before .if2 .left) (g .if3 .left)) (o .«open» .ensures) refl)
+    (a .before .before .before .before .table .ensures, (editing _ _ _ _ _ (a .before .before .check .ensures) (λ i. a .before .before .before .before .before .before .before .shared-slice-known .given i .fits) (a .enum-told .given .1) (k .set-start .ensures) (j .judge .ensures) (f .f .given .1) (not-long (a .before .before .before .before .before .before .before .before .args .removal) (a .before .before .before .before .before .before .before .before .args .value .now) (m .before .before .before .over-long .ensures) (m .before .before .if1 .left))), rest-room (packs-fit (edit-packs _ _ _ _ _ (a .before .before .check .ensures) (λ i. a .before .before .before .before .before .before .before .shared-slice-known .given i .fits) (a .enum-told .given .1) (k .set-start .ensures) (j .judge .ensures) (f .f .given .1) (m .edited-size .ensures) (z .frame-size .ensures)) (a .before .before .before .before .before .before .before .before .args .out .now) (g .before .if2 .left) (g .if3 .left)) (o .«open» .ensures) refl)
 
 add-close : tie.Need-add-close
 add-close c =
@@ -188,9 +191,9 @@ add-close c =
     let m = z .before in
     let f = m .before .before .before .before .before in
     let j = m .before .before .before .before .before .before .before in
-    let k = m .before .before .before .before .before .before .before .before .before .before .before in
+    let k = m .before .before .before .before .before .before .before .before .before .before in
     let a = k .before in
-    omega (arith, entries-end (packs-fit (edit-packs _ _ _ _ _ (a .before .before .check .ensures) (λ i. a .before .before .before .before .before .shared-slice-known .given i .fits) (a .enum-told .given .1) (k .set-start .ensures) (j .judge .ensures) (f .f .given .1) (m .edited-size .ensures) (z .frame-size .ensures)) (a .before .before .before .before .before .before .args .out .now) (g .before .if2 .left) (g .if3 .left)) (o .«open» .ensures) refl (n .put-edited .ensures))
+    omega (arith, entries-end (packs-fit (edit-packs _ _ _ _ _ (a .before .before .check .ensures) (λ i. a .before .before .before .before .before .before .before .shared-slice-known .given i .fits) (a .enum-told .given .1) (k .set-start .ensures) (j .judge .ensures) (f .f .given .1) (m .edited-size .ensures) (z .frame-size .ensures)) (a .before .before .before .before .before .before .before .before .args .out .now) (g .before .if2 .left) (g .if3 .left)) (o .«open» .ensures) refl (n .put-edited .ensures))
 
 close-requires : tie.Need-close-requires
 close-requires c κs =
@@ -201,9 +204,9 @@ close-requires c κs =
     let m = z .before in
     let f = m .before .before .before .before .before in
     let j = m .before .before .before .before .before .before .before in
-    let k = m .before .before .before .before .before .before .before .before .before .before .before in
+    let k = m .before .before .before .before .before .before .before .before .before .before in
     let a = k .before in
-    close-asked (packs-fit (edit-packs _ _ _ _ _ (a .before .before .check .ensures) (λ i. a .before .before .before .before .before .shared-slice-known .given i .fits) (a .enum-told .given .1) (k .set-start .ensures) (j .judge .ensures) (f .f .given .1) (m .edited-size .ensures) (z .frame-size .ensures)) (a .before .before .before .before .before .before .args .out .now) (g .before .if2 .left) (g .if3 .left)) (o .«open» .ensures) refl (n .put-edited .ensures)
+    close-asked (packs-fit (edit-packs _ _ _ _ _ (a .before .before .check .ensures) (λ i. a .before .before .before .before .before .before .before .shared-slice-known .given i .fits) (a .enum-told .given .1) (k .set-start .ensures) (j .judge .ensures) (f .f .given .1) (m .edited-size .ensures) (z .frame-size .ensures)) (a .before .before .before .before .before .before .before .before .args .out .now) (g .before .if2 .left) (g .if3 .left)) (o .«open» .ensures) refl (n .put-edited .ensures)
 
 answer-of-requires-4 : tie.Need-answer-of-requires-4
 answer-of-requires-4 c κs = search needs
@@ -220,22 +223,23 @@ returns-6 c =
     let m = z .before in
     let f = m .before .before .before .before .before in
     let j = m .before .before .before .before .before .before .before in
-    let k = m .before .before .before .before .before .before .before .before .before .before .before in
+    let k = m .before .before .before .before .before .before .before .before .before .before in
     let a = k .before in
-    packs-done (edit-packs _ _ _ _ _ (a .before .before .check .ensures) (λ i. a .before .before .before .before .before .shared-slice-known .given i .fits) (a .enum-told .given .1) (k .set-start .ensures) (j .judge .ensures) (f .f .given .1) (m .edited-size .ensures) (z .frame-size .ensures)) _ (g .before .if2 .left) (g .if3 .left)
-    (all-written (packs-fit (edit-packs _ _ _ _ _ (a .before .before .check .ensures) (λ i. a .before .before .before .before .before .shared-slice-known .given i .fits) (a .enum-told .given .1) (k .set-start .ensures) (j .judge .ensures) (f .f .given .1) (m .edited-size .ensures) (z .frame-size .ensures)) (a .before .before .before .before .before .before .args .out .now) (g .before .if2 .left) (g .if3 .left)) (o .«open» .ensures) refl (n .put-edited .ensures) (c .before .before .before .close .ensures)) (c .answer-of4 .ensures)
+    packs-done (edit-packs _ _ _ _ _ (a .before .before .check .ensures) (λ i. a .before .before .before .before .before .before .before .shared-slice-known .given i .fits) (a .enum-told .given .1) (k .set-start .ensures) (j .judge .ensures) (f .f .given .1) (m .edited-size .ensures) (z .frame-size .ensures)) _ (g .before .if2 .left) (g .if3 .left)
+    (all-written (packs-fit (edit-packs _ _ _ _ _ (a .before .before .check .ensures) (λ i. a .before .before .before .before .before .before .before .shared-slice-known .given i .fits) (a .enum-told .given .1) (k .set-start .ensures) (j .judge .ensures) (f .f .given .1) (m .edited-size .ensures) (z .frame-size .ensures)) (a .before .before .before .before .before .before .before .before .args .out .now) (g .before .if2 .left) (g .if3 .left)) (o .«open» .ensures) refl (n .put-edited .ensures) (c .before .before .before .close .ensures)) (c .answer-of4 .ensures)
 
 pub edit-spec : {M : Type 1} → statement M
 edit-spec =
     tie.close
     (tie.spec
+    table-requires
+    slice-aggregate-check
     check-requires
     enum-told
     enum-told-2
     refusal-requires
     returns
     set-start-requires
-    table-requires
     sub-s
     part-s-start
     part-s-end

@@ -7,8 +7,14 @@ use Rattle.vmti.proofs.Locating.{locate-refused, found-few, locate-shor
 use Rattle.vmti.proofs.locate_numbers.Statement.{statement}
 use Rattle.vmti.proofs.locate_numbers.Tie as tie
 
+table-requires : tie.Need-table-requires
+table-requires c κs = search needs
+
+slice-aggregate-check : tie.Need-slice-aggregate-check
+slice-aggregate-check c = search needs
+
 check-requires : tie.Need-check-requires
-check-requires c κs = search needs
+check-requires c κs = c .before .table .ensures
 
 enum-known-c : tie.Need-enum-known-c
 enum-known-c c = search needs
@@ -25,7 +31,7 @@ returns c = locate-refused _ _ _ (c .before .before .before .check .ensures) (c 
 mul-if1 : tie.Need-mul-if1
 mul-if1 c =
     let a = c .before .before in
-    omega (arith, found-few _ _ (a .before .before .before .before .before .args .rows .now) (a .before .before .check .ensures) (λ i. a .before .before .before .before .shared-slice-known .given i .fits) (a .c .given .1))
+    omega (arith, found-few _ _ (a .before .before .before .before .before .before .before .args .rows .now) (a .before .before .check .ensures) (λ i. a .before .before .before .before .before .before .shared-slice-known .given i .fits) (a .c .given .1))
 
 answer-of-requires : tie.Need-answer-of-requires
 answer-of-requires c κs = search needs
@@ -33,17 +39,17 @@ answer-of-requires c κs = search needs
 returns-2 : tie.Need-returns-2
 returns-2 c =
     let a = c .before .before .before .before in
-    locate-short _ _ _ (a .before .before .check .ensures) (λ i. a .before .before .before .before .shared-slice-known .given i .fits) (a .c .given .1) (c .before .if1 .taken) (c .answer-of .ensures)
+    locate-short _ _ _ (a .before .before .check .ensures) (λ i. a .before .before .before .before .before .before .shared-slice-known .given i .fits) (a .c .given .1) (c .before .if1 .taken) (c .answer-of .ensures)
 
 set-start-requires : tie.Need-set-start-requires
 set-start-requires c κs =
     let a = c .before .before .before in
-    opened _ _ (a .before .before .check .ensures) (λ i. a .before .before .before .before .shared-slice-known .given i .fits) (a .c .given .1) .short
+    opened _ _ (a .before .before .check .ensures) (λ i. a .before .before .before .before .before .before .shared-slice-known .given i .fits) (a .c .given .1) .short
 
 sub-item-rows : tie.Need-sub-item-rows
 sub-item-rows c =
     let a = c .before .before .before .before in
-    set-room _ _ (a .before .before .check .ensures) (λ i. a .before .before .before .before .shared-slice-known .given i .fits) (a .c .given .1) (c .set-start .ensures)
+    set-room _ _ (a .before .before .check .ensures) (λ i. a .before .before .before .before .before .before .shared-slice-known .given i .fits) (a .c .given .1) (c .set-start .ensures)
 
 part-item-rows-start : tie.Need-part-item-rows-start
 part-item-rows-start c = sub-item-rows c
@@ -55,9 +61,9 @@ item-rows-requires : tie.Need-item-rows-requires
 item-rows-requires c κs =
     let k = c .before .before in
     let a = k .before .before .before .before in (
-      set-long _ _ (a .before .before .check .ensures) (λ i. a .before .before .before .before .shared-slice-known .given i .fits) (a .c .given .1) (k .set-start .ensures),
-      set-ran _ _ (a .before .before .check .ensures) (λ i. a .before .before .before .before .shared-slice-known .given i .fits) (a .c .given .1) (k .set-start .ensures),
-      omega (arith, found-size _ _ (a .before .before .before .before .before .args .rows .now) (a .before .before .check .ensures) (λ i. a .before .before .before .before .shared-slice-known .given i .fits) (a .c .given .1) (k .set-start .ensures), k .before .if1 .left),
+      set-long _ _ (a .before .before .check .ensures) (λ i. a .before .before .before .before .before .before .shared-slice-known .given i .fits) (a .c .given .1) (k .set-start .ensures),
+      set-ran _ _ (a .before .before .check .ensures) (λ i. a .before .before .before .before .before .before .shared-slice-known .given i .fits) (a .c .given .1) (k .set-start .ensures),
+      omega (arith, found-size _ _ (a .before .before .before .before .before .before .before .args .rows .now) (a .before .before .check .ensures) (λ i. a .before .before .before .before .before .before .shared-slice-known .given i .fits) (a .c .given .1) (k .set-start .ensures), k .before .if1 .left),
     )
 
 answer-of-requires-2 : tie.Need-answer-of-requires-2
@@ -70,12 +76,14 @@ returns-3 : tie.Need-returns-3
 returns-3 c =
     let k = c .before .before .before .before .before .before in
     let a = k .before .before .before .before in
-    locate-done _ _ _ (a .before .before .check .ensures) (λ i. a .before .before .before .before .shared-slice-known .given i .fits) (a .c .given .1) (k .set-start .ensures) (k .before .if1 .left) (c .before .before .before .item-rows .ensures .1) (c .answer-of2 .ensures)
+    locate-done _ _ _ (a .before .before .check .ensures) (λ i. a .before .before .before .before .before .before .shared-slice-known .given i .fits) (a .c .given .1) (k .set-start .ensures) (k .before .if1 .left) (c .before .before .before .item-rows .ensures .1) (c .answer-of2 .ensures)
 
 pub locate-numbers-spec : {M : Type 1} → statement M
 locate-numbers-spec =
     tie.close
     (tie.spec
+    table-requires
+    slice-aggregate-check
     check-requires
     enum-known-c
     enum-told

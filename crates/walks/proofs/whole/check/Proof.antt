@@ -29,16 +29,10 @@ start-of-requires c κs =
     let a = c .before in
     omega (arith, a .before .before .before .if1 .left, check-room _ _ (a .before .before .before .if1 .left) (a .before .before .opening-of .ensures) (a .a .given .1) .0)
 
-table-requires : tie.Need-table-requires
-table-requires c κs = search needs
-
-slice-aggregate-item-walk : tie.Need-slice-aggregate-item-walk
-slice-aggregate-item-walk c = search needs
-
 sub-item-walk : tie.Need-sub-item-walk
 sub-item-walk c =
-    let a = c .before .before .before .before in
-    omega (arith, c .before .before .start-of .ensures, check-room _ _ (a .before .before .before .if1 .left) (a .before .before .opening-of .ensures) (a .a .given .1) .1)
+    let a = c .before .before in
+    omega (arith, c .start-of .ensures, check-room _ _ (a .before .before .before .if1 .left) (a .before .before .opening-of .ensures) (a .a .given .1) .1)
 
 part-item-walk-start : tie.Need-part-item-walk-start
 part-item-walk-start c = sub-item-walk c
@@ -47,7 +41,7 @@ part-item-walk-end : tie.Need-part-item-walk-end
 part-item-walk-end c = search needs
 
 item-walk-requires : tie.Need-item-walk-requires
-item-walk-requires c κs = (c .before .before .table .ensures, omega arith)
+item-walk-requires c κs = (c .before .before .before .before .before .before .before .before .before .pre, omega arith)
 
 enum-known-w : tie.Need-enum-known-w
 enum-known-w c = search needs
@@ -57,31 +51,31 @@ enum-told-2 c = search needs
 
 wrong-set-requires : tie.Need-wrong-set-requires
 wrong-set-requires c κs =
-    let k = c .before .before .before .before .before .before in
+    let k = c .before .before .before .before in
     let l = k .before .before .before .before .before .if1 .left in
-    (set-within (k .before .before .before .before .before .before .before .args .s .now) (k .start-of .result) l (c .before .before .item-walk .result) (c .before .before .item-walk .ensures .1), omega (arith, l, sub-item-walk (c .before .before .before .before)))
+    (set-within (k .before .before .before .before .before .before .before .before .args .s .now) (k .start-of .result) l (c .before .before .item-walk .result) (c .before .before .item-walk .ensures .1), omega (arith, l, sub-item-walk k))
 
 returns-3 : tie.Need-returns-3
 returns-3 c =
-    let k = c .before .before .before .before .before .before .before in
+    let k = c .before .before .before .before .before in
     let a = k .before .before in
     check-bad _ _ (a .before .before .before .if1 .left) (a .before .before .opening-of .ensures) (a .a .given .1) (k .start-of .ensures) (c .before .before .before .item-walk .ensures .0) (c .before .enum-told2 .given .1) (c .wrong-set .ensures)
 
 closing-of-requires : tie.Need-closing-of-requires
 closing-of-requires c κs =
-    let k = c .before .before .before .before .before .before .before in
+    let k = c .before .before .before .before .before in
     let a = k .before .before in
     let l = a .before .before .before .if1 .left in (
       check-room _ _ l (a .before .before .opening-of .ensures) (a .a .given .1) .2,
       l,
-      good-within (k .before .before .before .before .before .before .before .args .s .now) (k .start-of .result) l (c .before .before .before .item-walk .result) (c .before .before .before .item-walk .ensures .1) (c .before .w .given .1),
+      good-within (k .before .before .before .before .before .before .before .before .args .s .now) (k .start-of .result) l (c .before .before .before .item-walk .result) (c .before .before .before .item-walk .ensures .1) (c .before .w .given .1),
     )
 
 returns-4 : tie.Need-returns-4
 returns-4 c =
-    let k = c .before .before .before .before .before .before .before .before in
+    let k = c .before .before .before .before .before .before in
     let a = k .before .before in
-    check-good _ _ (a .before .before .before .if1 .left) (a .before .before .opening-of .ensures) (a .a .given .1) (k .start-of .ensures) (c .before .before .before .before .item-walk .ensures .0) (λ i. a .before .before .before .before .shared-slice-known .given i .fits) (c .before .before .w .given .1) (c .closing-of .ensures)
+    check-good _ _ (a .before .before .before .if1 .left) (a .before .before .opening-of .ensures) (a .a .given .1) (k .start-of .ensures) (c .before .before .before .before .item-walk .ensures .0) (λ i. a .before .before .before .before .shared-slice-known2 .given i .fits) (c .before .before .w .given .1) (c .closing-of .ensures)
 
 pub check-spec : {M : Type 1} → statement M
 check-spec =
@@ -94,8 +88,6 @@ check-spec =
     wrong-num-requires
     returns-2
     start-of-requires
-    table-requires
-    slice-aggregate-item-walk
     sub-item-walk
     part-item-walk-start
     part-item-walk-end

@@ -1,13 +1,13 @@
 -- Numbers and lengths as the code reads them: one byte more, and the cases of `lenOf` by the first byte.
-use mathlib.Core.Path.{_≡_, refl, sym, _∙_}
+use mathlib.Core.Path.{_≡_, refl, sym, ap, _∙_}
 use Prim.Native.Nat.{ℕ, suc, _+_, _-_, _*_, _^_, _≤_, _<_}
 use native.Mathlib.Omega.{arith}
-use native.Mathlib.Nat.{sub-zero, pow-zero, pow-suc}
+use native.Mathlib.Nat.{add-zero, sub-zero, pow-zero, pow-suc}
 use native.Mathlib.Numerals.{add-one}
 use mathlib.Core.List.{List, [], _∷_, _++_}
 use mathlib.Core.Logic.{_⊎_, inl, inr}
 use lib.ListN.{length, take, drop, getD, length-drop}
-use lib.Seq.{take-suc, take-add, length-take-le}
+use lib.Seq.{take-suc, take-add, length-take-le, getD-drop}
 use borrow.Author.Tests.{lt-ltb, le-ltb, le-leb, lt-leb}
 use Rattle.format.specs.Answer.{ok, refused, got, _>>=_, need}
 use Rattle.format.specs.Coding.{bytesNumber, number, lenOf, longOf}
@@ -37,6 +37,19 @@ pub number-halves : (s : List ℕ) → 8 ≤ length s → {a b : ℕ} → a ≡ 
 number-halves s h ea eb =
     let n : length (take 4 (drop 4 s)) ≡ 4 = length-take-le 4 (drop 4 s) (rw length-drop (omega arith)) in
     rw (take-add 4 4 s, number-append (take 4 s) (take 4 (drop 4 s)), n, ea, eb, tail-part)
+
+-- two of which the first is 0
+none : (u : List ℕ) → bytesNumber (take 0 u) ≡ 0
+unfolding number
+none u = refl
+
+pub two-small : (s : List ℕ) (q : ℕ) {r : ℕ} → r ≡ q + 1 → q + 2 ≤ length s → getD s q 0 ≡ 0 → getD s r 0 ≡ bytesNumber (take 2 (drop q s))
+two-small s q e h z =
+    let long : 2 ≤ length (drop q s) = omega (arith, length-drop q s) in
+    let zero-first : getD (drop q s) 0 0 ≡ 0 = getD-drop q s 0 0 ∙ ap (λ i. getD s i 0) (add-zero q) ∙ z in
+    let first : bytesNumber (take 0 (drop q s)) * 256 + getD (drop q s) 0 0 ≡ bytesNumber (take 1 (drop q s)) = number-more (drop q s) 0 (omega (arith, long)) in
+    let second : bytesNumber (take 1 (drop q s)) * 256 + getD (drop q s) 1 0 ≡ bytesNumber (take 2 (drop q s)) = number-more (drop q s) 1 (omega (arith, long)) in
+    omega (arith, none (drop q s), zero-first, first, second, getD-drop q s 1 0, ap (λ i. getD s i 0) e)
 
 -- ---- the cases of `lenOf`
 

@@ -1,16 +1,9 @@
--- A record whose tag and whose value's length have a byte each, below 128: how it is told, and what it says.
-use mathlib.Core.Path.{_≡_, refl, sym, ap, _∙_}
-use Prim.Native.Nat.{ℕ, _+_, _*_, _/_, _%_, _≤_, _<_}
+-- A record whose tag and whose value's length have a byte each, below 128: how it is told, by four bytes tested at once.
+use mathlib.Core.Path.{_≡_, sym, _∙_}
+use Prim.Native.Nat.{ℕ, _+_, _*_, _/_, _%_, _<_}
 use native.Mathlib.Omega.{arith}
-use native.Mathlib.Nat.{add-zero, mod-eq-of-lt}
-use mathlib.Core.List.{List}
-use lib.ListN.{length, take, drop, getD, length-drop}
-use lib.Seq.{getD-drop}
+use native.Mathlib.Nat.{mod-eq-of-lt}
 use lib.Bits.{bitAnd, and-block, and-mask, and-high}
-use Rattle.format.specs.Coding.{number, bytesNumber}
-use Rattle.coding.proofs.Lens.{number-more}
-
--- ---- four bytes tested at once
 
 -- the last byte of a number, and the others
 masked : (x a m k : ℕ) → a < 256 → k < 256 → bitAnd (x * 256 + a) (m * 256 + k) ≡ 0 → (bitAnd x m ≡ 0) × (bitAnd a k ≡ 0)
@@ -36,17 +29,3 @@ tested a b c d ha hb hc hd e =
     let second = masked (d * 256 + c) b 33023 128 hb (omega arith) (first .0) in
     let third = masked d c 128 255 hc (omega arith) (second .0) in
     (no-byte a ha (first .1), low-byte b hb (second .1), no-byte c hc (third .1), low-byte d hd (third .0))
-
--- ---- two bytes of which the first is 0
-
-none : (u : List ℕ) → bytesNumber (take 0 u) ≡ 0
-unfolding number
-none u = refl
-
-pub two-small : (s : List ℕ) (q : ℕ) {r : ℕ} → r ≡ q + 1 → q + 2 ≤ length s → getD s q 0 ≡ 0 → getD s r 0 ≡ bytesNumber (take 2 (drop q s))
-two-small s q e h z =
-    let long : 2 ≤ length (drop q s) = omega (arith, length-drop q s) in
-    let zero-first : getD (drop q s) 0 0 ≡ 0 = getD-drop q s 0 0 ∙ ap (λ i. getD s i 0) (add-zero q) ∙ z in
-    let first : bytesNumber (take 0 (drop q s)) * 256 + getD (drop q s) 0 0 ≡ bytesNumber (take 1 (drop q s)) = number-more (drop q s) 0 (omega (arith, long)) in
-    let second : bytesNumber (take 1 (drop q s)) * 256 + getD (drop q s) 1 0 ≡ bytesNumber (take 2 (drop q s)) = number-more (drop q s) 1 (omega (arith, long)) in
-    omega (arith, none (drop q s), zero-first, first, second, getD-drop q s 1 0, ap (λ i. getD s i 0) e)

@@ -16,6 +16,7 @@ use Rattle.format.specs.Sheet.{tagOfPart, TS, TI, is}
 use Rattle.format.specs.Calls.{itemOf}
 use Rattle.format.proofs.words.Bytes.{bytes-drop}
 use Rattle.coding.proofs.Rooms.{tail-part}
+use Rattle.coding.proofs.Lens.{two-small}
 use Rattle.items.specs.Meet.{levelOf}
 use Rattle.walks.specs.Runs.{Ran, madeOf}
 use Rattle.records.specs.Meet.{moreAt, partStep}
@@ -28,7 +29,6 @@ use Rattle.packets.specs.Meet.{usedOf, recordsRun, targetsRun, targetNor
 use Rattle.packets.specs.Writing.{partBytes, RecordsAsked, RecordsWriting, Small}
 use Rattle.packets.proofs.Steps.{tagAt, sizeAt, OneHere, one-here, mark-room, SeriesHere, series-here}
 use Rattle.packets.proofs.Forms.{run-bytes}
-use Rattle.packets.proofs.Smalls.{two-small}
 
 -- what is asked of the targets
 abbrev pub TargetsAsked : Form → List ℕ → ℕ → Type 0

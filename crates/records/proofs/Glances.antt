@@ -12,6 +12,7 @@ use Rattle.format.specs.Coding.{Bytes, bytesNumber, number, oidBytes, lenWidth}
 use Rattle.format.specs.Table.{Form, Level, pack, isSet, isAlone, ruleOf, nameable}
 use Rattle.format.specs.Sheet.{markOf, is, valueAt}
 use Rattle.format.proofs.words.Bytes.{bytes-drop}
+use Rattle.coding.proofs.Lens.{two-small}
 use Rattle.coding.proofs.Rooms.{tail-part, bytes-room}
 use Rattle.coding.proofs.Counts.{len-one, count-start, count-done}
 use Rattle.items.specs.Meet.{levelOf}
@@ -76,6 +77,9 @@ head-fits s p bytes h {head} e =
     let l : bytesNumber (take 4 (drop p s)) < 4294967296 = bytes-room 4 (drop p s) (bytes-drop p s bytes) (rw length-drop (omega arith)) in
     let z : head ≡ bytesNumber (take 4 (drop p s)) = rw tail-part at e in
     omega (arith, l, z)
+
+pub size-from : (s : List ℕ) (p : ℕ) → p + 6 < length s → getD s (p + 4) 0 ≡ 0 → {n : ℕ} → n ≡ getD s (p + 5) 0 → n ≡ bytesNumber (take 2 (take (length s - (p + 4)) (drop (p + 4) s)))
+size-from s p h z e = rw tail-part (e ∙ two-small s (p + 4) (omega arith) (omega arith) z)
 
 named : (l : Level) (f : Form) (tag n first : ℕ) → 0 < tag → tag < 128 → Quick l f tag n first → true ≡ nameable l tag
 unfolding nameable

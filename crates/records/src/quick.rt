@@ -40,7 +40,11 @@ pub fn glance(table: &[u64], s: &[u8], p: usize, set: bool, alone: bool, top: u6
     if tag <= top {
         return nothing();
     }
-    let n = coding::number_of(&s[p + 4..], 2);
+    // no such value has 256 bytes; where the next record begins waits for one byte alone
+    if s[p + 4] != 0 {
+        return nothing();
+    }
+    let n = coding::wide(s[p + 5]);
     if items::quick::is_quick(table, set, alone, tag, n, s[from]) {
         let next = from + (n as usize);
         if s.len() < next {

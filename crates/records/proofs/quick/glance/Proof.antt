@@ -2,7 +2,7 @@
 use mathlib.Core.Path.{refl}
 use native.Mathlib.Omega.{arith}
 use borrow.Author.Needs.{needs}
-use Rattle.records.proofs.Glances.{head-fits, glance-from}
+use Rattle.records.proofs.Glances.{head-fits, size-from, glance-from}
 use Rattle.records.proofs.quick.glance.Statement.{statement}
 use Rattle.records.proofs.quick.glance.Tie as tie
 
@@ -47,20 +47,26 @@ nothing-requires-2 c κs = search needs
 returns-2 : tie.Need-returns-2
 returns-2 c = λ h. absurd (omega (arith, h, c .nothing2 .ensures))
 
-add-number-of : tie.Need-add-number-of
-add-number-of c = search needs
+add-if3 : tie.Need-add-if3
+add-if3 c = search needs
 
-sub-number-of-2 : tie.Need-sub-number-of-2
-sub-number-of-2 c = search needs
+shared-slice-read-if3 : tie.Need-shared-slice-read-if3
+shared-slice-read-if3 c = search needs
 
-part-number-of-start-2 : tie.Need-part-number-of-start-2
-part-number-of-start-2 c = search needs
+nothing-requires-3 : tie.Need-nothing-requires-3
+nothing-requires-3 c κs = search needs
 
-part-number-of-end-2 : tie.Need-part-number-of-end-2
-part-number-of-end-2 c = search needs
+returns-3 : tie.Need-returns-3
+returns-3 c = λ h. absurd (omega (arith, h, c .nothing3 .ensures))
 
-number-of-requires-2 : tie.Need-number-of-requires-2
-number-of-requires-2 c κs = search needs
+add-wide : tie.Need-add-wide
+add-wide c = search needs
+
+shared-slice-read-wide : tie.Need-shared-slice-read-wide
+shared-slice-read-wide c = search needs
+
+wide-requires : tie.Need-wide-requires
+wide-requires c κs = search needs
 
 shared-slice-read-is-quick : tie.Need-shared-slice-read-is-quick
 shared-slice-read-is-quick c = search needs
@@ -70,28 +76,30 @@ is-quick-requires c κs = search needs
 
 add-next : tie.Need-add-next
 add-next c =
-    let (small, few, q) = c .before .is-quick .ensures (c .if3 .taken) in
-    omega (arith, few, c .before .before .before .before .before .before .before .before .before .before .if1 .left, c .before .before .before .before .before .before .before .before .before .before .before .before .before .pre .1)
-
-nothing-requires-3 : tie.Need-nothing-requires-3
-nothing-requires-3 c κs = search needs
-
-returns-3 : tie.Need-returns-3
-returns-3 c = λ h. absurd (omega (arith, h, c .nothing3 .ensures))
-
-begins-requires : tie.Need-begins-requires
-begins-requires c κs = search needs
-
-returns-4 : tie.Need-returns-4
-returns-4 c =
-    let (small, few, q) = c .before .before .before .before .is-quick .ensures (c .before .before .before .if3 .taken) in
-    λ h. glance-from _ _ _ _ _ (λ i. c .before .before .before .before .before .before .before .before .before .before .before .before .before .before .shared-slice-known2 .given i .fits) (c .before .before .before .before .before .before .before .before .before .before .before .number-of .ensures) (c .before .before .before .before .before .before .before .before .before .before .word-of .ensures) (c .before .before .before .before .before .before .before .before .before .wrapping-sub-u32 .ensures) (omega (arith, c .before .before .before .before .before .before .before .before .if2 .left)) (omega (arith, small)) (c .before .before .before .before .before .before .number-of2 .ensures) (omega (arith, few)) refl (omega (arith, c .before .before .if4 .left)) q (c .before .begins .ensures) (c .if5 .taken)
+    let (small, few, q) = c .before .is-quick .ensures (c .if4 .taken) in
+    omega (arith, few, c .before .before .before .before .before .before .before .before .before .before .before .before .if1 .left, c .before .before .before .before .before .before .before .before .before .before .before .before .before .before .before .pre .1)
 
 nothing-requires-4 : tie.Need-nothing-requires-4
 nothing-requires-4 c κs = search needs
 
+returns-4 : tie.Need-returns-4
+returns-4 c = λ h. absurd (omega (arith, h, c .nothing4 .ensures))
+
+begins-requires : tie.Need-begins-requires
+begins-requires c κs = search needs
+
 returns-5 : tie.Need-returns-5
-returns-5 c = λ h. absurd (omega (arith, h, c .nothing4 .ensures))
+returns-5 c =
+    let (small, few, q) = c .before .before .before .before .is-quick .ensures (c .before .before .before .if4 .taken) in
+    let a = c .before .before .before .before .before .before .before .before .before .before .before .before .before .before .before .before .before .before .args in
+    let size = size-from (a .s .now) (a .p) (omega (arith, c .before .before .before .before .before .before .before .before .before .before .before .before .before .before .before .if1 .left)) (omega (arith, c .before .before .before .before .before .before .before .before .if3 .left)) (c .before .before .before .before .before .before .wide .ensures .0) in
+    λ h. glance-from _ _ _ _ _ (λ i. c .before .before .before .before .before .before .before .before .before .before .before .before .before .before .before .before .shared-slice-known2 .given i .fits) (c .before .before .before .before .before .before .before .before .before .before .before .before .before .number-of .ensures) (c .before .before .before .before .before .before .before .before .before .before .before .before .word-of .ensures) (c .before .before .before .before .before .before .before .before .before .before .before .wrapping-sub-u32 .ensures) (omega (arith, c .before .before .before .before .before .before .before .before .before .before .if2 .left)) (omega (arith, small)) size (omega (arith, few)) refl (omega (arith, c .before .before .if5 .left)) q (c .before .begins .ensures) (c .if6 .taken)
+
+nothing-requires-5 : tie.Need-nothing-requires-5
+nothing-requires-5 c κs = search needs
+
+returns-6 : tie.Need-returns-6
+returns-6 c = λ h. absurd (omega (arith, h, c .nothing5 .ensures))
 
 pub glance-spec : {M : Type 1} → statement M
 glance-spec =
@@ -110,17 +118,19 @@ glance-spec =
     cast-tag
     nothing-requires-2
     returns-2
-    add-number-of
-    sub-number-of-2
-    part-number-of-start-2
-    part-number-of-end-2
-    number-of-requires-2
+    add-if3
+    shared-slice-read-if3
+    nothing-requires-3
+    returns-3
+    add-wide
+    shared-slice-read-wide
+    wide-requires
     shared-slice-read-is-quick
     is-quick-requires
     add-next
-    nothing-requires-3
-    returns-3
-    begins-requires
-    returns-4
     nothing-requires-4
-    returns-5)
+    returns-4
+    begins-requires
+    returns-5
+    nothing-requires-5
+    returns-6)

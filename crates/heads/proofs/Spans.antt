@@ -7,12 +7,12 @@ use mathlib.Core.List.{List, [], _∷_}
 use lib.ListN.{length, take, drop, getD, length-drop}
 use lib.Seq.{drop-drop, getD-drop, length-take-le}
 use lib.Dec.{leb, eqb}
-use borrow.Author.Tests.{leb-true, leb-false, le-leb, lt-leb, eq-eqb, ne-eqb}
+use borrow.Author.Tests.{leb-true, leb-false, le-leb, lt-leb, eq-eqb, eqb-true, ne-eqb}
 use Rattle.format.specs.Answer.{ok, Got, got, _>>=_, need}
 use Rattle.format.specs.Coding.{bytesNumber}
 use Rattle.format.specs.Table.{Level, nameable}
 use Rattle.format.specs.Sheet.{Mark, TS, TG, TI, is, field}
-use Rattle.format.proofs.words.Answers.{no-bool}
+use Rattle.format.proofs.words.Answers.{no-bool, and-both}
 use Rattle.coding.proofs.Rooms.{tail-part}
 use Rattle.items.proofs.Tests.{need-so, need-not}
 use Rattle.heads.specs.Meet.{Peeked}
@@ -162,6 +162,19 @@ module _ (l : Level) (s : List ℕ) where
 
 -- ---- records one after the other
 
+-- a target's mark is not a value's
+not-value : (s : List ℕ) → is TG s ≡ true → is TI s ≡ false
+not-value [] e = no-bool e
+not-value (x ∷ []) e = no-bool e
+not-value (x ∷ y ∷ s) e =
+    let g = eqb-true y 71 (and-both (eqb x 84) (eqb y 71) e .1) in
+    let n : eqb y 73 ≡ false = ne-eqb y 73 (λ z. omega (arith, g, z)) in
+    rw n (and-false (eqb x 84))
+  where
+    and-false : (a : Bool) → a && false ≡ false
+    and-false true = refl
+    and-false false = refl
+
 module _ (tg : Bool) (s : List ℕ) where
   pub size-val : is TI s ≡ true → recordSize tg s ≡ peekVal s .used
   unfolding recordSize
@@ -268,6 +281,10 @@ module _ (s : List ℕ) where
   pub target-whole : (k n : ℕ) → k ≡ bytesNumber (take 8 (take (length s - 2) (drop 2 s))) → n ≡ span false 0 (take (length s - 10) (drop 10 s))
       → 10 ≤ length s → Peeked peekTarget s k (10 + n)
   target-whole k n ek en h = rw (target-there h) (rw tail-part at ek, ap (λ x. 10 + x) (span-read n 10 false en))
+
+  -- no value stands where the next target does
+  pub target-bare : (k : ℕ) → k ≡ bytesNumber (take 8 (take (length s - 2) (drop 2 s))) → is TG (drop 10 s) ≡ true → 10 ≤ length s → Peeked peekTarget s k 10
+  target-bare k ek t h = target-whole k 0 ek (sym (rw tail-part (span-none false (drop 10 s) (size-none false (drop 10 s) (not-value (drop 10 s) t) refl)))) h
 
   pub part-series : (n : ℕ) → n ≡ span true 0 (take (length s - 2) (drop 2 s)) → is TS s ≡ true → Peeked peekPart s 101 (2 + n)
   part-series n en e = rw (series-there e) (refl, ap (λ x. 2 + x) (span-read n 2 true en))

@@ -108,6 +108,10 @@ fn target_next(s: &[u8]) -> Next
         return Next { key: 0, used: 0 };
     }
     let key = coding::eight_of(&s[2..]);
+    // one that holds nothing, at once: the longest look back is over these
+    if is_mark(s, 10, b'T', b'G') {
+        return Next { key, used: 10 };
+    }
     let n = span_of(&s[10..], false);
     Next { key, used: 10 + n }
 }

@@ -2,3 +2,4 @@ pub mod Records
 pub mod Turns
 pub mod Glances
 pub mod Packet
+pub mod Begun

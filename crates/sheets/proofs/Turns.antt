@@ -92,10 +92,10 @@ abbrev pub SheetPack : Form → List ℕ → List ℕ → List ℕ → ℕ → �
 SheetPack f s out₀ out p k key used width size = PackAt f s out₀ out p k key used width size (each packSheet) tt tt
 
 module _ {f : Form} {s out₀ out : List ℕ} {p k key used width size : ℕ} (i : SheetPack f s out₀ out p k key used width size) where
-  abbrev targetMark : List ℕ
+  abbrev pub targetMark : List ℕ
   targetMark = TG .0 ∷ TG .1 ∷ fixed 8 key
 
-  pack-sheet : Parted out k (packed i) targetMark (levelSheet pack f (itemsAt i))
+  pub pack-sheet : Parted out k (packed i) targetMark (levelSheet pack f (itemsAt i))
   pack-sheet =
       let w = pack-stands i in
       record {
@@ -112,7 +112,7 @@ module _ {f : Form} {s out₀ out : List ℕ} {p k key used width size : ℕ} (i
 
   -- its mark and its id are stored, and the tail behind them lent
   module _ {m : ℕ} {out₁ : List ℕ} (em : (m ≡ k + 10) × (out₁ ≡ sets out k targetMark)) where
-    target-put : Puts out k targetMark m out₁
+    pub target-put : Puts out k targetMark m out₁
     target-put = puts-sized out k targetMark mark-long em
 
     pub items-behind : m ≤ length out₁

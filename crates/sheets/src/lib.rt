@@ -114,13 +114,14 @@ fn pack_items(table: &[u64], s: &[u8], alone: bool, out: &mut [u8]) -> usize
     rest_sheet(table, s, p, q.wrote, false, alone, out)
 }
 
-// The packs of a series; how many bytes.
+// The packs of a series, the quick way first; how many bytes.
 pub fn pack_sheet(table: &[u64], s: &[u8], alone: bool, out: &mut [u8]) -> usize
     requires { ⌜ (now table ≡ itemTable) × ((length (now s) ≤ 8192) × Ran (seriesRun (formOf alone) (now s)) × (length (seriesSheet (formOf alone) (now s)) ≤ length (now out))) ⌝ }
     ensures { λ r. ⌜ (r ≡ length (seriesSheet (formOf alone) (now (s .entry)))) × (now (out .exit) ≡ sets (now (out .entry)) 0 (seriesSheet (formOf alone) (now (s .entry)))) ⌝ }
 {
-    let mut p: usize = 0;
-    let mut k: usize = 0;
+    let q = quick::packs(s, alone, out);
+    let mut p = q.used;
+    let mut k = q.wrote;
     while p < s.len() {
         let h = heads::quick_pack_head(&s[p..]);
         let Head::Whole {

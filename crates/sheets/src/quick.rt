@@ -4,10 +4,11 @@ ghost use Prim.Native.Nat.{_≤_, _<_};
 ghost use lib.ListN.{length};
 ghost use Rattle.format.specs.Table.{pack};
 ghost use Rattle.items.specs.Meet.{formOf};
-ghost use Rattle.sheets.specs.Meet.{levelSheet};
-ghost use Rattle.sheets.specs.Quick.{LevelPassed, Glanced};
-ghost use Rattle.walks.specs.Runs.{Ran, levelRun};
+ghost use Rattle.sheets.specs.Meet.{levelSheet, seriesSheet};
+ghost use Rattle.sheets.specs.Quick.{LevelPassed, SeriesPassed, Glanced};
+ghost use Rattle.walks.specs.Runs.{Ran, levelRun, seriesRun};
 ghost use mathlib.Core.Bool.{false};
+use heads::Head;
 use stores::Passed;
 
 // How many bytes the value of such an item at p has; 0 where it is no such item.
@@ -54,4 +55,36 @@ pub fn run(s: &[u8], alone: bool, out: &mut [u8]) -> Passed
         k = super::put_item(out, k, false, tag, &s[first..next]);
         p = next;
     }
+}
+
+// The packs of such items alone whose head is short, one after another. The pack that stops it is left to the pack walk, which stores it anew:
+// so nothing here is lent to what stands out of line.
+pub fn packs(s: &[u8], alone: bool, out: &mut [u8]) -> Passed
+    requires { ⌜ (length (now s) ≤ 8192) × Ran (seriesRun (formOf alone) (now s)) × (length (seriesSheet (formOf alone) (now s)) ≤ length (now out)) ⌝ }
+    ensures { λ r. ⌜ SeriesPassed (formOf alone) (now (s .entry)) (now (out .entry)) (now (out .exit)) (r .used) (r .wrote) ⌝ }
+{
+    let mut p: usize = 0;
+    let mut k: usize = 0;
+    while p < s.len() {
+        let h = heads::short_pack_head(&s[p..]);
+        let Head::Whole {
+            key,
+            used,
+            width,
+            size,
+        } = h
+        else {
+            return Passed { used: p, wrote: k };
+        };
+        let from = p + width + used;
+        let next = p + width + size;
+        let m = super::put_target(out, k, key);
+        let q = run(&s[from..next], alone, &mut out[m..]);
+        if q.used < next - from {
+            return Passed { used: p, wrote: k };
+        }
+        k = m + q.wrote;
+        p = next;
+    }
+    Passed { used: p, wrote: k }
 }

@@ -15,7 +15,7 @@ use Rattle.stores.proofs.Writing.{each}
 use Rattle.stores.proofs.Entries.{level-done, entry-fault, entry-room}
 use Rattle.stores.proofs.Packs.{series-start, series-done, pack-fault, pack-room}
 use Rattle.sheets.specs.Meet.{packSheet}
-use Rattle.sheets.specs.Quick.{LevelPassed}
+use Rattle.sheets.specs.Quick.{LevelPassed, SeriesPassed}
 use Rattle.sheets.proofs.Turns.{LevelSheets, SheetEntry, one-room, one-more, mark-room, series-behind, series-asked, series-more, SeriesSheets, SheetPack, target-room, items-behind, level-asked, items-more}
 use Rattle.sheets.proofs.rest_sheet.Reads as rest-sheet
 use Rattle.sheets.proofs.rest_sheet.Kinds as rest-sheet-kinds
@@ -29,6 +29,7 @@ use Rattle.sheets.proofs.+pack_items+pack_sheet+rest_sheet.Lts-pack_she
 use Rattle.heads.proofs.item_head.Reads as item-head-reads
 use Rattle.heads.proofs.quick_pack_head.Reads as quick-pack-head-reads
 use Rattle.sheets.proofs.quick.run.Reads as run-reads
+use Rattle.sheets.proofs.quick.packs.Reads as packs-reads
 use Rattle.sheets.proofs.put_plain.Reads as put-plain-reads
 use Rattle.sheets.proofs.put_target.Reads as put-target-reads
 use Rattle.stores.proofs.put_number.Reads as put-number-reads
@@ -72,7 +73,7 @@ abbrev items-claims : ℕ → pack-items-lts.Claims
 items-claims t = (run-reads.Asked, run-reads.Learnt, rest-sheet-below t, rest-sheet.Post)
 
 abbrev pack-claims : ℕ → pack-sheet-lts.Claims
-pack-claims t = (quick-pack-head-reads.Asked, quick-pack-head-reads.Learnt, put-target-reads.Asked, put-target-reads.Learnt, pack-items-below t, pack-items.Post)
+pack-claims t = (packs-reads.Asked, packs-reads.Learnt, quick-pack-head-reads.Asked, quick-pack-head-reads.Learnt, put-target-reads.Asked, put-target-reads.Learnt, pack-items-below t, pack-items.Post)
 
 -- ---- the item walk, from a place on
 
@@ -226,28 +227,36 @@ pack-items-returns-2 t c = (c .before .before .rest-sheet .ensures .0, c .before
 -- ---- the pack walk
 
 abbrev pack-sheet-Inv-loop : pack-sheet-lts.InvT-loop
-pack-sheet-Inv-loop table s alone out₀ p₀ k₀ out p k = SeriesSheets (formOf alone) s out₀ out p k
+pack-sheet-Inv-loop table s alone out₀ p₀ k₀ out p k = (o : List ℕ) → SeriesPassed (formOf alone) s o out₀ p₀ k₀ → SeriesSheets (formOf alone) s o out p k
 
 abbrev pack-sheet-μ-loop : pack-sheet-lts.MeasureT-loop
 pack-sheet-μ-loop table s alone out₀ p₀ k₀ out p k = length s - p
 
--- the pack at the head that was read
-pack-at : (t : ℕ) (a : pack-sheet-lts.After-h (pack-claims t) (pack-sheet-at t) pack-sheet.Post pack-sheet-Inv-loop pack-sheet-μ-loop)
-    → SheetPack (formOf (a .before .before .before .before .before .before .before .before .before .args .alone)) (a .before .before .before .before .before .before .before .before .before .args .s .now) (a .before .before .before .before .before .before .before .before .before .args .out .now)
-    (a .before .before .before .before .before .loop .out) (a .before .before .before .before .before .loop .p) (a .before .before .before .before .before .loop .k) (a .h .given .0 .0) (a .h .given .0 .1 .0) (a .h .given .0 .1 .1 .0) (a .h .given .0 .1 .1 .1 .0)
-pack-at t a = record {
-  going = a .before .before .before .before .before .loop .inv;
+-- the pack at the head that was read, whatever the output was where the series began
+pack-here : (t : ℕ) (a : pack-sheet-lts.After-h (pack-claims t) (pack-sheet-at t) pack-sheet.Post pack-sheet-Inv-loop pack-sheet-μ-loop) (o : List ℕ)
+    → SeriesPassed (formOf (a .before .before .before .before .before .before .before .before .before .before .before .before .before .args .alone)) (a .before .before .before .before .before .before .before .before .before .before .before .before .before .args .s .now) o (a .before .before .before .before .before .before .before .before .packs .last .1 .1 .0) (a .before .before .before .before .before .before .before .before .packs .result .used) (a .before .before .before .before .before .before .before .before .packs .result .wrote)
+    → SheetPack (formOf (a .before .before .before .before .before .before .before .before .before .before .before .before .before .args .alone)) (a .before .before .before .before .before .before .before .before .before .before .before .before .before .args .s .now) o (a .before .before .before .before .before .loop .out) (a .before .before .before .before .before .loop .p) (a .before .before .before .before .before .loop .k) (a .h .given .0 .0) (a .h .given .0 .1 .0) (a .h .given .0 .1 .1 .0) (a .h .given .0 .1 .1 .1 .0)
+pack-here t a o g = record {
+  going = a .before .before .before .before .before .loop .inv o g;
   here = a .before .before .before .before .loop-test .taken;
   head = _;
   reads = a .before .before .quick-pack-head .ensures;
   whole = a .h .given .1;
-  bytes = λ i. a .before .before .before .before .before .before .before .shared-slice-known2 .given i .fits;
-  most = a .before .before .before .before .before .before .before .before .before .pre .1 .1 .0;
-  room = a .before .before .before .before .before .before .before .before .before .pre .1 .1 .2;
+  bytes = λ i. a .before .before .before .before .before .before .before .before .before .before .before .shared-slice-known2 .given i .fits;
+  most = a .before .before .before .before .before .before .before .before .before .before .before .before .before .pre .1 .1 .0;
+  room = omega (arith, a .before .before .before .before .before .before .before .before .before .before .before .before .before .pre .1 .1 .2, a .before .before .before .before .before .before .before .before .packs .ensures .same, g .same);
 }
 
+-- and for what it was
+pack-at : (t : ℕ) (a : pack-sheet-lts.After-h (pack-claims t) (pack-sheet-at t) pack-sheet.Post pack-sheet-Inv-loop pack-sheet-μ-loop)
+    → SheetPack (formOf (a .before .before .before .before .before .before .before .before .before .before .before .before .before .args .alone)) (a .before .before .before .before .before .before .before .before .before .before .before .before .before .args .s .now) (a .before .before .before .before .before .before .before .before .before .before .before .before .before .args .out .now) (a .before .before .before .before .before .loop .out) (a .before .before .before .before .before .loop .p) (a .before .before .before .before .before .loop .k) (a .h .given .0 .0) (a .h .given .0 .1 .0) (a .h .given .0 .1 .1 .0) (a .h .given .0 .1 .1 .1 .0)
+pack-at t a = pack-here t a (a .before .before .before .before .before .before .before .before .before .before .before .before .before .args .out .now) (a .before .before .before .before .before .before .before .before .packs .ensures)
+
+pack-sheet-packs-requires : (t : ℕ) → pack-sheet-lts.Need-packs-requires (pack-claims t) (pack-sheet-at t) pack-sheet.Post pack-sheet-Inv-loop pack-sheet-μ-loop
+pack-sheet-packs-requires t c κs = c .before .before .before .before .pre .1 .1
+
 pack-sheet-loop-holds : (t : ℕ) → pack-sheet-lts.Need-loop-holds (pack-claims t) (pack-sheet-at t) pack-sheet.Post pack-sheet-Inv-loop pack-sheet-μ-loop
-pack-sheet-loop-holds t c = series-start (each packSheet) _ tt _ _ (c .before .before .before .pre .1 .1 .1)
+pack-sheet-loop-holds t c = λ o g. record { writes = g }
 
 pack-sheet-sub-quick-pack-head : (t : ℕ) → pack-sheet-lts.Need-sub-quick-pack-head (pack-claims t) (pack-sheet-at t) pack-sheet.Post pack-sheet-Inv-loop pack-sheet-μ-loop
 pack-sheet-sub-quick-pack-head t c = search needs
@@ -268,10 +277,10 @@ pack-sheet-enum-told : (t : ℕ) → pack-sheet-lts.Need-enum-told (pack-claims 
 pack-sheet-enum-told t c = search needs
 
 pack-sheet-same-length : (t : ℕ) → pack-sheet-lts.Need-same-length (pack-claims t) (pack-sheet-at t) pack-sheet.Post pack-sheet-Inv-loop pack-sheet-μ-loop
-pack-sheet-same-length t c = c .before .before .before .before .before .loop .inv .writes .same
+pack-sheet-same-length t c = (c .before .before .before .before .before .loop .inv (c .before .before .before .before .before .before .before .before .before .before .before .before .before .args .out .now) (c .before .before .before .before .before .before .before .before .packs .ensures)) .writes .same
 
 pack-sheet-returns : (t : ℕ) → pack-sheet-lts.Need-returns (pack-claims t) (pack-sheet-at t) pack-sheet.Post pack-sheet-Inv-loop pack-sheet-μ-loop
-pack-sheet-returns t c = pack-fault (c .before .before .before .before .before .loop .inv) (c .before .before .before .before .loop-test .taken) (c .before .before .quick-pack-head .ensures) (c .enum-told .given .1)
+pack-sheet-returns t c = pack-fault (c .before .before .before .before .before .loop .inv (c .before .before .before .before .before .before .before .before .before .before .before .before .before .args .out .now) (c .before .before .before .before .before .before .before .before .packs .ensures)) (c .before .before .before .before .loop-test .taken) (c .before .before .quick-pack-head .ensures) (c .enum-told .given .1)
 
 pack-sheet-add-from : (t : ℕ) → pack-sheet-lts.Need-add-from (pack-claims t) (pack-sheet-at t) pack-sheet.Post pack-sheet-Inv-loop pack-sheet-μ-loop
 pack-sheet-add-from t c = omega (arith, pack-room (pack-at t (c .before)))
@@ -307,22 +316,22 @@ pack-sheet-part-pack-items-end-2 : (t : ℕ) → pack-sheet-lts.Need-part-pack-i
 pack-sheet-part-pack-items-end-2 t c = search needs
 
 pack-sheet-pack-items-requires : (t : ℕ) → pack-sheet-lts.Need-pack-items-requires (pack-claims t) (pack-sheet-at t) pack-sheet.Post pack-sheet-Inv-loop pack-sheet-μ-loop
-pack-sheet-pack-items-requires t c κs = (omega (arith, c .before .before .before .before .before .before .before .before .before .before .before .before .before .before .before .before .pre .0), (c .before .before .before .before .before .before .before .before .before .before .before .before .before .before .before .before .pre .1 .0, level-asked (pack-at t (c .before .before .before .before .before .before .before)) (c .before .before .before .before .put-target .ensures)))
+pack-sheet-pack-items-requires t c κs = (omega (arith, c .before .before .before .before .before .before .before .before .before .before .before .before .before .before .before .before .before .before .before .before .pre .0), (c .before .before .before .before .before .before .before .before .before .before .before .before .before .before .before .before .before .before .before .before .pre .1 .0, level-asked (pack-at t (c .before .before .before .before .before .before .before)) (c .before .before .before .before .put-target .ensures)))
 
 pack-sheet-add-k : (t : ℕ) → pack-sheet-lts.Need-add-k (pack-claims t) (pack-sheet-at t) pack-sheet.Post pack-sheet-Inv-loop pack-sheet-μ-loop
-pack-sheet-add-k t c = omega (arith, items-more (pack-at t (c .before .before .before .before .before .before .before .before .before .before)) (c .before .before .before .before .before .before .before .put-target .ensures) (c .before .before .pack-items .ensures) .writes .sum, c .before .before .before .before .before .before .before .before .before .before .before .before .before .before .before .before .before .before .before .pre .1 .1 .2, c .before .before .before .before .before .before .before .before .before .before .before .before .before .before .before .before .before .before .before .good)
+pack-sheet-add-k t c = omega (arith, items-more (pack-at t (c .before .before .before .before .before .before .before .before .before .before)) (c .before .before .before .before .before .before .before .put-target .ensures) (c .before .before .pack-items .ensures) .writes .sum, c .before .before .before .before .before .before .before .before .before .before .before .before .before .before .before .before .before .before .before .before .before .before .before .pre .1 .1 .2, c .before .before .before .before .before .before .before .before .before .before .before .before .before .before .before .before .before .before .before .before .before .before .before .good)
 
 pack-sheet-loop-less : (t : ℕ) → pack-sheet-lts.Need-loop-less (pack-claims t) (pack-sheet-at t) pack-sheet.Post pack-sheet-Inv-loop pack-sheet-μ-loop
 pack-sheet-loop-less t c = omega (arith, pack-room (pack-at t (c .before .before .before .before .before .before .before .before .before .before)))
 
 pack-sheet-loop-again : (t : ℕ) → pack-sheet-lts.Need-loop-again (pack-claims t) (pack-sheet-at t) pack-sheet.Post pack-sheet-Inv-loop pack-sheet-μ-loop
-pack-sheet-loop-again t c = items-more (pack-at t (c .before .before .before .before .before .before .before .before .before .before)) (c .before .before .before .before .before .before .before .put-target .ensures) (c .before .before .pack-items .ensures)
+pack-sheet-loop-again t c = λ o g. items-more (pack-here t (c .before .before .before .before .before .before .before .before .before .before) o g) (c .before .before .before .before .before .before .before .put-target .ensures) (c .before .before .pack-items .ensures)
 
 pack-sheet-same-length-2 : (t : ℕ) → pack-sheet-lts.Need-same-length-2 (pack-claims t) (pack-sheet-at t) pack-sheet.Post pack-sheet-Inv-loop pack-sheet-μ-loop
-pack-sheet-same-length-2 t c = c .before .loop .inv .writes .same
+pack-sheet-same-length-2 t c = (c .before .loop .inv (c .before .before .before .before .before .before .before .before .before .args .out .now) (c .before .before .before .before .packs .ensures)) .writes .same
 
 pack-sheet-returns-2 : (t : ℕ) → pack-sheet-lts.Need-returns-2 (pack-claims t) (pack-sheet-at t) pack-sheet.Post pack-sheet-Inv-loop pack-sheet-μ-loop
-pack-sheet-returns-2 t c = series-done (c .before .loop .inv) (c .loop-test .left)
+pack-sheet-returns-2 t c = series-done (c .before .loop .inv (c .before .before .before .before .before .before .before .before .before .args .out .now) (c .before .before .before .before .packs .ensures)) (c .loop-test .left)
 
 pub +pack-items+pack-sheet+rest-sheet-spec : {M : Type 1} → statement M
 +pack-items+pack-sheet+rest-sheet-spec =
@@ -330,7 +339,7 @@ pub +pack-items+pack-sheet+rest-sheet-spec : {M : Type 1} → statement M
     (λ t. pack-items-lts.spec (items-claims t) (pack-items-at t) pack-items.Post
     (pack-items-run-requires t) (pack-items-same-length t) (pack-items-returns t) (pack-items-rest-sheet-requires t) (pack-items-same-length-2 t) (pack-items-returns-2 t))
     (λ t. pack-sheet-lts.spec (pack-claims t) (pack-sheet-at t) pack-sheet.Post pack-sheet-Inv-loop pack-sheet-μ-loop
-    (pack-sheet-loop-holds t) (pack-sheet-sub-quick-pack-head t) (pack-sheet-part-quick-pack-head-start t) (pack-sheet-part-quick-pack-head-end t) (pack-sheet-quick-pack-head-requires t) (pack-sheet-enum-known-h t)
+    (pack-sheet-packs-requires t) (pack-sheet-loop-holds t) (pack-sheet-sub-quick-pack-head t) (pack-sheet-part-quick-pack-head-start t) (pack-sheet-part-quick-pack-head-end t) (pack-sheet-quick-pack-head-requires t) (pack-sheet-enum-known-h t)
     (pack-sheet-enum-told t) (pack-sheet-same-length t) (pack-sheet-returns t) (pack-sheet-add-from t) (pack-sheet-add-from-2 t) (pack-sheet-add-next t)
     (pack-sheet-add-next-2 t) (pack-sheet-put-target-requires t) (pack-sheet-sub-pack-items t) (pack-sheet-part-pack-items-start t) (pack-sheet-part-pack-items-end t) (pack-sheet-sub-pack-items-2 t)
     (pack-sheet-part-pack-items-start-2 t) (pack-sheet-part-pack-items-end-2 t) (pack-sheet-pack-items-requires t) (pack-sheet-add-k t) (pack-sheet-loop-less t) (pack-sheet-loop-again t)

@@ -65,7 +65,7 @@ pub fn packs(s: &[u8], alone: bool, out: &mut [u8]) -> Passed
 {
     let mut p: usize = 0;
     let mut k: usize = 0;
-    while p < s.len() {
+    loop {
         let h = heads::short_pack_head(&s[p..]);
         let Head::Whole {
             key,
@@ -86,5 +86,4 @@ pub fn packs(s: &[u8], alone: bool, out: &mut [u8]) -> Passed
         k = m + q.wrote;
         p = next;
     }
-    Passed { used: p, wrote: k }
 }

@@ -11,10 +11,8 @@ use borrow.Fn.Kinds.{In}
 use borrow.Fn.PlainCycle.{Measures, is, falls, and}
 use Rattle.items.specs.Meet.{formOf}
 use Rattle.walks.proofs.ItemTurns.{depth, series-deep}
-use Rattle.stores.proofs.Writing.{each}
 use Rattle.stores.proofs.Entries.{level-done, entry-fault, entry-room}
-use Rattle.stores.proofs.Packs.{series-start, series-done, pack-fault, pack-room}
-use Rattle.sheets.specs.Meet.{packSheet}
+use Rattle.stores.proofs.Packs.{series-done, pack-fault, pack-room}
 use Rattle.sheets.specs.Quick.{LevelPassed, SeriesPassed}
 use Rattle.sheets.proofs.Turns.{LevelSheets, SheetEntry, one-room, one-more, mark-room, series-behind, series-asked, series-more, SeriesSheets, SheetPack, target-room, items-behind, level-asked, items-more}
 use Rattle.sheets.proofs.rest_sheet.Reads as rest-sheet

@@ -2,11 +2,13 @@
 use mathlib.Core.Path.{refl}
 use Prim.Native.Nat.{_-_}
 use native.Mathlib.Omega.{arith}
-use lib.ListN.{length}
+use lib.ListN.{length, take, drop}
 use borrow.Author.Needs.{needs}
 use Rattle.items.specs.Meet.{formOf}
 use Rattle.heads.specs.declared.Head.the-variants as heads
-use Rattle.heads.proofs.Heads.{pack-head-if}
+use Rattle.heads.specs.Meet.{PackHeadIf}
+use Rattle.heads.proofs.Heads.{pack-head-if, pack-within}
+use Rattle.stores.proofs.Stores.{tail-length}
 use Rattle.stores.proofs.Writing.{each}
 use Rattle.stores.proofs.Packs.{series-start, pack-room}
 use Rattle.sheets.specs.Meet.{packSheet}
@@ -29,27 +31,30 @@ abbrev μ-loop : tie.MeasureT-loop
 abbrev Head-read : Type 0
 Head-read = lts.After-h (short-pack-head-reads.Asked, short-pack-head-reads.Learnt, put-target-reads.Asked, put-target-reads.Learnt, run-reads.Asked, run-reads.Learnt) reads.Pre reads.Post Inv-loop μ-loop
 
+told : (a : Head-read) → PackHeadIf (heads.Whole (a .h .given .0 .0) (a .h .given .0 .1 .0) (a .h .given .0 .1 .1 .0) (a .h .given .0 .1 .1 .1 .0)) (take (length (a .before .before .before .before .before .before .before .args .s .now) - a .before .before .before .before .loop .p) (drop (a .before .before .before .before .loop .p) (a .before .before .before .before .before .before .before .args .s .now)))
+told a = pack-head-if _ (a .h .given .1) (a .before .before .short-pack-head .ensures)
+
 here : (a : Head-read)
-    → SheetPack (formOf (a .before .before .before .before .before .before .before .before .args .alone)) (a .before .before .before .before .before .before .before .before .args .s .now) (a .before .before .before .before .before .before .before .before .args .out .now) (a .before .before .before .before .before .loop .out) (a .before .before .before .before .before .loop .p) (a .before .before .before .before .before .loop .k) (a .h .given .0 .0) (a .h .given .0 .1 .0) (a .h .given .0 .1 .1 .0) (a .h .given .0 .1 .1 .1 .0)
+    → SheetPack (formOf (a .before .before .before .before .before .before .before .args .alone)) (a .before .before .before .before .before .before .before .args .s .now) (a .before .before .before .before .before .before .before .args .out .now) (a .before .before .before .before .loop .out) (a .before .before .before .before .loop .p) (a .before .before .before .before .loop .k) (a .h .given .0 .0) (a .h .given .0 .1 .0) (a .h .given .0 .1 .1 .0) (a .h .given .0 .1 .1 .1 .0)
 here a = record {
-  going = a .before .before .before .before .before .loop .inv;
-  here = a .before .before .before .before .loop-test .taken;
+  going = a .before .before .before .before .loop .inv;
+  here = omega (arith, pack-within _ refl (told a .0), told a .1, tail-length (a .before .before .before .before .before .before .before .args .s .now) (a .before .before .before .before .loop .p));
   head = heads.Whole _ _ _ _;
-  reads = pack-head-if _ (a .h .given .1) (a .before .before .short-pack-head .ensures) .0;
+  reads = told a .0;
   whole = refl;
-  bytes = λ i. a .before .before .before .before .before .before .before .shared-slice-known .given i .fits;
-  most = a .before .before .before .before .before .before .before .before .pre .0;
-  room = a .before .before .before .before .before .before .before .before .pre .2;
+  bytes = λ i. a .before .before .before .before .before .before .shared-slice-known .given i .fits;
+  most = a .before .before .before .before .before .before .before .pre .0;
+  room = a .before .before .before .before .before .before .before .pre .2;
 }
 
 loop-holds : tie.Need-loop-holds Inv-loop μ-loop
 loop-holds c = series-start (each packSheet) _ tt _ _ (c .before .before .pre .1)
 
 sub-short-pack-head : tie.Need-sub-short-pack-head Inv-loop μ-loop
-sub-short-pack-head c = search needs
+sub-short-pack-head c = c .loop .inv .writes .to
 
 part-short-pack-head-start : tie.Need-part-short-pack-head-start Inv-loop μ-loop
-part-short-pack-head-start c = search needs
+part-short-pack-head-start c = c .loop .inv .writes .to
 
 part-short-pack-head-end : tie.Need-part-short-pack-head-end Inv-loop μ-loop
 part-short-pack-head-end c = search needs
@@ -64,10 +69,10 @@ enum-told : tie.Need-enum-told Inv-loop μ-loop
 enum-told c = search needs
 
 same-length : tie.Need-same-length Inv-loop μ-loop
-same-length c = c .before .before .before .before .before .loop .inv .writes .same
+same-length c = c .before .before .before .before .loop .inv .writes .same
 
 returns : tie.Need-returns Inv-loop μ-loop
-returns c = c .before .before .before .before .before .loop .inv .writes
+returns c = c .before .before .before .before .loop .inv .writes
 
 add-from : tie.Need-add-from Inv-loop μ-loop
 add-from c = omega (arith, pack-room (here (c .before)))
@@ -115,19 +120,13 @@ returns-2 : tie.Need-returns-2 Inv-loop μ-loop
 returns-2 c = items-begun (here (c .before .before .before .before .before .before .before .before .before .before .before .before)) (c .before .before .before .before .before .before .before .before .before .put-target .ensures) (c .before .before .before .before .run .ensures) .writes
 
 add-k : tie.Need-add-k Inv-loop μ-loop
-add-k c = omega (arith, items-passed (here (c .before .before .before .before .before .before .before .before .before .before .before .before .before)) (c .before .before .before .before .before .before .before .before .before .before .put-target .ensures) (c .before .before .before .before .before .run .ensures) (c .before .if1 .left) .writes .sum, c .before .before .before .before .before .before .before .before .before .before .before .before .before .before .before .before .before .before .before .before .before .pre .2, c .before .before .before .before .before .before .before .before .before .before .before .before .before .before .before .before .before .before .before .before .before .good)
+add-k c = omega (arith, items-passed (here (c .before .before .before .before .before .before .before .before .before .before .before .before .before)) (c .before .before .before .before .before .before .before .before .before .before .put-target .ensures) (c .before .before .before .before .before .run .ensures) (c .before .if1 .left) .writes .sum, c .before .before .before .before .before .before .before .before .before .before .before .before .before .before .before .before .before .before .before .before .pre .2, c .before .before .before .before .before .before .before .before .before .before .before .before .before .before .before .before .before .before .before .before .good)
 
 loop-less : tie.Need-loop-less Inv-loop μ-loop
 loop-less c = omega (arith, pack-room (here (c .before .before .before .before .before .before .before .before .before .before .before .before .before)))
 
 loop-again : tie.Need-loop-again Inv-loop μ-loop
 loop-again c = items-passed (here (c .before .before .before .before .before .before .before .before .before .before .before .before .before)) (c .before .before .before .before .before .before .before .before .before .before .put-target .ensures) (c .before .before .before .before .before .run .ensures) (c .before .if1 .left)
-
-same-length-3 : tie.Need-same-length-3 Inv-loop μ-loop
-same-length-3 c = c .before .loop .inv .writes .same
-
-returns-3 : tie.Need-returns-3 Inv-loop μ-loop
-returns-3 c = c .before .loop .inv .writes
 
 pub packs-spec : {M : Type 1} → statement M
 packs-spec =
@@ -161,6 +160,4 @@ packs-spec =
     returns-2
     add-k
     loop-less
-    loop-again
-    same-length-3
-    returns-3)
+    loop-again)

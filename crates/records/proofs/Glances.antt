@@ -24,7 +24,7 @@ use Rattle.heads.proofs.Spans.{val-whole, a-field}
 use Rattle.walks.specs.declared.Piece.{Piece}
 use Rattle.walks.specs.declared.Piece.the-variants as piece
 use Rattle.walks.specs.declared.Sizes.{Sizes}
-use Rattle.walks.specs.Meet.{sizes, itemSizes, plusSizes}
+use Rattle.walks.specs.Meet.{sizes, itemSizes, packSizes, plusSizes}
 use Rattle.walks.proofs.Walks.{same-sizes}
 use Rattle.records.specs.Meet.{pieceBy, valueWhole, partPiece}
 use Rattle.records.specs.Going.{RecordsGoing, Glanced, wordOf}
@@ -42,6 +42,12 @@ quick-plus tag n count p th nh h =
     let u : 1 ≡ length (oidBytes tag) = count-done tag 1 tag (count-start tag (omega arith)) th .0 in
     let w : 1 ≡ lenWidth n = len-one n nh in
     same-sizes (omega arith) refl (omega (arith, u, w)) refl
+
+-- and of targets: one more, whose pack has a byte for its length, and whose id takes w
+pub passed-plus : (p rows normal w : ℕ) (z : Sizes) → w + z .normal ≤ 127 → sizes (p + 10 + z .sheet) (rows + 1 + z .rows) (normal + 1 + (w + z .normal)) 0 ≡ plusSizes (sizes p rows normal 0) (packSizes w z)
+passed-plus p rows normal w z h =
+    let one : 1 ≡ lenWidth (w + z .normal) = len-one (w + z .normal) (omega arith) in
+    same-sizes (omega arith) (omega arith) (omega arith) refl
 
 -- ---- its mark and its tag, as one number
 

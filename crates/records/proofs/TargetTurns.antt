@@ -17,6 +17,7 @@ use Rattle.format.specs.Run.{Step, run}
 use Rattle.format.specs.Sheet.{Val, tagOfVal, idOfTarget, TG, TI, is, valueAt, targetAt}
 use Rattle.format.proofs.words.Answers.{after-ok}
 use Rattle.format.proofs.words.Bytes.{bytes-drop}
+use Rattle.format.proofs.sheets.Values.{mark-says}
 use Rattle.coding.proofs.Rooms.{tail-part}
 use Rattle.items.proofs.Tests.{bind-so, bind-not, need-so, need-not}
 use Rattle.heads.specs.Meet.{peek, Past}
@@ -32,11 +33,9 @@ use Rattle.walks.proofs.Walks.{few-more, going-start}
 use Rattle.walks.proofs.Series.{after-not}
 use Rattle.walks.proofs.Turns.{Reads, within-more, turn-done, turn-over, turn-bad, turn-more}
 use Rattle.records.specs.Meet.{pieceBy, targetWhole, targetOpens, recordsWalk, targetsWalk}
+use Rattle.records.specs.Going.{TargetsGoing}
 use Rattle.records.proofs.Parts.{targetEnd, target-fault, TargetStood, target-stood}
 use Rattle.records.proofs.Runs.{ValsRun, vals-good, vals-bad, vals-used, slim-vals, slim-pack}
-
-abbrev pub TargetsGoing : Form → List ℕ → ℕ → Sizes → ℕ → ℕ → Type 0
-TargetsGoing f s p a top low = Going (peek true true false) (is TG) weightOfTarget (λ t. false) idOfTarget (targetAt f) (targetsWalk f s) s p a false top low
 
 pub targets-start : (f : Form) (s : List ℕ) → TargetsGoing f s 0 noSizes 0 18446744073709551615
 unfolding targetsWalk
@@ -105,8 +104,12 @@ module _ {f : Form} {s : List ℕ} {p : ℕ} {sum : Sizes} {top low id from size
   lent-is : lent ≡ drop 10 (drop p s)
   lent-is = tail-part (p + 10) s ∙ sym (drop-drop 10 p s)
 
-  lent-long : length lent + (p + 10) ≡ length s
+  pub lent-long : length lent + (p + 10) ≡ length s
   lent-long = omega (arith, ap length lent-is, length-drop 10 (drop p s), length-drop p s, stood .ten)
+
+  -- they are over where another target begins
+  pub lent-over : (n : ℕ) → is TG (drop (p + 10 + n) s) ≡ true → is TI (drop n lent) ≡ false
+  lent-over n h = ap (λ u. is TI (drop n u)) (tail-part (p + 10) s) ∙ ap (is TI) (drop-drop n (p + 10) s ∙ mark-says TG (drop (p + 10 + n) s) h)
 
   pub lent-small : length lent ≤ 65536
   lent-small = omega (arith, lent-long, i .most)

@@ -1,4 +1,4 @@
--- The walk over a level's records while it goes, and a record that is told at a glance.
+-- The walks over a level's records and over the series' targets while they go, and a record that is told at a glance.
 use mathlib.Core.Path.{_≡_}
 use Prim.Native.Nat.{ℕ, _+_, _<_}
 use mathlib.Core.Bool.{Bool, true, false}
@@ -6,16 +6,16 @@ use mathlib.Core.List.{List}
 use lib.ListN.{drop, getD}
 use lib.Dec.{eqb}
 use Rattle.format.specs.Table.{Form}
-use Rattle.format.specs.Sheet.{tagOfPart, markOf, is, field}
+use Rattle.format.specs.Sheet.{tagOfPart, idOfTarget, markOf, TG, is, field, targetAt}
 use Rattle.items.specs.Meet.{levelOf}
 use Rattle.items.specs.Quick.{Quick}
 use Rattle.heads.specs.Meet.{peek}
 use Rattle.heads.specs.Records.{fieldAnswer}
 use Rattle.heads.specs.declared.records.Field.the-variants.{Whole}
 use Rattle.walks.specs.declared.Sizes.{Sizes}
-use Rattle.walks.specs.Meet.{markTag}
+use Rattle.walks.specs.Meet.{markTag, weightOfTarget}
 use Rattle.walks.specs.Going.{Going, Begun}
-use Rattle.records.specs.Meet.{moreAt, partStep, weightAt, recordsWalk}
+use Rattle.records.specs.Meet.{moreAt, partStep, weightAt, recordsWalk, targetsWalk}
 
 abbrev pub RecordsGoing : Bool → Form → List ℕ → ℕ → Sizes → Bool → ℕ → ℕ → Type 0
 RecordsGoing b f s p a m top low =
@@ -24,6 +24,10 @@ RecordsGoing b f s p a m top low =
 -- a target's walk from its start, as far as a quick way took it
 abbrev pub TargetRan : Form → List ℕ → Sizes → Bool → Type 0
 TargetRan f s a m = (top : ℕ) × RecordsGoing false f s (a .sheet) a m top 0
+
+-- the walk over the series' targets
+abbrev pub TargetsGoing : Form → List ℕ → ℕ → Sizes → ℕ → ℕ → Type 0
+TargetsGoing f s p a top low = Going (peek true true false) (is TG) weightOfTarget (λ t. false) idOfTarget (targetAt f) (targetsWalk f s) s p a false top low
 
 -- the mark of a level's records before a tag of 0, as one number
 abbrev pub wordOf : Bool → ℕ

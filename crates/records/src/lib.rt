@@ -215,15 +215,11 @@ pub fn target_records(table: &[u64], s: &[u8], alone: bool) -> Walked
     requires { ⌜ (now table ≡ itemTable) × (length (now s) ≤ 65536) ⌝ }
     ensures { λ r. ⌜ (r ≡ targetsWalk (formOf alone) (now (s .entry))) × Within r (length (now (s .entry))) ⌝ }
 {
-    let mut p: usize = 0;
-    let mut sum = Sizes {
-        sheet: 0,
-        rows: 0,
-        normal: 0,
-        inner: 0,
-    };
-    let mut top: u64 = 0;
-    let mut low: u64 = 18446744073709551615;
+    let q = quick::targets(table, s, alone);
+    let mut p = q.at;
+    let mut sum = q.sizes;
+    let mut top = q.top;
+    let mut low = q.low;
     let mut clear: usize = 0;
     while p < s.len() {
         if !heads::records::is_mark(s, p, b'T', b'G') {
@@ -292,5 +288,5 @@ pub enum Sheeted {
     },
 }
 
-pub mod quick; // quick.rt: the quick way over a target
+pub mod quick; // quick.rt: the quick way over a target, and over targets
 pub mod whole; // whole.rt: the whole sheet

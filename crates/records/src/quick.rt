@@ -1,10 +1,16 @@
-// The quick way over a target's records: told at a glance, tags rising, from its start. What stops it is left to the walk.
+// The quick way over a target's records: told at a glance, tags rising, from its start; and over the series' targets that hold no others.
+// What stops it is left to the walks.
 ghost use mathlib.Core.Path.{_≡_};
-ghost use Prim.Native.Nat.{_+_, _-_, _≤_, _<_};
+ghost use mathlib.Core.Bool.{false};
+ghost use Prim.Native.Nat.{_+_, _-_, _^_, _≤_, _<_};
 ghost use lib.ListN.{length};
+ghost use Rattle.format.specs.Coding.{oidBytes};
 ghost use Rattle.items.specs.Meet.{formOf, itemTable};
-ghost use Rattle.records.specs.Going.{TargetRan, Glanced, wordOf};
+ghost use Rattle.walks.specs.Meet.{sizes};
+ghost use Rattle.walks.specs.Going.{quickAt};
+ghost use Rattle.records.specs.Going.{TargetRan, TargetsGoing, Glanced, wordOf};
 use walks::Sizes;
+use walks::quick::Quick;
 
 // A tag, and where its record ends, which is a sum and so never 0 to the compiler; 0 where no such record stands.
 pub struct Told {
@@ -87,5 +93,91 @@ pub fn run(table: &[u64], s: &[u8], alone: bool) -> Ran
         top = g.tag;
         count += 1;
         p = g.next;
+    }
+}
+
+// ---- targets
+
+// The bytes of an id that has one or two.
+fn id_width(id: u64) -> usize
+    requires { ⌜ id ≤ 16383 ⌝ }
+    ensures { λ r. ⌜ (r ≡ length (oidBytes id)) × (r ≤ 2) ⌝ }
+{
+    if id < 128 { 1 } else { 2 }
+}
+
+// Where the target walk goes on after targets of p bytes, so many rows, and so many bytes in a packet.
+fn passed(p: usize, rows: usize, normal: usize, top: u64, low: u64) -> Quick
+    ensures { λ r. ⌜ r ≡ quickAt p (sizes p rows normal 0) false top low ⌝ }
+{
+    let sizes = Sizes {
+        sheet: p,
+        rows,
+        normal,
+        inner: 0,
+    };
+    Quick {
+        at: p,
+        sizes,
+        mark: false,
+        top,
+        low,
+    }
+}
+
+// The targets whose ids have one or two bytes in a packet and rise or fall, whose records are all told at a glance, and whose packs have a
+// byte for their length, one after another, from the series' start.
+pub fn targets(table: &[u64], s: &[u8], alone: bool) -> Quick
+    requires { ⌜ (now table ≡ itemTable) × (length (now s) ≤ 65536) ⌝ }
+    ensures { λ r. ⌜ TargetsGoing (formOf alone) (now (s .entry)) (r .at) (r .sizes) (r .top) (r .low) × (r .top < 2 ^ 63) ⌝ }
+{
+    let mut p: usize = 0;
+    let mut rows: usize = 0;
+    let mut normal: usize = 0;
+    let mut top: u64 = 0;
+    let mut low: u64 = 18446744073709551615;
+    if !heads::records::is_mark(s, p, b'T', b'G') {
+        return passed(p, rows, normal, top, low);
+    }
+    loop {
+        if s.len() - p < 10 {
+            return passed(p, rows, normal, top, low);
+        }
+        let id = coding::eight_of(&s[p + 2..]);
+        if 16383 < id {
+            return passed(p, rows, normal, top, low);
+        }
+        // an id above or below all before moves one bound, but for the first
+        if top < id {
+            top = id;
+            if p == 0 {
+                low = id;
+            }
+        } else {
+            if low <= id {
+                return passed(p, rows, normal, top, low);
+            }
+            low = id;
+        }
+        let from = p + 10;
+        let items = &s[from..];
+        let q = run(table, items, alone);
+        // a target is over at the end, or where another begins
+        let next = from + q.sizes.sheet;
+        if next < s.len() {
+            if !heads::records::is_mark(s, next, b'T', b'G') {
+                return passed(p, rows, normal, top, low);
+            }
+        }
+        if !walks::either(!alone, q.mark) {
+            return passed(p, rows, normal, top, low);
+        }
+        let body = id_width(id) + q.sizes.normal;
+        if 127 < body {
+            return passed(p, rows, normal, top, low);
+        }
+        rows = rows + 1 + q.sizes.rows;
+        normal = normal + 1 + body;
+        p = next;
     }
 }

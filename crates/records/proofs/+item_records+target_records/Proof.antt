@@ -18,11 +18,11 @@ use Rattle.walks.specs.declared.Walked.the-variants.{Good}
 use Rattle.walks.specs.Meet.{plusSizes, Within}
 use Rattle.walks.proofs.Turns.{within-more, told-as, turn-done, turn-over}
 use Rattle.records.specs.Meet.{recordsWalk}
-use Rattle.records.specs.Going.{RecordsGoing}
+use Rattle.records.specs.Going.{RecordsGoing, TargetsGoing}
 use Rattle.walks.proofs.ItemTurns.{depth, series-deep}
 use Rattle.walks.proofs.PackTurns.{either-is}
 use Rattle.records.proofs.PartTurns.{PartAt, records-start, piece-fault, PartTold, item-small, item-told, series-room, lent-small, series-told, part-bad, bad-within, part-room, good-small, part-more}
-use Rattle.records.proofs.TargetTurns.{TargetAt, TargetsGoing, targets-start, same-good, records-over, head-fault, target-room, vals-within, vals-fault, next-room, vals-small, no-location, target-small, target-more}
+use Rattle.records.proofs.TargetTurns.{TargetAt, same-good, records-over, head-fault, target-room, vals-within, vals-fault, next-room, vals-small, no-location, target-small, target-more}
 use Rattle.records.proofs.TargetTurns as target-turns
 use Rattle.records.proofs.item_records.Reads as item-records
 use Rattle.records.proofs.item_records.Kinds as item-records-kinds
@@ -36,6 +36,7 @@ use Rattle.heads.proofs.records.is_mark.Reads as is-mark-reads
 use Rattle.records.proofs.goes_on.Reads as goes-on-reads
 use Rattle.records.proofs.higher.Reads as higher-reads
 use Rattle.records.proofs.quick.run.Reads as run-reads
+use Rattle.records.proofs.quick.targets.Reads as targets-reads
 use Rattle.walks.proofs.later.Reads as later-reads
 use Rattle.records.proofs.part_at.Reads as part-at-reads
 use Rattle.walks.proofs.series_of.Reads as series-of-reads
@@ -91,7 +92,7 @@ abbrev item-claims : ℕ → item-records-lts.Claims
 item-claims t = (goes-on-reads.Asked, goes-on-reads.Learnt, part-at-reads.Asked, part-at-reads.Learnt, stop-reads.Asked, stop-reads.Learnt, is-series-reads.Asked, is-series-reads.Learnt, target-records-below t, target-records.Post, series-of-reads.Asked, series-of-reads.Learnt, one-item-reads.Asked, one-item-reads.Learnt, later-reads.Asked, later-reads.Learnt, plus-reads.Asked, plus-reads.Learnt, either-reads.Asked, either-reads.Learnt, after-reads.Asked, after-reads.Learnt, larger-reads.Asked, larger-reads.Learnt, smaller-reads.Asked, smaller-reads.Learnt)
 
 abbrev target-claims : ℕ → target-records-lts.Claims
-target-claims t = (is-mark-reads.Asked, is-mark-reads.Learnt, target-at-reads.Asked, target-at-reads.Learnt, stop-reads.Asked, stop-reads.Learnt, run-reads.Asked, run-reads.Learnt, goes-on-reads.Asked, goes-on-reads.Learnt, item-records-below t, item-records.Post, later-reads.Asked, later-reads.Learnt, either-reads.Asked, either-reads.Learnt, oid-width-reads.Asked, oid-width-reads.Learnt, pack-sizes-reads.Asked, pack-sizes-reads.Learnt, plus-reads.Asked, plus-reads.Learnt, after-reads.Asked, after-reads.Learnt, higher-reads.Asked, higher-reads.Learnt, smaller-reads.Asked, smaller-reads.Learnt)
+target-claims t = (targets-reads.Asked, targets-reads.Learnt, is-mark-reads.Asked, is-mark-reads.Learnt, target-at-reads.Asked, target-at-reads.Learnt, stop-reads.Asked, stop-reads.Learnt, run-reads.Asked, run-reads.Learnt, goes-on-reads.Asked, goes-on-reads.Learnt, item-records-below t, item-records.Post, later-reads.Asked, later-reads.Learnt, either-reads.Asked, either-reads.Learnt, oid-width-reads.Asked, oid-width-reads.Learnt, pack-sizes-reads.Asked, pack-sizes-reads.Learnt, plus-reads.Asked, plus-reads.Learnt, after-reads.Asked, after-reads.Learnt, higher-reads.Asked, higher-reads.Learnt, smaller-reads.Asked, smaller-reads.Learnt)
 
 abbrev item-records-Inv-loop : item-records-lts.InvT-loop
 item-records-Inv-loop table s set alone p₀ sum₀ mark₀ top₀ low₀ clear₀ p sum mark top low clear = RecordsGoing set (formOf alone) s p sum mark top low × Clear (peek true false set) s clear
@@ -246,7 +247,7 @@ target-records-μ-loop table s alone p₀ sum₀ top₀ low₀ clear₀ p sum to
 
 -- a target, where it was found
 target-here : (t : ℕ) (a : target-records-lts.After-a (target-claims t) (target-records-at t) target-records.Post target-records-Inv-loop target-records-μ-loop)
-    → TargetAt (formOf (a .before .before .before .before .before .before .before .before .before .args .alone)) (a .before .before .before .before .before .before .before .before .before .args .s .now) (a .before .before .before .before .before .before .loop .p) (a .before .before .before .before .before .before .loop .sum) (a .before .before .before .before .before .before .loop .top) (a .before .before .before .before .before .before .loop .low) (a .a .given .0 .0) (a .a .given .0 .1 .0) (a .a .given .0 .1 .1 .0) (a .a .given .0 .1 .1 .1 .0)
+    → TargetAt (formOf (a .before .before .before .before .before .before .before .before .before .before .before .args .alone)) (a .before .before .before .before .before .before .before .before .before .before .before .args .s .now) (a .before .before .before .before .before .before .loop .p) (a .before .before .before .before .before .before .loop .sum) (a .before .before .before .before .before .before .loop .top) (a .before .before .before .before .before .before .loop .low) (a .a .given .0 .0) (a .a .given .0 .1 .0) (a .a .given .0 .1 .1 .0) (a .a .given .0 .1 .1 .1 .0)
 target-here t a = record {
   going = a .before .before .before .before .before .before .loop .inv .0;
   here = a .before .before .before .before .before .loop-test .taken;
@@ -254,12 +255,15 @@ target-here t a = record {
   it = a .before .before .target-at .result;
   told = a .before .before .target-at .ensures;
   whole = a .a .given .1;
-  bytes = λ i. a .before .before .before .before .before .before .before .shared-slice-known2 .given i .fits;
-  most = a .before .before .before .before .before .before .before .before .before .pre .1 .1;
+  bytes = λ i. a .before .before .before .before .before .before .before .before .before .shared-slice-known2 .given i .fits;
+  most = a .before .before .before .before .before .before .before .before .before .before .before .pre .1 .1;
 }
 
+target-records-targets-requires : (t : ℕ) → target-records-lts.Need-targets-requires (target-claims t) (target-records-at t) target-records.Post target-records-Inv-loop target-records-μ-loop
+target-records-targets-requires t c κs = c .before .before .pre .1
+
 target-records-loop-holds : (t : ℕ) → target-records-lts.Need-loop-holds (target-claims t) (target-records-at t) target-records.Post target-records-Inv-loop target-records-μ-loop
-target-records-loop-holds t c = (targets-start _ _, clear-none _ _, omega arith)
+target-records-loop-holds t c = let (g, few) = c .before .targets .ensures in (g, clear-none _ _, few)
 
 target-records-is-mark-requires : (t : ℕ) → target-records-lts.Need-is-mark-requires (target-claims t) (target-records-at t) target-records.Post target-records-Inv-loop target-records-μ-loop
 target-records-is-mark-requires t c κs = search needs
@@ -285,27 +289,27 @@ target-records-returns-2 t c = head-fault _ (c .before .before .before .before .
 target-records-add-from : (t : ℕ) → target-records-lts.Need-add-from (target-claims t) (target-records-at t) target-records.Post target-records-Inv-loop target-records-μ-loop
 target-records-add-from t c =
     let a = c .before in
-    omega (arith, target-room (target-here t a) .0, a .before .before .before .before .before .before .before .before .before .pre .1 .1)
+    omega (arith, target-room (target-here t a) .0, a .before .before .before .before .before .before .before .before .before .before .before .pre .1 .1)
 
 target-records-sub-items : (t : ℕ) → target-records-lts.Need-sub-items (target-claims t) (target-records-at t) target-records.Post target-records-Inv-loop target-records-μ-loop
 target-records-sub-items t c =
     let a = c .before in
-    omega (arith, target-room (target-here t a) .0, a .before .before .before .before .before .before .before .before .before .pre .1 .1)
+    omega (arith, target-room (target-here t a) .0, a .before .before .before .before .before .before .before .before .before .before .before .pre .1 .1)
 
 target-records-part-items-start : (t : ℕ) → target-records-lts.Need-part-items-start (target-claims t) (target-records-at t) target-records.Post target-records-Inv-loop target-records-μ-loop
 target-records-part-items-start t c =
     let a = c .before in
-    omega (arith, target-room (target-here t a) .0, a .before .before .before .before .before .before .before .before .before .pre .1 .1)
+    omega (arith, target-room (target-here t a) .0, a .before .before .before .before .before .before .before .before .before .before .before .pre .1 .1)
 
 target-records-part-items-end : (t : ℕ) → target-records-lts.Need-part-items-end (target-claims t) (target-records-at t) target-records.Post target-records-Inv-loop target-records-μ-loop
 target-records-part-items-end t c =
     let a = c .before in
-    omega (arith, target-room (target-here t a) .0, a .before .before .before .before .before .before .before .before .before .pre .1 .1)
+    omega (arith, target-room (target-here t a) .0, a .before .before .before .before .before .before .before .before .before .before .before .pre .1 .1)
 
 target-records-run-requires : (t : ℕ) → target-records-lts.Need-run-requires (target-claims t) (target-records-at t) target-records.Post target-records-Inv-loop target-records-μ-loop
 target-records-run-requires t c κs =
     let a = c .before .before in
-    (a .before .before .before .before .before .before .before .before .before .pre .1 .0, target-turns.lent-small (target-here t a))
+    (a .before .before .before .before .before .before .before .before .before .before .before .pre .1 .0, target-turns.lent-small (target-here t a))
 
 target-records-goes-on-requires : (t : ℕ) → target-records-lts.Need-goes-on-requires (target-claims t) (target-records-at t) target-records.Post target-records-Inv-loop target-records-μ-loop
 target-records-goes-on-requires t c κs = search needs
@@ -313,11 +317,11 @@ target-records-goes-on-requires t c κs = search needs
 target-records-item-records-requires : (t : ℕ) → target-records-lts.Need-item-records-requires (target-claims t) (target-records-at t) target-records.Post target-records-Inv-loop target-records-μ-loop
 target-records-item-records-requires t c κs =
     let a = c .before .before .before .before .before .before in
-    (omega (arith, a .before .before .before .before .before .before .before .before .before .pre .0), (a .before .before .before .before .before .before .before .before .before .pre .1 .0, target-turns.lent-small (target-here t a)))
+    (omega (arith, a .before .before .before .before .before .before .before .before .before .before .before .pre .0), (a .before .before .before .before .before .before .before .before .before .before .before .pre .1 .0, target-turns.lent-small (target-here t a)))
 
 -- what the records of a target say, whichever way they were walked
 target-told : (t : ℕ) (j : target-records-lts.Joined2 (target-claims t) (target-records-at t) target-records.Post target-records-Inv-loop target-records-μ-loop)
-    → (Good (j .if2 .sizes) (j .if2 .mark) ≡ recordsWalk pack (formOf (j .before .before .before .before .before .before .before .before .before .before .before .before .before .before .before .args .alone)) (target-turns.lent (target-here t (j .before .before .before .before .before .before)))) × Within (Good (j .if2 .sizes) (j .if2 .mark)) (length (target-turns.lent (target-here t (j .before .before .before .before .before .before))))
+    → (Good (j .if2 .sizes) (j .if2 .mark) ≡ recordsWalk pack (formOf (j .before .before .before .before .before .before .before .before .before .before .before .before .before .before .before .before .before .args .alone)) (target-turns.lent (target-here t (j .before .before .before .before .before .before)))) × Within (Good (j .if2 .sizes) (j .if2 .mark)) (length (target-turns.lent (target-here t (j .before .before .before .before .before .before))))
 target-told t j =
     ⊎-elim
     (λ x. told-as _ (same-good (x .5) (x .6) ∙ sym (x .3 .given .1)) (x .1 .ensures))
@@ -370,7 +374,7 @@ target-records-smaller-requires t c κs = search needs
 target-records-add-p : (t : ℕ) → target-records-lts.Need-add-p (target-claims t) (target-records-at t) target-records.Post target-records-Inv-loop target-records-μ-loop
 target-records-add-p t c =
     let a = c .before .before .before .before .before .before .before .before .before .before .before .before .before .before .before in
-    omega (arith, next-room (target-here t a) (target-told t (c .before .before .before .before .before .before .before .before .before)) refl, a .before .before .before .before .before .before .before .before .before .pre .1 .1)
+    omega (arith, next-room (target-here t a) (target-told t (c .before .before .before .before .before .before .before .before .before)) refl, a .before .before .before .before .before .before .before .before .before .before .before .pre .1 .1)
 
 target-records-loop-less : (t : ℕ) → target-records-lts.Need-loop-less (target-claims t) (target-records-at t) target-records.Post target-records-Inv-loop target-records-μ-loop
 target-records-loop-less t c =
@@ -381,12 +385,12 @@ target-records-loop-again : (t : ℕ) → target-records-lts.Need-loop-again (ta
 target-records-loop-again t c =
     let a = c .before .before .before .before .before .before .before .before .before .before .before .before .before .before .before in
     let u = c .before .before .higher .ensures in
-    (target-more (target-here t a) (target-told t (c .before .before .before .before .before .before .before .before .before)) refl (c .before .before .before .before .before .before .oid-width .ensures) (either-is (a .before .before .before .before .before .before .before .before .before .args .alone) _ (c .before .before .before .before .before .before .before .before .either .ensures)) (c .before .before .before .before .before .before .before .if3 .taken) (c .before .before .before .before .plus .ensures ∙ ap (plusSizes _) (c .before .before .before .before .before .pack-sizes .ensures)) (u .0, u .1) (c .before .smaller .ensures), c .before .before .before .after .ensures, u .2 (target-room (target-here t a) .1))
+    (target-more (target-here t a) (target-told t (c .before .before .before .before .before .before .before .before .before)) refl (c .before .before .before .before .before .before .oid-width .ensures) (either-is (a .before .before .before .before .before .before .before .before .before .before .before .args .alone) _ (c .before .before .before .before .before .before .before .before .either .ensures)) (c .before .before .before .before .before .before .before .if3 .taken) (c .before .before .before .before .plus .ensures ∙ ap (plusSizes _) (c .before .before .before .before .before .pack-sizes .ensures)) (u .0, u .1) (c .before .smaller .ensures), c .before .before .before .after .ensures, u .2 (target-room (target-here t a) .1))
 
 target-records-returns-4 : (t : ℕ) → target-records-lts.Need-returns-4 (target-claims t) (target-records-at t) target-records.Post target-records-Inv-loop target-records-μ-loop
 target-records-returns-4 t c =
     let a = c .before .before .before .before .before .before .before .before in
-    no-location (target-here t a) (target-told t (c .before .before)) refl (either-is (a .before .before .before .before .before .before .before .before .before .args .alone) _ (c .before .either .ensures)) (c .if3 .left) refl
+    no-location (target-here t a) (target-told t (c .before .before)) refl (either-is (a .before .before .before .before .before .before .before .before .before .before .before .args .alone) _ (c .before .either .ensures)) (c .if3 .left) refl
 
 target-records-returns-5 : (t : ℕ) → target-records-lts.Need-returns-5 (target-claims t) (target-records-at t) target-records.Post target-records-Inv-loop target-records-μ-loop
 target-records-returns-5 t c = turn-done (c .before .loop .inv .0) (c .loop-test .left)
@@ -403,7 +407,7 @@ pub +item-records+target-records-spec : {M : Type 1} → statement M
     (item-records-plus-requires t) (item-records-either-requires t) (item-records-after-requires t) (item-records-larger-requires t) (item-records-smaller-requires t)
     (item-records-add-p t) (item-records-loop-less t) (item-records-loop-again t) (item-records-returns-4 t))
     (λ t. target-records-lts.spec (target-claims t) (target-records-at t) target-records.Post target-records-Inv-loop target-records-μ-loop
-    (target-records-loop-holds t) (target-records-is-mark-requires t) (target-records-returns t) (target-records-target-at-requires t)
+    (target-records-targets-requires t) (target-records-loop-holds t) (target-records-is-mark-requires t) (target-records-returns t) (target-records-target-at-requires t)
     (target-records-enum-known-a t) (target-records-enum-told t) (target-records-stop-requires t) (target-records-returns-2 t)
     (target-records-add-from t) (target-records-sub-items t) (target-records-part-items-start t) (target-records-part-items-end t)
     (target-records-run-requires t) (target-records-goes-on-requires t)

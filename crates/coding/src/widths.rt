@@ -30,11 +30,17 @@ pub fn above7(n: u64) -> u64
     n >> 7
 }
 
-// The bytes of the tag or id n. Most have one, and make no turn.
+// The bytes of the tag or id n. Most have one or two, and make no turn.
 pub fn oid_width(n: u64) -> usize
     requires { ⌜ n < 2 ^ 63 ⌝ }
     ensures { λ r. ⌜ (r ≡ length (oidBytes n)) × (r ≤ 9) ⌝ }
 {
+    if n < 128 {
+        return 1;
+    }
+    if n < 16384 {
+        return 2;
+    }
     let mut k: usize = 1;
     let mut m = n;
     while 128 <= m {

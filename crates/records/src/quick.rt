@@ -4,7 +4,6 @@ ghost use mathlib.Core.Path.{_≡_};
 ghost use mathlib.Core.Bool.{false};
 ghost use Prim.Native.Nat.{_+_, _-_, _^_, _≤_, _<_};
 ghost use lib.ListN.{length};
-ghost use Rattle.format.specs.Coding.{oidBytes};
 ghost use Rattle.items.specs.Meet.{formOf, itemTable};
 ghost use Rattle.walks.specs.Meet.{sizes};
 ghost use Rattle.walks.specs.Going.{quickAt};
@@ -98,14 +97,6 @@ pub fn run(table: &[u64], s: &[u8], alone: bool) -> Ran
 
 // ---- targets
 
-// The bytes of an id that has one or two.
-fn id_width(id: u64) -> usize
-    requires { ⌜ id ≤ 16383 ⌝ }
-    ensures { λ r. ⌜ (r ≡ length (oidBytes id)) × (r ≤ 2) ⌝ }
-{
-    if id < 128 { 1 } else { 2 }
-}
-
 // Where the target walk goes on after targets of p bytes, so many rows, and so many bytes in a packet.
 fn passed(p: usize, rows: usize, normal: usize, top: u64, low: u64) -> Quick
     ensures { λ r. ⌜ r ≡ quickAt p (sizes p rows normal 0) false top low ⌝ }
@@ -172,7 +163,7 @@ pub fn targets(table: &[u64], s: &[u8], alone: bool) -> Quick
         if !walks::either(!alone, q.mark) {
             return passed(p, rows, normal, top, low);
         }
-        let body = id_width(id) + q.sizes.normal;
+        let body = coding::widths::oid_width(id) + q.sizes.normal;
         if 127 < body {
             return passed(p, rows, normal, top, low);
         }

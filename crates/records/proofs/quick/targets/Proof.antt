@@ -28,7 +28,7 @@ use Rattle.records.proofs.quick.targets.Reads as reads
 use Rattle.records.proofs.quick.targets.Lts as lts
 use Rattle.coding.proofs.eight_of.Reads as eight-of-reads
 use Rattle.heads.proofs.records.is_mark.Reads as is-mark-reads
-use Rattle.records.proofs.quick.id_width.Reads as id-width-reads
+use Rattle.coding.proofs.widths.oid_width.Reads as oid-width-reads
 use Rattle.records.proofs.quick.passed.Reads as passed-reads
 use Rattle.records.proofs.quick.run.Reads as run-reads
 use Rattle.walks.proofs.either.Reads as either-reads
@@ -40,7 +40,7 @@ abbrev μ-loop : tie.MeasureT-loop
 μ-loop table s alone p₀ rows₀ normal₀ top₀ low₀ p rows normal top low = length s - p
 
 abbrev claims : lts.Claims
-claims = (is-mark-reads.Asked, is-mark-reads.Learnt, passed-reads.Asked, passed-reads.Learnt, eight-of-reads.Asked, eight-of-reads.Learnt, run-reads.Asked, run-reads.Learnt, either-reads.Asked, either-reads.Learnt, id-width-reads.Asked, id-width-reads.Learnt)
+claims = (is-mark-reads.Asked, is-mark-reads.Learnt, passed-reads.Asked, passed-reads.Learnt, eight-of-reads.Asked, eight-of-reads.Learnt, run-reads.Asked, run-reads.Learnt, either-reads.Asked, either-reads.Learnt, oid-width-reads.Asked, oid-width-reads.Learnt)
 
 abbrev At-loop : Type 0
 At-loop = lts.At-loop claims reads.Pre reads.Post Inv-loop μ-loop
@@ -186,11 +186,11 @@ passed-requires-6 c κs = search needs
 returns-6 : tie.Need-returns-6 Inv-loop μ-loop
 returns-6 c = rw (c .passed6 .ensures) (widened (c .before .before .before .before .before .before .before))
 
-id-width-requires : tie.Need-id-width-requires Inv-loop μ-loop
-id-width-requires c κs = omega (arith, c .before .before .before .before .before .before .before .if3 .left)
+oid-width-requires : tie.Need-oid-width-requires Inv-loop μ-loop
+oid-width-requires c κs = omega (arith, c .before .before .before .before .before .before .before .if3 .left)
 
 add-body : tie.Need-add-body Inv-loop μ-loop
-add-body c = let k = c .before .before .before .before .before .before .run .ensures .1 in omega (arith, k .few .normal, k .to, lent-small (here (c .before .before .before .before .before .before .before .before)), c .before .id-width .ensures .1)
+add-body c = let k = c .before .before .before .before .before .before .run .ensures .1 in omega (arith, k .few .normal, k .to, lent-small (here (c .before .before .before .before .before .before .before .before)), c .before .oid-width .ensures .1)
 
 passed-requires-7 : tie.Need-passed-requires-7 Inv-loop μ-loop
 passed-requires-7 c κs = search needs
@@ -218,7 +218,7 @@ loop-again c =
     let j = c .before .before .before .before .before .before .before .before .before .before in
     let v = c .before .before .before .before .before .before in
     let r = reached j .0 in (
-      target-more (here j) (vals v) refl (c .before .before .before .id-width .ensures .0, omega (arith, c .before .before .before .id-width .ensures .1)) (either-is (j .before .before .before .before .before .before .before .before .before .before .args .alone) _ (c .before .before .before .before .before .either .ensures)) (not-false _ (c .before .before .before .before .if9 .left))
+      target-more (here j) (vals v) refl (c .before .before .before .oid-width .ensures .0, omega (arith, c .before .before .before .oid-width .ensures .1)) (either-is (j .before .before .before .before .before .before .before .before .before .before .args .alone) _ (c .before .before .before .before .before .either .ensures)) (not-false _ (c .before .before .before .before .if9 .left))
           (passed-plus _ _ _ _ (v .before .before .run .result .sizes) (omega (arith, c .before .if10 .left))) (r .over) (r .under),
       begins v,
       λ e. absurd (omega (arith, e)),
@@ -260,7 +260,7 @@ targets-spec =
     either-requires
     passed-requires-6
     returns-6
-    id-width-requires
+    oid-width-requires
     add-body
     passed-requires-7
     returns-7

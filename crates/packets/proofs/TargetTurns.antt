@@ -1,4 +1,4 @@
--- What a turn over the targets stores: the items behind a head of the usual size, and then the head; or the items once more, behind a longer one.
+-- What a turn over the targets stores: the items behind a head of the usual size, or moved on behind a longer one, and then the head.
 use mathlib.Core.Path.{_≡_, refl, sym, ap, _∙_}
 use Prim.Native.Nat.{ℕ, _+_, _-_, _^_, _≤_, _<_}
 use native.Mathlib.Omega.{arith}
@@ -19,17 +19,18 @@ use Rattle.walks.specs.Meet.{total, weightOfVal}
 use Rattle.walks.specs.Runs.{madeOf}
 use Rattle.records.proofs.Runs.{vals-used}
 use Rattle.stores.specs.Writing.{Writing}
-use Rattle.stores.proofs.Puts.{Puts, Parted, head-room, head-behind, rest-room, rest-put}
+use Rattle.stores.proofs.Puts.{Puts, Parted, head-room}
 use Rattle.stores.proofs.Stores.{sets-append, sets-swap, sets-under, tail-length, tail-stored}
+use Rattle.stores.proofs.Shifts.{stored-reads}
 use Rattle.stores.proofs.Writing.{each, writing-begins, none-over, writing-over, Next, next-here, next-room, writing-passes, long}
 use Rattle.stores.proofs.Entries.{ran, ran-ok}
 use Rattle.normals.specs.Meet.{packFront}
 use Rattle.packets.specs.Meet.{usedOf, recordsRun, targetsRun, targetNormal, partNormal, recordsNormal, targetsNormal}
-use Rattle.packets.specs.Writing.{RecordsAsked, RecordsWriting}
+use Rattle.packets.specs.Writing.{RecordsAsked}
 use Rattle.packets.proofs.Steps.{mark-room, TargetHere, target-here, vals-read}
 use Rattle.packets.proofs.Forms.{target-normal, len-some, vals-normal, no-inner}
 use Rattle.packets.proofs.Heads.{front-sized}
-use Rattle.packets.proofs.Turns.{TargetsAsked, records-start}
+use Rattle.packets.proofs.Turns.{TargetsAsked}
 
 pub record TargetsWriting (f : Form) (s out₀ out : List ℕ) (p k : ℕ) : Type 0 where
   pub writes : Writing (is TG) (λ (_ : Unit {0}). flatAll targetNormal) idOfTarget (targetAt f) (targetsNormal f s) s out₀ out tt p k
@@ -57,7 +58,7 @@ pub record TargetAt (f : Form) (s out₀ out : List ℕ) (p k : ℕ) : Type 0 wh
   pub asked : TargetsAsked f s (length out₀)
 
 module _ {f : Form} {s out₀ out : List ℕ} {p k : ℕ} (i : TargetAt f s out₀ out p k) where
-  target : Next (each targetNormal) _ _ _ _ _ _ (i .going .writes)
+  pub target : Next (each targetNormal) _ _ _ _ _ _ (i .going .writes)
   target = next-here (each targetNormal) _ _ _ _ _ _ (i .going .writes) (omega (arith, mark-room TG (drop p s) (i .more), length-drop p s)) (i .more)
 
   stands : TargetHere f (drop p s) (target .it)
@@ -166,52 +167,65 @@ module _ {f : Form} {s out₀ out : List ℕ} {p k : ℕ} (i : TargetAt f s out�
         pub body-few : w + n ≤ 65536
         body-few = omega (arith, ed .1, whole-long, front-long, written-few)
 
-        pub pack-asked : (w + n ≤ 65536) × (id < 2 ^ 63) × (k + length (packFront (w + n) id) ≤ length out₁)
-        pack-asked = (body-few, id-low, rw (ed .1, early-long) (head-room parts))
+        -- o′ is as the target leaves it, but for the head
+        pub record Placed (o′ : List ℕ) : Type 0 where
+          pub same : length o′ ≡ length out
+          pub whole : sets o′ k (packFront body id) ≡ sets out k written
 
-        -- and then the head
-        module _ {m : ℕ} {out₂ : List ℕ} (em : Puts out₁ k (packFront (w + n) id) m out₂) where
-          headed : Puts out₁ k (packFront body id) m out₂
-          headed = rw (ed .1) at em
+        placed : {o′ : List ℕ} → o′ ≡ sets out₁ (k + length (packFront body id)) normal → Placed o′
+        placed e =
+            let front : List ℕ = packFront body id in
+            let one : 1 ≤ lenWidth body = len-some body in
+            record {
+              same = ap length e ∙ length-sets out₁ (k + length front) normal ∙ early-long;
+              whole =
+                  ap (λ x. sets x k front) e
+                  ∙ sets-swap out₁ k front (k + length front) normal (omega arith)
+                  ∙ sym (sets-append out₁ k front normal)
+                  ∙ ap (sets out₁ k) (sym (parts .is))
+                  ∙ ap (λ x. sets x k written) early
+                  ∙ sets-under out (k + 1 + w) normal k written (omega arith) (omega (arith, whole-long, front-long, one));
+            }
 
-          pub ends-few : m + n ≤ 8192
-          ends-few = omega (arith, headed .0, ed .1, whole-long, long (each targetNormal) _ _ _ _ _ _ (i .going .writes) target, i .going .writes .sum, i .asked .3)
+        -- behind a head of the usual size they stay
+        pub vals-stay : w + n < 128 → Placed out₁
+        vals-stay h =
+            let one : 1 ≡ lenWidth body = len-one body (omega (arith, ed .1)) in
+            let at : k + 1 + w ≡ k + length (packFront body id) = omega (arith, one, front-long) in
+            placed (early ∙ sym (sets-under out (k + 1 + w) normal (k + 1 + w) normal (omega arith) (omega arith)) ∙ ap (λ x. sets x (k + 1 + w) normal) (sym early) ∙ ap (λ j. sets out₁ j normal) at)
 
-          turned : {k′ : ℕ} {out′ : List ℕ} → Puts out k written k′ out′ → TargetsWriting f s out₀ out′ (p + 10 + u) k′
-          turned e =
-              let ep : p + 10 + u ≡ p + target .it .used = omega (arith, stands .used-is, used-is) in
-              let (g, v) = writing-passes (each targetNormal) _ _ _ _ _ _ (i .going .writes) target (omega (arith, stands .used-is)) (omega (arith, ep, target-next)) (e .1) refl ep (e .0) in
-              record { writes = g; passed = omega (arith, i .going .passed, v, target .passes, ep) }
+        -- behind a longer one, whose length has y bytes, they are moved
+        module _ {y : ℕ} (ey : y ≡ lenWidth (w + n)) where
+          wide : y ≡ lenWidth body
+          wide = ey ∙ ap (λ j. lenWidth (w + j)) (ed .1)
 
-          pub short-more : w + n < 128 → TargetsWriting f s out₀ out₂ (p + 10 + u) (m + n)
-          short-more h =
-              let one : 1 ≡ lenWidth body = len-one body (omega (arith, ed .1)) in
-              let at : k + 1 + w ≡ k + length (packFront body id) = omega (arith, one, front-long) in
-              turned (
-                omega (arith, headed .0, ed .1, whole-long),
-                headed .1 ∙ ap (λ x. sets x k (packFront body id)) early ∙ sets-swap out k (packFront body id) (k + 1 + w) normal (omega (arith, at))
-                    ∙ ap (λ j. sets (sets out k (packFront body id)) j normal) at ∙ sym (sets-append out k (packFront body id) normal) ∙ ap (sets out k) (sym (parts .is)),
-              )
+          pub wide-some : 1 ≤ y
+          wide-some = omega (arith, wide, len-some body)
 
-          again : Parted out₁ k written (packFront body id) normal
-          again = record { is = parts .is; fits = omega (arith, parts .fits, early-long) }
+          pub move-asked : k + 1 + w + (y - 1) + n ≤ length out₁
+          move-asked = omega (arith, wide, wide-some, parts .fits, whole-long, front-long, early-long, ed .1)
 
-          pub vals-behind : m ≤ length out₂
-          vals-behind = head-behind again headed
+          pub vals-move : {o′ : List ℕ} → o′ ≡ sets out₁ (k + 1 + w + (y - 1)) (take n (drop (k + 1 + w) out₁)) → Placed o′
+          vals-move e =
+              let at : k + 1 + w + (y - 1) ≡ k + length (packFront body id) = omega (arith, wide, wide-some, front-long) in
+              let same : take n (drop (k + 1 + w) out₁) ≡ normal = rw (ed .1, early) (stored-reads out (k + 1 + w) normal (behind .1)) in
+              placed (e ∙ ap (sets out₁ (k + 1 + w + (y - 1))) same ∙ ap (λ j. sets out₁ j normal) at)
 
-          -- the tail behind it
-          abbrev tail : List ℕ
-          tail = take (length out₂ - m) (drop m out₂)
+        -- and then comes the head
+        module _ {o′ : List ℕ} (q : Placed o′) where
+          pub pack-asked : (w + n ≤ 65536) × (id < 2 ^ 63) × (k + length (packFront (w + n) id) ≤ length o′)
+          pack-asked = (body-few, id-low, rw (ed .1, q .same) (head-room parts))
 
-          tail-asked : RecordsAsked 0 false f valsLent (length tail)
-          tail-asked = let a = vals-asked in (a .0, a .1, a .2, a .3, rest-room again headed, a .5)
+          module _ {m : ℕ} {out₂ : List ℕ} (em : Puts o′ k (packFront (w + n) id) m out₂) where
+            headed : Puts o′ k (packFront body id) m out₂
+            headed = rw (ed .1) at em
 
-          pub again-asked : RecordsAsked 0 false f valsLent (length tail) × ((o : List ℕ) × RecordsWriting 0 false f valsLent o tail 0 0)
-          again-asked = (tail-asked, (tail, records-start tail-asked))
+            pub ends-few : m + n ≤ 8192
+            ends-few = omega (arith, headed .0, ed .1, whole-long, long (each targetNormal) _ _ _ _ _ _ (i .going .writes) target, i .going .writes .sum, i .asked .3)
 
-          pub again-more : {v r : ℕ} {o₂ : List ℕ} → (v ≡ usedOf (recordsRun pack f valsLent)) × (r ≡ length normal) × ((o : List ℕ) → RecordsWriting 0 false f valsLent o tail 0 0 → o₂ ≡ sets o 0 normal)
-              → TargetsWriting f s out₀ (putMid m (length out₂ - m) out₂ o₂) (p + 10 + u) (m + n)
-          again-more q =
-              let e = rest-put again headed (q .1, q .2 tail (records-start tail-asked)) in
-              let one : 1 ≤ lenWidth body = len-some body in
-              turned (omega (arith, e .0, q .1, ed .1), e .1 ∙ ap (λ x. sets x k written) early ∙ sets-under out (k + 1 + w) normal k written (omega arith) (omega (arith, whole-long, front-long, one)))
+            pub target-more : TargetsWriting f s out₀ out₂ (p + 10 + u) (m + n)
+            target-more =
+                let ep : p + 10 + u ≡ p + target .it .used = omega (arith, stands .used-is, used-is) in
+                let ek : m + n ≡ k + length written = omega (arith, headed .0, ed .1, whole-long) in
+                let (g, v) = writing-passes (each targetNormal) _ _ _ _ _ _ (i .going .writes) target (omega (arith, stands .used-is)) (omega (arith, ep, target-next)) (headed .1 ∙ q .whole) refl ep ek in
+                record { writes = g; passed = omega (arith, i .going .passed, v, target .passes, ep) }

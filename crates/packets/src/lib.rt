@@ -166,15 +166,16 @@ fn target_packet(s: &[u8], alone: bool, out: &mut [u8]) -> Passed
         let id = coding::number_of(&s[p + 2..], 8);
         let from = p + 10;
         let w = id_width(id);
-        // The items go behind the head that most packs have, a length of one byte and the id; behind a longer one they go again.
+        // The items go behind the head that most packs have, a length of one byte and the id; for a longer length they are moved on.
         let at = k + 1 + w;
         let d = put_vals(&s[from..], alone, &mut out[at..]);
         let next = from + d.used;
         let body = w + d.wrote;
-        let m = put_head(out, k, body, id);
         if 127 < body {
-            rest_vals(&s[from..], 0, 0, alone, &mut out[m..]);
+            let by = coding::widths::len_width(body) - 1;
+            stores::shift(out, at, d.wrote, by);
         }
+        let m = put_head(out, k, body, id);
         k = m + d.wrote;
         p = next;
     }

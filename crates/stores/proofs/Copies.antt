@@ -19,7 +19,7 @@ below-or-not m n = go (ltb m n) refl
 
 -- ---- what stands where, after a run was stored
 
-sets-other : (l : List ℕ) (i : ℕ) (xs : List ℕ) (m : ℕ) → ((j : ℕ) → j < length xs → m ≡ i + j → ⊥) → getD (sets l i xs) m 0 ≡ getD l m 0
+pub sets-other : (l : List ℕ) (i : ℕ) (xs : List ℕ) (m : ℕ) → ((j : ℕ) → j < length xs → m ≡ i + j → ⊥) → getD (sets l i xs) m 0 ≡ getD l m 0
 sets-other l i [] m n = refl
 sets-other l i (x ∷ xs) m n = sets-other (set l i x) (suc i) xs m (λ j h e. n (suc j) (omega arith) (omega arith)) ∙ getD-set-other l i m x 0 (λ e. n 0 (omega arith) (omega arith))
 

@@ -1,5 +1,6 @@
 pub mod Stores
 pub mod Copies
+pub mod Shifts
 pub mod Puts
 pub mod Codings
 pub mod Shortest

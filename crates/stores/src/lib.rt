@@ -120,6 +120,19 @@ pub fn copy(out: &mut [u8], at: usize, s: &[u8]) -> usize
     copy_run(out, at, &s[0..])
 }
 
+// The n bytes at `at` moved on by `by`, from the last to the first since the two places may overlap. One by one: compiled, many go at once.
+pub fn shift(out: &mut [u8], at: usize, n: usize, by: usize)
+    requires { ⌜ at + by + n ≤ length (now out) ⌝ }
+    ensures { λ r. ⌜ now (out .exit) ≡ sets (now (out .entry)) (at + by) (take n (drop at (now (out .entry)))) ⌝ }
+{
+    let mut i = n;
+    while 0 < i {
+        i -= 1;
+        let f = at + i;
+        out[f + by] = out[f];
+    }
+}
+
 // Four numbers, a row; where they end.
 pub fn put_row(out: &mut [u64], at: usize, a: u64, b: u64, c: u64, d: u64) -> usize
     requires { ⌜ at + 4 ≤ length (now out) ⌝ }

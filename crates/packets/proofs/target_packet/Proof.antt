@@ -7,17 +7,18 @@ use lib.ListN.{length}
 use borrow.Author.Needs.{needs}
 use borrow.Author.Tests.{not-true, not-false}
 use Rattle.items.specs.Meet.{formOf}
-use Rattle.packets.proofs.TargetTurns.{TargetsWriting, targets-start, targets-over, TargetAt, target-room, id-asked, id-low, behind, vals-asked, target-next, body-few, pack-asked, ends-few, short-more, vals-behind, again-asked, again-more}
+use Rattle.packets.proofs.TargetTurns.{TargetsWriting, targets-start, targets-over, TargetAt, target-room, id-asked, id-low, behind, vals-asked, target-next, body-few, Placed, vals-stay, wide-some, move-asked, vals-move, pack-asked, ends-few, target-more}
 use Rattle.packets.proofs.target_packet.Statement.{statement}
 use Rattle.packets.proofs.target_packet.Tie as tie
 use Rattle.packets.proofs.target_packet.Reads as reads
 use Rattle.packets.proofs.target_packet.Lts as lts
 use Rattle.coding.proofs.number_of.Reads as number-of-reads
+use Rattle.coding.proofs.widths.len_width.Reads as len-width-reads
 use Rattle.heads.proofs.records.is_mark.Reads as is-mark-reads
 use Rattle.packets.proofs.id_width.Reads as id-width-reads
 use Rattle.packets.proofs.put_head.Reads as put-head-reads
 use Rattle.packets.proofs.put_vals.Reads as put-vals-reads
-use Rattle.packets.proofs.rest_vals.Reads as rest-vals-reads
+use Rattle.stores.proofs.shift.Reads as shift-reads
 
 abbrev Inv-loop : tie.InvT-loop
 Inv-loop s alone out₀ p₀ k₀ out p k = TargetsWriting (formOf alone) s out₀ out p k
@@ -26,7 +27,7 @@ abbrev μ-loop : tie.MeasureT-loop
 μ-loop s alone out₀ p₀ k₀ out p k = length s - p
 
 -- the target whose mark was seen
-target-at : (a : lts.Else1 (is-mark-reads.Asked, is-mark-reads.Learnt, number-of-reads.Asked, number-of-reads.Learnt, id-width-reads.Asked, id-width-reads.Learnt, put-vals-reads.Asked, put-vals-reads.Learnt, put-head-reads.Asked, put-head-reads.Learnt, rest-vals-reads.Asked, rest-vals-reads.Learnt) reads.Pre reads.Post Inv-loop μ-loop)
+target-at : (a : lts.Else1 (is-mark-reads.Asked, is-mark-reads.Learnt, number-of-reads.Asked, number-of-reads.Learnt, id-width-reads.Asked, id-width-reads.Learnt, put-vals-reads.Asked, put-vals-reads.Learnt, len-width-reads.Asked, len-width-reads.Learnt, shift-reads.Asked, shift-reads.Learnt, put-head-reads.Asked, put-head-reads.Learnt) reads.Pre reads.Post Inv-loop μ-loop)
     → TargetAt (formOf (a .before .before .before .before .before .args .alone)) (a .before .before .before .before .before .args .s .now) (a .before .before .before .before .before .args .out .now) (a .before .before .loop .out) (a .before .before .loop .p) (a .before .before .loop .k)
 target-at a = record {
   going = a .before .before .loop .inv;
@@ -34,6 +35,14 @@ target-at a = record {
   bytes = λ i. a .before .before .before .before .shared-slice-known .given i .fits;
   asked = a .before .before .before .before .before .pre;
 }
+
+-- its items, behind where its head goes
+placed : (a : lts.Joined2 (is-mark-reads.Asked, is-mark-reads.Learnt, number-of-reads.Asked, number-of-reads.Learnt, id-width-reads.Asked, id-width-reads.Learnt, put-vals-reads.Asked, put-vals-reads.Learnt, len-width-reads.Asked, len-width-reads.Learnt, shift-reads.Asked, shift-reads.Learnt, put-head-reads.Asked, put-head-reads.Learnt) reads.Pre reads.Post Inv-loop μ-loop)
+    → Placed (target-at (a .before .before .before .before .before .before .before .before .before .before .before)) (a .before .before .before .before .before .before .before .before .before .number-of .ensures) (a .before .before .before .before .before .before .before .before .id-width .ensures) (a .before .before .before .before .before .put-vals .ensures) (a .if2 .out)
+placed a = ⊎-elim
+    (λ m. rw (m .6) (vals-move (target-at (a .before .before .before .before .before .before .before .before .before .before .before)) (a .before .before .before .before .before .before .before .before .before .number-of .ensures) (a .before .before .before .before .before .before .before .before .id-width .ensures) (a .before .before .before .before .before .put-vals .ensures) (m .1 .ensures) (m .3 .ensures)))
+    (λ h. rw (h .1) (vals-stay (target-at (a .before .before .before .before .before .before .before .before .before .before .before)) (a .before .before .before .before .before .before .before .before .before .number-of .ensures) (a .before .before .before .before .before .before .before .before .id-width .ensures) (a .before .before .before .before .before .put-vals .ensures) (omega (arith, h .0 .left))))
+    (a .if2 .came)
 
 loop-holds : tie.Need-loop-holds Inv-loop μ-loop
 loop-holds c = targets-start (c .before .before .pre)
@@ -101,41 +110,26 @@ add-next c = omega (arith, target-next (target-at (c .before .before .before .be
 add-body : tie.Need-add-body Inv-loop μ-loop
 add-body c = omega (arith, body-few (target-at (c .before .before .before .before .before .before .before .before .before .before)) (c .before .before .before .before .before .before .before .before .number-of .ensures) (c .before .before .before .before .before .before .before .id-width .ensures) (c .before .before .before .before .put-vals .ensures))
 
+len-width-requires : tie.Need-len-width-requires Inv-loop μ-loop
+len-width-requires c κs = search needs
+
+sub-by : tie.Need-sub-by Inv-loop μ-loop
+sub-by c = wide-some (target-at (c .before .before .before .before .before .before .before .before .before .before .before .before)) (c .before .before .before .before .before .before .before .before .before .before .number-of .ensures) (c .before .before .before .before .before .before .before .before .before .id-width .ensures) (c .before .before .before .before .before .before .put-vals .ensures) (c .len-width .ensures)
+
+shift-requires : tie.Need-shift-requires Inv-loop μ-loop
+shift-requires c κs = move-asked (target-at (c .before .before .before .before .before .before .before .before .before .before .before .before .before)) (c .before .before .before .before .before .before .before .before .before .before .before .number-of .ensures) (c .before .before .before .before .before .before .before .before .before .before .id-width .ensures) (c .before .before .before .before .before .before .before .put-vals .ensures) (c .before .len-width .ensures)
+
 put-head-requires : tie.Need-put-head-requires Inv-loop μ-loop
-put-head-requires c κs = pack-asked (target-at (c .before .before .before .before .before .before .before .before .before .before .before)) (c .before .before .before .before .before .before .before .before .before .number-of .ensures) (c .before .before .before .before .before .before .before .before .id-width .ensures) (c .before .before .before .before .before .put-vals .ensures)
-
-sub-rest-vals : tie.Need-sub-rest-vals Inv-loop μ-loop
-sub-rest-vals c = omega (arith, target-room (target-at (c .before .before .before .before .before .before .before .before .before .before .before .before .before .before .before)))
-
-part-rest-vals-start : tie.Need-part-rest-vals-start Inv-loop μ-loop
-part-rest-vals-start c = omega (arith, target-room (target-at (c .before .before .before .before .before .before .before .before .before .before .before .before .before .before .before)))
-
-part-rest-vals-end : tie.Need-part-rest-vals-end Inv-loop μ-loop
-part-rest-vals-end c = omega (arith, target-room (target-at (c .before .before .before .before .before .before .before .before .before .before .before .before .before .before .before)))
-
-sub-rest-vals-2 : tie.Need-sub-rest-vals-2 Inv-loop μ-loop
-sub-rest-vals-2 c = vals-behind (target-at (c .before .before .before .before .before .before .before .before .before .before .before .before .before .before .before .before)) (c .before .before .before .before .before .before .before .before .before .before .before .before .before .before .number-of .ensures) (c .before .before .before .before .before .before .before .before .before .before .before .before .before .id-width .ensures) (c .before .before .before .before .before .before .before .before .before .before .put-vals .ensures) (c .before .before .before .before .put-head .ensures)
-
-part-rest-vals-start-2 : tie.Need-part-rest-vals-start-2 Inv-loop μ-loop
-part-rest-vals-start-2 c = vals-behind (target-at (c .before .before .before .before .before .before .before .before .before .before .before .before .before .before .before .before)) (c .before .before .before .before .before .before .before .before .before .before .before .before .before .before .number-of .ensures) (c .before .before .before .before .before .before .before .before .before .before .before .before .before .id-width .ensures) (c .before .before .before .before .before .before .before .before .before .before .put-vals .ensures) (c .before .before .before .before .put-head .ensures)
-
-part-rest-vals-end-2 : tie.Need-part-rest-vals-end-2 Inv-loop μ-loop
-part-rest-vals-end-2 c = search needs
-
-rest-vals-requires : tie.Need-rest-vals-requires Inv-loop μ-loop
-rest-vals-requires c κs = again-asked (target-at (c .before .before .before .before .before .before .before .before .before .before .before .before .before .before .before .before .before)) (c .before .before .before .before .before .before .before .before .before .before .before .before .before .before .before .number-of .ensures) (c .before .before .before .before .before .before .before .before .before .before .before .before .before .before .id-width .ensures) (c .before .before .before .before .before .before .before .before .before .before .before .put-vals .ensures) (c .before .before .before .before .before .put-head .ensures)
+put-head-requires c κs = pack-asked (target-at (c .before .before .before .before .before .before .before .before .before .before .before .before)) (c .before .before .before .before .before .before .before .before .before .before .number-of .ensures) (c .before .before .before .before .before .before .before .before .before .id-width .ensures) (c .before .before .before .before .before .before .put-vals .ensures) (placed (c .before))
 
 add-k : tie.Need-add-k Inv-loop μ-loop
-add-k c = omega (arith, ends-few (target-at (c .before .before .before .before .before .before .before .before .before .before .before .before .before .before .before .before)) (c .before .before .before .before .before .before .before .before .before .before .before .before .before .before .number-of .ensures) (c .before .before .before .before .before .before .before .before .before .before .before .before .before .id-width .ensures) (c .before .before .before .before .before .before .before .before .before .before .put-vals .ensures) (c .before .before .before .before .put-head .ensures))
+add-k c = omega (arith, ends-few (target-at (c .before .before .before .before .before .before .before .before .before .before .before .before .before .before .before .before)) (c .before .before .before .before .before .before .before .before .before .before .before .before .before .before .number-of .ensures) (c .before .before .before .before .before .before .before .before .before .before .before .before .before .id-width .ensures) (c .before .before .before .before .before .before .before .before .before .before .put-vals .ensures) (placed (c .before .before .before .before .before)) (c .before .before .before .put-head .ensures))
 
 loop-less : tie.Need-loop-less Inv-loop μ-loop
 loop-less c = omega (arith, target-next (target-at (c .before .before .before .before .before .before .before .before .before .before .before .before .before .before .before .before)) (c .before .before .before .before .before .before .before .before .before .before .before .before .before .before .number-of .ensures) (c .before .before .before .before .before .before .before .before .before .before .before .before .before .id-width .ensures) (c .before .before .before .before .before .before .before .before .before .before .put-vals .ensures))
 
 loop-again : tie.Need-loop-again Inv-loop μ-loop
-loop-again c = ⊎-elim
-    (λ w. rw (w .6) (again-more (target-at (c .before .before .before .before .before .before .before .before .before .before .before .before .before .before .before .before)) (c .before .before .before .before .before .before .before .before .before .before .before .before .before .before .number-of .ensures) (c .before .before .before .before .before .before .before .before .before .before .before .before .before .id-width .ensures) (c .before .before .before .before .before .before .before .before .before .before .put-vals .ensures) (c .before .before .before .before .put-head .ensures) (w .3 .ensures)))
-    (λ w. rw (w .1) (short-more (target-at (c .before .before .before .before .before .before .before .before .before .before .before .before .before .before .before .before)) (c .before .before .before .before .before .before .before .before .before .before .before .before .before .before .number-of .ensures) (c .before .before .before .before .before .before .before .before .before .before .before .before .before .id-width .ensures) (c .before .before .before .before .before .before .before .before .before .before .put-vals .ensures) (c .before .before .before .before .put-head .ensures) (omega (arith, w .0 .left))))
-    (c .before .if2 .came)
+loop-again c = target-more (target-at (c .before .before .before .before .before .before .before .before .before .before .before .before .before .before .before .before)) (c .before .before .before .before .before .before .before .before .before .before .before .before .before .before .number-of .ensures) (c .before .before .before .before .before .before .before .before .before .before .before .before .before .id-width .ensures) (c .before .before .before .before .before .before .before .before .before .before .put-vals .ensures) (placed (c .before .before .before .before .before)) (c .before .before .before .put-head .ensures)
 
 pub target-packet-spec : {M : Type 1} → statement M
 target-packet-spec =
@@ -165,14 +159,10 @@ target-packet-spec =
     put-vals-requires
     add-next
     add-body
+    len-width-requires
+    sub-by
+    shift-requires
     put-head-requires
-    sub-rest-vals
-    part-rest-vals-start
-    part-rest-vals-end
-    sub-rest-vals-2
-    part-rest-vals-start-2
-    part-rest-vals-end-2
-    rest-vals-requires
     add-k
     loop-less
     loop-again)

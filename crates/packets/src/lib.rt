@@ -115,20 +115,6 @@ pub fn item_packet(s: &[u8], set: bool, alone: bool, inner: usize, out: &mut [u8
     k
 }
 
-// The bytes of an id. Most have one or two, and make no turn.
-fn id_width(id: u64) -> usize
-    requires { ⌜ id < 2 ^ 63 ⌝ }
-    ensures { λ r. ⌜ (r ≡ length (oidBytes id)) × (r ≤ 9) ⌝ }
-{
-    if id < 128 {
-        return 1;
-    }
-    if id < 16384 {
-        return 2;
-    }
-    coding::widths::oid_width(id)
-}
-
 // What stands in front of a pack's items, where its id and its items are n bytes; where it ends. Most packs have one byte for n, and one or two for
 // the id.
 fn put_head(out: &mut [u8], at: usize, n: usize, id: u64) -> usize
@@ -165,7 +151,7 @@ fn target_packet(s: &[u8], alone: bool, out: &mut [u8]) -> Passed
         }
         let id = coding::number_of(&s[p + 2..], 8);
         let from = p + 10;
-        let w = id_width(id);
+        let w = coding::widths::oid_width(id);
         // The items go behind the head that most packs have, a length of one byte and the id; for a longer length they are moved on.
         let at = k + 1 + w;
         let d = put_vals(&s[from..], alone, &mut out[at..]);

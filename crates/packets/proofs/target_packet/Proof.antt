@@ -15,7 +15,7 @@ use Rattle.packets.proofs.target_packet.Lts as lts
 use Rattle.coding.proofs.number_of.Reads as number-of-reads
 use Rattle.coding.proofs.widths.len_width.Reads as len-width-reads
 use Rattle.heads.proofs.records.is_mark.Reads as is-mark-reads
-use Rattle.packets.proofs.id_width.Reads as id-width-reads
+use Rattle.coding.proofs.widths.oid_width.Reads as oid-width-reads
 use Rattle.packets.proofs.put_head.Reads as put-head-reads
 use Rattle.packets.proofs.put_vals.Reads as put-vals-reads
 use Rattle.stores.proofs.shift.Reads as shift-reads
@@ -27,7 +27,7 @@ abbrev μ-loop : tie.MeasureT-loop
 μ-loop s alone out₀ p₀ k₀ out p k = length s - p
 
 -- the target whose mark was seen
-target-at : (a : lts.Else1 (is-mark-reads.Asked, is-mark-reads.Learnt, number-of-reads.Asked, number-of-reads.Learnt, id-width-reads.Asked, id-width-reads.Learnt, put-vals-reads.Asked, put-vals-reads.Learnt, len-width-reads.Asked, len-width-reads.Learnt, shift-reads.Asked, shift-reads.Learnt, put-head-reads.Asked, put-head-reads.Learnt) reads.Pre reads.Post Inv-loop μ-loop)
+target-at : (a : lts.Else1 (is-mark-reads.Asked, is-mark-reads.Learnt, number-of-reads.Asked, number-of-reads.Learnt, oid-width-reads.Asked, oid-width-reads.Learnt, put-vals-reads.Asked, put-vals-reads.Learnt, len-width-reads.Asked, len-width-reads.Learnt, shift-reads.Asked, shift-reads.Learnt, put-head-reads.Asked, put-head-reads.Learnt) reads.Pre reads.Post Inv-loop μ-loop)
     → TargetAt (formOf (a .before .before .before .before .before .args .alone)) (a .before .before .before .before .before .args .s .now) (a .before .before .before .before .before .args .out .now) (a .before .before .loop .out) (a .before .before .loop .p) (a .before .before .loop .k)
 target-at a = record {
   going = a .before .before .loop .inv;
@@ -37,11 +37,11 @@ target-at a = record {
 }
 
 -- its items, behind where its head goes
-placed : (a : lts.Joined2 (is-mark-reads.Asked, is-mark-reads.Learnt, number-of-reads.Asked, number-of-reads.Learnt, id-width-reads.Asked, id-width-reads.Learnt, put-vals-reads.Asked, put-vals-reads.Learnt, len-width-reads.Asked, len-width-reads.Learnt, shift-reads.Asked, shift-reads.Learnt, put-head-reads.Asked, put-head-reads.Learnt) reads.Pre reads.Post Inv-loop μ-loop)
-    → Placed (target-at (a .before .before .before .before .before .before .before .before .before .before .before)) (a .before .before .before .before .before .before .before .before .before .number-of .ensures) (a .before .before .before .before .before .before .before .before .id-width .ensures) (a .before .before .before .before .before .put-vals .ensures) (a .if2 .out)
+placed : (a : lts.Joined2 (is-mark-reads.Asked, is-mark-reads.Learnt, number-of-reads.Asked, number-of-reads.Learnt, oid-width-reads.Asked, oid-width-reads.Learnt, put-vals-reads.Asked, put-vals-reads.Learnt, len-width-reads.Asked, len-width-reads.Learnt, shift-reads.Asked, shift-reads.Learnt, put-head-reads.Asked, put-head-reads.Learnt) reads.Pre reads.Post Inv-loop μ-loop)
+    → Placed (target-at (a .before .before .before .before .before .before .before .before .before .before .before)) (a .before .before .before .before .before .before .before .before .before .number-of .ensures) (a .before .before .before .before .before .before .before .before .oid-width .ensures) (a .before .before .before .before .before .put-vals .ensures) (a .if2 .out)
 placed a = ⊎-elim
-    (λ m. rw (m .6) (vals-move (target-at (a .before .before .before .before .before .before .before .before .before .before .before)) (a .before .before .before .before .before .before .before .before .before .number-of .ensures) (a .before .before .before .before .before .before .before .before .id-width .ensures) (a .before .before .before .before .before .put-vals .ensures) (m .1 .ensures) (m .3 .ensures)))
-    (λ h. rw (h .1) (vals-stay (target-at (a .before .before .before .before .before .before .before .before .before .before .before)) (a .before .before .before .before .before .before .before .before .before .number-of .ensures) (a .before .before .before .before .before .before .before .before .id-width .ensures) (a .before .before .before .before .before .put-vals .ensures) (omega (arith, h .0 .left))))
+    (λ m. rw (m .6) (vals-move (target-at (a .before .before .before .before .before .before .before .before .before .before .before)) (a .before .before .before .before .before .before .before .before .before .number-of .ensures) (a .before .before .before .before .before .before .before .before .oid-width .ensures) (a .before .before .before .before .before .put-vals .ensures) (m .1 .ensures) (m .3 .ensures)))
+    (λ h. rw (h .1) (vals-stay (target-at (a .before .before .before .before .before .before .before .before .before .before .before)) (a .before .before .before .before .before .before .before .before .before .number-of .ensures) (a .before .before .before .before .before .before .before .before .oid-width .ensures) (a .before .before .before .before .before .put-vals .ensures) (omega (arith, h .0 .left))))
     (a .if2 .came)
 
 loop-holds : tie.Need-loop-holds Inv-loop μ-loop
@@ -74,14 +74,14 @@ number-of-requires c κs = id-asked (target-at (c .before))
 add-from : tie.Need-add-from Inv-loop μ-loop
 add-from c = omega (arith, target-room (target-at (c .before .before)))
 
-id-width-requires : tie.Need-id-width-requires Inv-loop μ-loop
-id-width-requires c κs = id-low (target-at (c .before .before)) (c .number-of .ensures)
+oid-width-requires : tie.Need-oid-width-requires Inv-loop μ-loop
+oid-width-requires c κs = id-low (target-at (c .before .before)) (c .number-of .ensures)
 
 add-at : tie.Need-add-at Inv-loop μ-loop
-add-at c = omega (arith, behind (target-at (c .before .before .before)) (c .before .number-of .ensures) (c .id-width .ensures))
+add-at c = omega (arith, behind (target-at (c .before .before .before)) (c .before .number-of .ensures) (c .oid-width .ensures))
 
 add-at-2 : tie.Need-add-at-2 Inv-loop μ-loop
-add-at-2 c = omega (arith, behind (target-at (c .before .before .before)) (c .before .number-of .ensures) (c .id-width .ensures))
+add-at-2 c = omega (arith, behind (target-at (c .before .before .before)) (c .before .number-of .ensures) (c .oid-width .ensures))
 
 sub-put-vals : tie.Need-sub-put-vals Inv-loop μ-loop
 sub-put-vals c = omega (arith, target-room (target-at (c .before .before .before)))
@@ -93,43 +93,43 @@ part-put-vals-end : tie.Need-part-put-vals-end Inv-loop μ-loop
 part-put-vals-end c = omega (arith, target-room (target-at (c .before .before .before)))
 
 sub-put-vals-2 : tie.Need-sub-put-vals-2 Inv-loop μ-loop
-sub-put-vals-2 c = behind (target-at (c .before .before .before .before)) (c .before .before .number-of .ensures) (c .before .id-width .ensures) .0
+sub-put-vals-2 c = behind (target-at (c .before .before .before .before)) (c .before .before .number-of .ensures) (c .before .oid-width .ensures) .0
 
 part-put-vals-start-2 : tie.Need-part-put-vals-start-2 Inv-loop μ-loop
-part-put-vals-start-2 c = behind (target-at (c .before .before .before .before)) (c .before .before .number-of .ensures) (c .before .id-width .ensures) .0
+part-put-vals-start-2 c = behind (target-at (c .before .before .before .before)) (c .before .before .number-of .ensures) (c .before .oid-width .ensures) .0
 
 part-put-vals-end-2 : tie.Need-part-put-vals-end-2 Inv-loop μ-loop
 part-put-vals-end-2 c = search needs
 
 put-vals-requires : tie.Need-put-vals-requires Inv-loop μ-loop
-put-vals-requires c κs = vals-asked (target-at (c .before .before .before .before .before)) (c .before .before .before .number-of .ensures) (c .before .before .id-width .ensures)
+put-vals-requires c κs = vals-asked (target-at (c .before .before .before .before .before)) (c .before .before .before .number-of .ensures) (c .before .before .oid-width .ensures)
 
 add-next : tie.Need-add-next Inv-loop μ-loop
-add-next c = omega (arith, target-next (target-at (c .before .before .before .before .before .before .before .before .before)) (c .before .before .before .before .before .before .before .number-of .ensures) (c .before .before .before .before .before .before .id-width .ensures) (c .before .before .before .put-vals .ensures))
+add-next c = omega (arith, target-next (target-at (c .before .before .before .before .before .before .before .before .before)) (c .before .before .before .before .before .before .before .number-of .ensures) (c .before .before .before .before .before .before .oid-width .ensures) (c .before .before .before .put-vals .ensures))
 
 add-body : tie.Need-add-body Inv-loop μ-loop
-add-body c = omega (arith, body-few (target-at (c .before .before .before .before .before .before .before .before .before .before)) (c .before .before .before .before .before .before .before .before .number-of .ensures) (c .before .before .before .before .before .before .before .id-width .ensures) (c .before .before .before .before .put-vals .ensures))
+add-body c = omega (arith, body-few (target-at (c .before .before .before .before .before .before .before .before .before .before)) (c .before .before .before .before .before .before .before .before .number-of .ensures) (c .before .before .before .before .before .before .before .oid-width .ensures) (c .before .before .before .before .put-vals .ensures))
 
 len-width-requires : tie.Need-len-width-requires Inv-loop μ-loop
 len-width-requires c κs = search needs
 
 sub-by : tie.Need-sub-by Inv-loop μ-loop
-sub-by c = wide-some (target-at (c .before .before .before .before .before .before .before .before .before .before .before .before)) (c .before .before .before .before .before .before .before .before .before .before .number-of .ensures) (c .before .before .before .before .before .before .before .before .before .id-width .ensures) (c .before .before .before .before .before .before .put-vals .ensures) (c .len-width .ensures)
+sub-by c = wide-some (target-at (c .before .before .before .before .before .before .before .before .before .before .before .before)) (c .before .before .before .before .before .before .before .before .before .before .number-of .ensures) (c .before .before .before .before .before .before .before .before .before .oid-width .ensures) (c .before .before .before .before .before .before .put-vals .ensures) (c .len-width .ensures)
 
 shift-requires : tie.Need-shift-requires Inv-loop μ-loop
-shift-requires c κs = move-asked (target-at (c .before .before .before .before .before .before .before .before .before .before .before .before .before)) (c .before .before .before .before .before .before .before .before .before .before .before .number-of .ensures) (c .before .before .before .before .before .before .before .before .before .before .id-width .ensures) (c .before .before .before .before .before .before .before .put-vals .ensures) (c .before .len-width .ensures)
+shift-requires c κs = move-asked (target-at (c .before .before .before .before .before .before .before .before .before .before .before .before .before)) (c .before .before .before .before .before .before .before .before .before .before .before .number-of .ensures) (c .before .before .before .before .before .before .before .before .before .before .oid-width .ensures) (c .before .before .before .before .before .before .before .put-vals .ensures) (c .before .len-width .ensures)
 
 put-head-requires : tie.Need-put-head-requires Inv-loop μ-loop
-put-head-requires c κs = pack-asked (target-at (c .before .before .before .before .before .before .before .before .before .before .before .before)) (c .before .before .before .before .before .before .before .before .before .before .number-of .ensures) (c .before .before .before .before .before .before .before .before .before .id-width .ensures) (c .before .before .before .before .before .before .put-vals .ensures) (placed (c .before))
+put-head-requires c κs = pack-asked (target-at (c .before .before .before .before .before .before .before .before .before .before .before .before)) (c .before .before .before .before .before .before .before .before .before .before .number-of .ensures) (c .before .before .before .before .before .before .before .before .before .oid-width .ensures) (c .before .before .before .before .before .before .put-vals .ensures) (placed (c .before))
 
 add-k : tie.Need-add-k Inv-loop μ-loop
-add-k c = omega (arith, ends-few (target-at (c .before .before .before .before .before .before .before .before .before .before .before .before .before .before .before .before)) (c .before .before .before .before .before .before .before .before .before .before .before .before .before .before .number-of .ensures) (c .before .before .before .before .before .before .before .before .before .before .before .before .before .id-width .ensures) (c .before .before .before .before .before .before .before .before .before .before .put-vals .ensures) (placed (c .before .before .before .before .before)) (c .before .before .before .put-head .ensures))
+add-k c = omega (arith, ends-few (target-at (c .before .before .before .before .before .before .before .before .before .before .before .before .before .before .before .before)) (c .before .before .before .before .before .before .before .before .before .before .before .before .before .before .number-of .ensures) (c .before .before .before .before .before .before .before .before .before .before .before .before .before .oid-width .ensures) (c .before .before .before .before .before .before .before .before .before .before .put-vals .ensures) (placed (c .before .before .before .before .before)) (c .before .before .before .put-head .ensures))
 
 loop-less : tie.Need-loop-less Inv-loop μ-loop
-loop-less c = omega (arith, target-next (target-at (c .before .before .before .before .before .before .before .before .before .before .before .before .before .before .before .before)) (c .before .before .before .before .before .before .before .before .before .before .before .before .before .before .number-of .ensures) (c .before .before .before .before .before .before .before .before .before .before .before .before .before .id-width .ensures) (c .before .before .before .before .before .before .before .before .before .before .put-vals .ensures))
+loop-less c = omega (arith, target-next (target-at (c .before .before .before .before .before .before .before .before .before .before .before .before .before .before .before .before)) (c .before .before .before .before .before .before .before .before .before .before .before .before .before .before .number-of .ensures) (c .before .before .before .before .before .before .before .before .before .before .before .before .before .oid-width .ensures) (c .before .before .before .before .before .before .before .before .before .before .put-vals .ensures))
 
 loop-again : tie.Need-loop-again Inv-loop μ-loop
-loop-again c = target-more (target-at (c .before .before .before .before .before .before .before .before .before .before .before .before .before .before .before .before)) (c .before .before .before .before .before .before .before .before .before .before .before .before .before .before .number-of .ensures) (c .before .before .before .before .before .before .before .before .before .before .before .before .before .id-width .ensures) (c .before .before .before .before .before .before .before .before .before .before .put-vals .ensures) (placed (c .before .before .before .before .before)) (c .before .before .before .put-head .ensures)
+loop-again c = target-more (target-at (c .before .before .before .before .before .before .before .before .before .before .before .before .before .before .before .before)) (c .before .before .before .before .before .before .before .before .before .before .before .before .before .before .number-of .ensures) (c .before .before .before .before .before .before .before .before .before .before .before .before .before .oid-width .ensures) (c .before .before .before .before .before .before .before .before .before .before .put-vals .ensures) (placed (c .before .before .before .before .before)) (c .before .before .before .put-head .ensures)
 
 pub target-packet-spec : {M : Type 1} → statement M
 target-packet-spec =
@@ -147,7 +147,7 @@ target-packet-spec =
     part-number-of-end
     number-of-requires
     add-from
-    id-width-requires
+    oid-width-requires
     add-at
     add-at-2
     sub-put-vals

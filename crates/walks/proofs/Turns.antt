@@ -15,7 +15,7 @@ use Rattle.walks.specs.declared.Sizes.{Sizes}
 use Rattle.walks.specs.declared.Walked.{Walked}
 use Rattle.walks.specs.declared.Walked.the-variants.{Good, Bad}
 use Rattle.walks.specs.Meet.{plusSizes, Few, Within}
-use Rattle.walks.specs.Going.{Going, New}
+use Rattle.walks.specs.Going.{Going, New, Reached}
 use Rattle.walks.proofs.Walks.{few-more, going-bad, going-done, going-over, going-more}
 
 -- what was read in n bytes, and what it adds
@@ -82,3 +82,14 @@ unfolding has
 new-key {look = look} {s = s} {p = p} {k = k} (inl e) seen q = sym (q .same k ∙ ap (has k) (heads-none look s p e (q .keys) (q .heads)))
 new-key {k = k} (inr (inl h)) seen q = sym (q .under k h)
 new-key {k = k} (inr (inr h)) seen q = sym (q .over k h)
+
+-- how the code moves the bounds: by a key above all before, the first and any other, and by one below
+module _ (p top low key : ℕ) {top′ low′ : ℕ} where
+  pub reach-first : top < key → key ≤ low → top′ ≡ key → low′ ≡ key → Reached p top low key top′ low′
+  reach-first h l et el = record { new = inr (inl h); over = (omega arith, omega arith); under = (omega arith, omega arith); between = omega arith }
+
+  pub reach-over : top < key → low ≤ top → top′ ≡ key → low′ ≡ low → Reached p top low key top′ low′
+  reach-over h l et el = record { new = inr (inl h); over = (omega arith, omega arith); under = (omega arith, omega arith); between = omega arith }
+
+  pub reach-under : key ≤ top → key < low → top′ ≡ top → low′ ≡ key → Reached p top low key top′ low′
+  reach-under h l et el = record { new = inr (inr l); over = (omega arith, omega arith); under = (omega arith, omega arith); between = omega arith }

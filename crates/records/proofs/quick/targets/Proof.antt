@@ -1,7 +1,7 @@
 -- `records::quick::targets` meets its contract: each turn is a turn of the target walk. `j` is where a target's id was found to be new, and `v`
 -- where its records were found to be over.
 use mathlib.Core.Path.{_≡_, refl, sym, _∙_}
-use mathlib.Core.Logic.{inl, inr, ⊎-elim}
+use mathlib.Core.Logic.{⊎-elim}
 use mathlib.Core.Bool.{true, false}
 use Prim.Native.Nat.{_+_, _-_, _^_, _≤_, _<_}
 use native.Mathlib.Omega.{arith}
@@ -15,7 +15,7 @@ use Rattle.walks.specs.declared.Piece.the-variants as piece
 use Rattle.walks.specs.declared.Walked.the-variants.{Good}
 use Rattle.walks.specs.Meet.{sizes, Within}
 use Rattle.walks.specs.Going.{Reached}
-use Rattle.walks.proofs.Turns.{going-wide, turn-done, new-key}
+use Rattle.walks.proofs.Turns.{going-wide, turn-done, new-key, reach-first, reach-over, reach-under}
 use Rattle.walks.proofs.PackTurns.{either-is}
 use Rattle.records.specs.Meet.{recordsWalk}
 use Rattle.records.specs.Going.{TargetsGoing}
@@ -61,10 +61,10 @@ reached j =
     let i = j .before .before .before .before .before .loop .inv in
     let most = j .before .if3 .left in
     ⊎-elim
-    (λ x. (record { new = inr (inl (x .0 .taken)); over = (omega (arith, x .2, x .0 .taken), omega (arith, x .2)); under = (omega (arith, x .3, i .2 (x .1 .taken), most), omega (arith, x .3)); between = omega (arith, x .2, x .3) }, omega (arith, x .2, most)))
+    (λ x. (reach-first _ _ _ _ (x .0 .taken) (omega (arith, i .2 (x .1 .taken), most)) (x .2) (x .3), omega (arith, x .2, most)))
     (λ y. ⊎-elim
-    (λ x. let l = i .3 (omega (arith, x .1 .left)) in (record { new = inr (inl (x .0 .taken)); over = (omega (arith, x .2, x .0 .taken), omega (arith, x .2)); under = (omega (arith, x .3), omega (arith, x .3, l, x .0 .taken)); between = omega (arith, x .2, x .3, l, x .0 .taken) }, omega (arith, x .2, most)))
-    (λ x. (record { new = inr (inr (omega (arith, x .1 .left))); over = (omega (arith, x .2), omega (arith, x .2, x .0 .left)); under = (omega (arith, x .3, x .1 .left), omega (arith, x .3)); between = omega (arith, x .2, x .3, x .0 .left) }, omega (arith, x .2, i .4)))
+    (λ x. (reach-over _ _ _ _ (x .0 .taken) (i .3 (omega (arith, x .1 .left))) (x .2) (x .3), omega (arith, x .2, most)))
+    (λ x. (reach-under _ _ _ _ (omega (arith, x .0 .left)) (omega (arith, x .1 .left)) (x .2) (x .3), omega (arith, x .2, i .4)))
     y)
     (j .if4 .came)
 

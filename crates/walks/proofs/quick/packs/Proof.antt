@@ -1,6 +1,6 @@
 -- `walks::quick::packs` meets its contract: each turn is a turn of the pack walk. `a` is where a pack's head was read.
 use mathlib.Core.Path.{_≡_, refl}
-use mathlib.Core.Logic.{inl, inr, ⊎-elim}
+use mathlib.Core.Logic.{⊎-elim}
 use Prim.Native.Nat.{_+_, _-_, _≤_, _<_}
 use native.Mathlib.Omega.{arith}
 use lib.ListN.{length}
@@ -11,7 +11,7 @@ use Rattle.heads.specs.declared.Head.the-variants as heads
 use Rattle.heads.proofs.Heads.{pack-head-if}
 use Rattle.walks.specs.Going.{SeriesGoing, Reached}
 use Rattle.walks.proofs.Glances.{packedSizes, packed-plus}
-use Rattle.walks.proofs.Turns.{going-wide, turn-done, new-key}
+use Rattle.walks.proofs.Turns.{going-wide, turn-done, new-key, reach-first, reach-over, reach-under}
 use Rattle.walks.proofs.PackTurns.{PackAt, series-start, either-is, head-stood, head-room, lent-long, pack-more}
 use Rattle.walks.proofs.quick.packs.Statement.{statement}
 use Rattle.walks.proofs.quick.packs.Tie as tie
@@ -56,10 +56,10 @@ reached j =
     let i = j .before .before .before .before .before .before .before .loop .inv in
     let most = head-stood (here (j .before .before)) .id-range in
     ⊎-elim
-    (λ x. record { new = inr (inl (x .0 .taken)); over = (omega (arith, x .2, x .0 .taken), omega (arith, x .2)); under = (omega (arith, x .3, i .1 (x .1 .taken), most), omega (arith, x .3)); between = omega (arith, x .2, x .3) })
+    (λ x. reach-first _ _ _ _ (x .0 .taken) (omega (arith, i .1 (x .1 .taken), most)) (x .2) (x .3))
     (λ y. ⊎-elim
-    (λ x. let l = i .2 (omega (arith, x .1 .left)) in record { new = inr (inl (x .0 .taken)); over = (omega (arith, x .2, x .0 .taken), omega (arith, x .2)); under = (omega (arith, x .3), omega (arith, x .3, l, x .0 .taken)); between = omega (arith, x .2, x .3, l, x .0 .taken) })
-    (λ x. record { new = inr (inr (omega (arith, x .1 .left))); over = (omega (arith, x .2), omega (arith, x .2, x .0 .left)); under = (omega (arith, x .3, x .1 .left), omega (arith, x .3)); between = omega (arith, x .2, x .3, x .0 .left) })
+    (λ x. reach-over _ _ _ _ (x .0 .taken) (i .2 (omega (arith, x .1 .left))) (x .2) (x .3))
+    (λ x. reach-under _ _ _ _ (omega (arith, x .0 .left)) (omega (arith, x .1 .left)) (x .2) (x .3))
     y)
     (j .if1 .came)
 

@@ -7,12 +7,12 @@ ghost use lib.ListN.{length, take, drop};
 ghost use lib.Seq.{sets};
 ghost use Rattle.items.specs.Meet.{formOf, levelOf};
 ghost use Rattle.walks.specs.Runs.{Ran};
-ghost use Rattle.format.specs.Coding.{bytesNumber, oidBytes};
+ghost use Rattle.format.specs.Coding.{bytesNumber};
 ghost use Rattle.format.specs.Table.{pack};
 ghost use Rattle.format.specs.Packet.{flatItem};
 ghost use Rattle.format.specs.Calls.{itemOf};
 ghost use Rattle.normals.specs.Meet.{packFront};
-ghost use Rattle.packets.specs.Meet.{usedOf, recordsRun, targetsRun, recordsNormal, targetsNormal, InnerParts};
+ghost use Rattle.packets.specs.Meet.{usedOf, recordsRun, targetsRun, recordsNormal, targetsNormal};
 ghost use Rattle.packets.specs.Writing.{RecordsAsked, RecordsWriting, Small};
 use stores::Passed;
 
@@ -69,7 +69,7 @@ fn rest_vals(s: &[u8], from: usize, at: usize, alone: bool, out: &mut [u8]) -> P
 
 // The records of a target, the small ones one after another: what stops them is left to the rest, which is kept out of the loop over the targets.
 fn put_vals(s: &[u8], alone: bool, out: &mut [u8]) -> Passed
-    requires { ⌜ (length (now s) ≤ 65536) × Ran (recordsRun pack (formOf alone) (now s)) × (0 ≤ 65536) × InnerParts 0 (recordsRun pack (formOf alone) (now s)) × (length (recordsNormal pack (formOf alone) (now s)) ≤ length (now out)) × (length (recordsNormal pack (formOf alone) (now s)) ≤ 8192) ⌝ }
+    requires { ⌜ RecordsAsked 0 false (formOf alone) (now s) (length (now out)) ⌝ }
     ensures { λ r. ⌜ (r .used ≡ usedOf (recordsRun pack (formOf alone) (now (s .entry)))) × (r .wrote ≡ length (recordsNormal pack (formOf alone) (now (s .entry)))) × (now (out .exit) ≡ sets (now (out .entry)) 0 (recordsNormal pack (formOf alone) (now (s .entry)))) ⌝ }
 {
     let mut p: usize = 0;
@@ -90,7 +90,7 @@ fn put_vals(s: &[u8], alone: bool, out: &mut [u8]) -> Passed
 
 // The records of a level: the set, whose series has `inner` bytes of packs, or a target; how many bytes they write.
 pub fn item_packet(s: &[u8], set: bool, alone: bool, inner: usize, out: &mut [u8]) -> usize
-    requires { ⌜ (length (now s) ≤ 65536) × Ran (recordsRun (levelOf set) (formOf alone) (now s)) × (inner ≤ 65536) × InnerParts inner (recordsRun (levelOf set) (formOf alone) (now s)) × (length (recordsNormal (levelOf set) (formOf alone) (now s)) ≤ length (now out)) × (length (recordsNormal (levelOf set) (formOf alone) (now s)) ≤ 8192) ⌝ }
+    requires { ⌜ RecordsAsked inner set (formOf alone) (now s) (length (now out)) ⌝ }
     ensures { λ r. ⌜ (r ≡ length (recordsNormal (levelOf set) (formOf alone) (now (s .entry)))) × (now (out .exit) ≡ sets (now (out .entry)) 0 (recordsNormal (levelOf set) (formOf alone) (now (s .entry)))) ⌝ }
 {
     let mut p: usize = 0;

@@ -207,7 +207,7 @@ fn passed(p: usize, rows: usize, more: usize, top: u64, low: u64) -> Quick
 }
 
 // The packs whose length has one byte and whose id has one or two, ids rising or falling, and whose items are all told at a glance, one after
-// another, from a series' start. Of a pack and its items a sheet has four bytes more for each row, and five, but for the id's.
+// another, from a series' start. Beside as many bytes as such a pack has, its sheet has four for each row, and five less those of its id.
 pub fn packs(table: &[u64], s: &[u8], alone: bool) -> Quick
     requires { ⌜ (now table ≡ itemTable) × (length (now s) ≤ 8192) ⌝ }
     ensures { λ r. ⌜ SeriesGoing (formOf alone) (now (s .entry)) (r .at) (r .sizes) (r .top) (r .low) ⌝ }

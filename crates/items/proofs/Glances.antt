@@ -75,7 +75,7 @@ module _ (r : Rule) (v : List ℕ) (long : 0 < length v) (fits : sized r (length
   unfolding valued need
   passes e = need-so _ _ _ fits ∙ rw e
 
-  plainly : isNumber (r .kind) ≡ false → (valued r v ≡ ok tt) × (short r v ≡ v)
+  pub plainly : isNumber (r .kind) ≡ false → (valued r v ≡ ok tt) × (short r v ≡ v)
   unfolding short
   plainly e = (passes (rw (no-pixel (r .kind) e)), rw (e, short))
 
@@ -211,9 +211,13 @@ module _ (row n first : ℕ) where
 offset-beyond : (f : Form) (tag : ℕ) → 16 < tag → (not (isAlone f) || not (has tag offsets)) ≡ true
 offset-beyond f tag h = rw (sym (offset-over tag h)) (or-true (not (isAlone f)))
 
+-- one or more bytes will do
+pub any-size : (n : ℕ) → 0 < n → sized unlisted n ≡ true
+unfolding sized
+any-size n some = rw (le-leb 1 n some, eq-eqb ((n - 1) % 1) 0 (mod-one (n - 1)))
+
 beyond-quick : (l : Level) (f : Form) (tag n first : ℕ) → unlisted ≡ ruleOf l tag → 0 < n → isSet l && eqb tag 101 ≡ false → isSet l && eqb tag 1 ≡ false → ((last : Bool) → mayStand l f tag last ≡ true)
     → Quick l f tag n first
-unfolding sized
 beyond-quick l f tag n first er some no-series no-seal stands = record {
   some = some;
   no-series = no-series;
@@ -225,8 +229,8 @@ beyond-quick l f tag n first er some no-series no-seal stands = record {
   where
     value : (v : List ℕ) → length v ≡ n → (valued (ruleOf l tag) v ≡ ok tt) × (short (ruleOf l tag) v ≡ v)
     value v e =
-        let fits : sized unlisted (length v) ≡ true = rw (e, le-leb 1 n some, eq-eqb ((n - 1) % 1) 0 (mod-one (n - 1))) in
-        rw (← er) (plainly unlisted v (omega (arith, e, some)) fits refl)
+        let long : 0 < length v = omega (arith, e, some) in
+        rw (← er) (plainly unlisted v long (any-size (length v) long) refl)
 
 pub quick-beyond : (b : Bool) (f : Form) (tag n first : ℕ) → beyond b tag ≡ true → 0 < n → Quick (levelOf b) f tag n first
 unfolding mayStand

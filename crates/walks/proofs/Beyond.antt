@@ -4,7 +4,7 @@ use Prim.Native.Nat.{ℕ, _+_, _-_, _≤_, _<_}
 use native.Mathlib.Omega.{arith}
 use mathlib.Core.Bool.{Bool, true, false, not, _&&_, _||_}
 use mathlib.Core.List.{List}
-use lib.ListN.{length, drop, take}
+use lib.ListN.{length, drop, take, getD}
 use lib.Dec.{ltb, eqb}
 use borrow.Author.Tests.{ltb-true, ne-eqb}
 use Rattle.format.specs.Coding.{Bytes}
@@ -18,21 +18,19 @@ use Rattle.items.proofs.Glances.{quick-beyond}
 use Rattle.heads.specs.declared.Head.{Head}
 use Rattle.heads.specs.declared.Head.the-variants as heads
 use Rattle.heads.specs.Meet.{itemHeadOf}
-use Rattle.walks.specs.declared.Piece.the-variants as piece
 use Rattle.walks.specs.declared.Sizes.{Sizes}
 use Rattle.walks.specs.declared.Walked.the-variants.{Good}
 use Rattle.walks.specs.Meet.{itemSizes, plusSizes, markTag, Small}
 use Rattle.walks.specs.Going.{LevelGoing, Plain}
-use Rattle.walks.proofs.Turns.{new-key}
 use Rattle.walks.proofs.ItemTurns.{ItemAt, EntryTold, level-is, piece-stood, piece-room, item-told, good-small, entry-more}
-use Rattle.walks.proofs.Glances.{Meets, quick-piece}
+use Rattle.walks.proofs.Glances.{quick-meets, met-item}
 
 -- no such tag marks a level
 pub no-mark : (b : Bool) (tag : ℕ) → items.beyond b tag ≡ true → eqb tag (markTag (levelOf b)) ≡ false
 no-mark true tag h = let l = ltb-true 12 tag (and-both (ltb 12 tag) (not (eqb tag 101)) h .0) in ne-eqb tag 1 λ e. omega (arith, l, e)
 no-mark false tag h = let l = ltb-true 23 tag h in ne-eqb tag 17 λ e. omega (arith, l, e)
 
-or-false : (m : Bool) {c : Bool} → c ≡ false → m ≡ (m || c)
+pub or-false : (m : Bool) {c : Bool} → c ≡ false → m ≡ (m || c)
 or-false true e = refl
 or-false false e = sym e
 
@@ -48,28 +46,21 @@ pub record PlainAt (b : Bool) (f : Form) (s : List ℕ) (p : ℕ) (sum : Sizes) 
   pub most : length s ≤ 8192
 
 module _ {b : Bool} {f : Form} {s : List ℕ} {p : ℕ} {sum : Sizes} {mark : Bool} {top low tag u w n : ℕ} (i : PlainAt b f s p sum mark top low tag u w n) where
-  meets : Meets b f s p tag u w n
-  meets = record {
-    it = i .it;
-    told = rw tail-part at (i .told);
-    is = i .is;
-    quick = quick-beyond b f tag n _ (i .plain .beyond) (i .plain .some);
-    begins = i .plain .begins;
-  }
+  quick : items.Quick (levelOf b) f tag n (getD s (p + (u + w)) 0)
+  quick = quick-beyond b f tag n _ (i .plain .beyond) (i .plain .some)
 
   pub plain-item : ItemAt b f s p sum mark top low tag (u + w) n n
-  plain-item = record {
+  plain-item = met-item (record {
     going = i .going;
     here = i .here;
-    it = piece.Whole tag (u + w) n n;
-    told = quick-piece meets (new-key (i .plain .new));
-    whole = refl;
+    meets = quick-meets (rw tail-part at (i .told)) (i .is) quick (i .plain .begins);
+    new = i .plain .new;
     bytes = i .bytes;
     most = i .most;
-  }
+  })
 
   told-so : EntryTold plain-item (Good (itemSizes (levelOf b) tag n) (eqb tag (markTag (levelOf b))))
-  told-so = item-told plain-item {x = b && eqb tag 101} refl (rw level-is at (meets .quick .no-series)) refl
+  told-so = item-told plain-item {x = b && eqb tag 101} refl (rw level-is at (quick .no-series)) refl
 
   pub plain-small : (tag ≤ 16383) × (n ≤ 65536)
   plain-small = (piece-stood plain-item .tag-small, omega (arith, piece-room plain-item, i .most))

@@ -9,7 +9,8 @@ use lib.Seq.{getD-drop, getD-take, length-take-le}
 use lib.Dec.{eqb}
 use borrow.Author.Tests.{ne-eqb}
 use Rattle.format.specs.Coding.{Bytes, oidBytes, lenWidth}
-use Rattle.format.specs.Table.{Form, Level, isSet, isAlone}
+use Rattle.format.specs.Answer.{ok}
+use Rattle.format.specs.Table.{Form, Level, isSet, isAlone, ruleOf, mayStand, valued, short}
 use Rattle.coding.proofs.Counts.{len-one, count-start, count-done}
 use Rattle.items.specs.Meet.{levelOf}
 use Rattle.items.specs.Quick as items
@@ -22,9 +23,10 @@ use Rattle.heads.proofs.Heads.{mid-part, item-head-short}
 use Rattle.walks.specs.declared.Piece.the-variants as piece
 use Rattle.walks.specs.declared.Sizes.{Sizes}
 use Rattle.walks.specs.Meet.{pieceOf, sizes, itemSizes, packSizes, plusSizes, markTag}
-use Rattle.walks.specs.Going.{LevelGoing, Begun, Glance, Glanced}
+use Rattle.walks.specs.Going.{LevelGoing, Begun, Glance, Glanced, New}
 use Rattle.format.specs.Read.{headOf, item}
 use Rattle.walks.proofs.Walks.{same-sizes}
+use Rattle.walks.proofs.Turns.{new-key}
 use Rattle.walks.proofs.Pieces.{piece-within, piece-whole}
 use Rattle.walks.proofs.ItemTurns.{ItemAt, level-is, item-told, entry-more}
 
@@ -54,14 +56,17 @@ packed-plus p rows more w n {u = u} {z = z} (ew, few, id) l e ez =
     same-sizes (omega arith) (omega arith) (omega arith) refl
 
 -- what may begin a level, and whatever comes later
-begun-at : (b : Bool) (f : Form) (s : List ℕ) → Begun b f 0 (getD s 0 0) → (p : ℕ) → Begun b f p (getD s p 0)
-begun-at b f s h zero = h
-begun-at b f s h (suc p) = rw (ne-eqb (suc p) 0 (λ e. omega arith)) (any-of (not (isSet (levelOf b))) (not (isAlone f)) (eqb (getD s (suc p) 0) 2))
+pub begun-later : (b : Bool) (f : Form) (p tag : ℕ) → 0 < p → Begun b f p tag
+begun-later b f p tag h = rw (ne-eqb p 0 (λ e. omega arith)) (any-of (not (isSet (levelOf b))) (not (isAlone f)) (eqb tag 2))
   where
     any-of : (x y z : Bool) → x || y || true || z ≡ true
     any-of true y z = refl
     any-of false true z = refl
     any-of false false z = refl
+
+begun-at : (b : Bool) (f : Form) (s : List ℕ) → Begun b f 0 (getD s 0 0) → (p : ℕ) → Begun b f p (getD s p 0)
+begun-at b f s h zero = h
+begun-at b f s h (suc p) = begun-later b f (suc p) (getD s (suc p) 0) (omega arith)
 
 -- x is what the code says of what begins the level
 pub begun-start : (b : Bool) (f : Form) (s : List ℕ) {tag : ℕ} → tag ≡ getD s 0 0 → {x : Bool} → x ≡ (not (isSet (levelOf b)) || not (isAlone f) || not true || eqb tag 2) → x ≡ true → Begun b f 0 (getD s 0 0)
@@ -91,8 +96,16 @@ pub record Meets (b : Bool) (f : Form) (s : List ℕ) (p tag u w n : ℕ) : Type
   pub it : Head
   pub told : itemHeadOf it ≡ headOf (levelOf b) (drop p s)
   pub is : it ≡ heads.Whole tag u w n
-  pub quick : items.Quick (levelOf b) f tag n (getD s (p + (u + w)) 0)
+  pub some : 0 < n
+  pub stands : mayStand (levelOf b) f tag (eqb (u + w + n) (length (drop p s))) ≡ true
+  pub allowed : (v : List ℕ) → length v ≡ n → getD v 0 0 ≡ getD s (p + (u + w)) 0 → valued (ruleOf (levelOf b) tag) v ≡ ok tt
+  pub shortest : (v : List ℕ) → length v ≡ n → getD v 0 0 ≡ getD s (p + (u + w)) 0 → short (ruleOf (levelOf b) tag) v ≡ v
   pub begins : Begun b f p tag
+
+-- one that is told at a glance
+pub quick-meets : {b : Bool} {f : Form} {s : List ℕ} {p tag u w n : ℕ} {h : Head} → itemHeadOf h ≡ headOf (levelOf b) (drop p s) → h ≡ heads.Whole tag u w n
+    → items.Quick (levelOf b) f tag n (getD s (p + (u + w)) 0) → Begun b f p tag → Meets b f s p tag u w n
+quick-meets {h = h} told is q begins = record { it = h; told = told; is = is; some = q .some; stands = q .stands _; allowed = q .allowed; shortest = q .shortest; begins = begins }
 
 module _ {b : Bool} {f : Form} {s : List ℕ} {p tag u w n : ℕ} (i : Meets b f s p tag u w n) where
   abbrev value : List ℕ
@@ -107,7 +120,7 @@ module _ {b : Bool} {f : Form} {s : List ℕ} {p tag u w n : ℕ} (i : Meets b f
   value-head : getD value 0 0 ≡ getD s (p + (u + w)) 0
   value-head =
       ap (λ v. getD v 0 0) value-is
-      ∙ getD-take n _ 0 0 (i .quick .some)
+      ∙ getD-take n _ 0 0 (i .some)
       ∙ getD-drop (u + w) (drop p s) 0 0
       ∙ getD-drop p s (u + w + 0) 0
       ∙ ap (λ i. getD s i 0) (omega arith)
@@ -115,13 +128,32 @@ module _ {b : Bool} {f : Form} {s : List ℕ} {p tag u w n : ℕ} (i : Meets b f
   pub quick-piece : {top low : ℕ} → ((seen : List ℕ) → Past (peek false false b) s p top low seen → false ≡ has tag seen)
       → (seen : List ℕ) → Past (peek false false b) s p top low seen → piece.Whole tag (u + w) n n ≡ pieceOf (levelOf b) (item (levelOf b) f seen (drop p s))
   quick-piece new seen past =
-      let q = i .quick in
       piece-whole (drop p s) (levelOf b) (i .told) (i .is) f seen
-      (λ e. omega (arith, q .some))
-      {j = 0} (standing-0 (levelOf b) f seen tag _ (new seen past) (sym (q .stands _)) (eqb p 0) (sym (past .first)) (sym (i .begins)))
+      (λ e. omega (arith, i .some))
+      {j = 0} (standing-0 (levelOf b) f seen tag _ (new seen past) (sym (i .stands)) (eqb p 0) (sym (past .first)) (sym (i .begins)))
       refl refl
-      {m = 0} (sym (q .allowed value value-size value-head)) refl
-      (sym (ap length (q .shortest value value-size value-head) ∙ value-size))
+      {m = 0} (sym (i .allowed value value-size value-head)) refl
+      (sym (ap length (i .shortest value value-size value-head) ∙ value-size))
+
+-- such an item, where the walk goes on, if its tag is told to be new
+pub record MetAt (b : Bool) (f : Form) (s : List ℕ) (p : ℕ) (sum : Sizes) (mark : Bool) (top low tag u w n : ℕ) : Type 0 where
+  pub going : LevelGoing b f s p sum mark top low
+  pub here : p < length s
+  pub meets : Meets b f s p tag u w n
+  pub new : New p top low tag
+  pub bytes : Bytes s
+  pub most : length s ≤ 8192
+
+pub met-item : {b : Bool} {f : Form} {s : List ℕ} {p : ℕ} {sum : Sizes} {mark : Bool} {top low tag u w n : ℕ} → MetAt b f s p sum mark top low tag u w n → ItemAt b f s p sum mark top low tag (u + w) n n
+met-item {tag = tag} {u = u} {w = w} {n = n} i = record {
+  going = i .going;
+  here = i .here;
+  it = piece.Whole tag (u + w) n n;
+  told = quick-piece (i .meets) (new-key (i .new));
+  whole = refl;
+  bytes = i .bytes;
+  most = i .most;
+}
 
 module _ {b : Bool} {f : Form} {s : List ℕ} {p top n : ℕ} (g : Glance b f s p top n) where
   abbrev tag : ℕ
@@ -136,7 +168,7 @@ module _ {b : Bool} {f : Form} {s : List ℕ} {p top n : ℕ} (g : Glance b f s 
       let et : tag ≡ getD (drop p s) 0 0 = sym (getD-drop p s 0 0 ∙ ap (λ i. getD s i 0) (omega arith)) in
       let en : n ≡ getD (drop 1 (drop p s)) 0 0 = g .size-is ∙ sym (getD-drop 1 (drop p s) 0 0 ∙ getD-drop p s 1 0) in
       let room : 1 + 1 + n ≤ length (drop p s) = rw length-drop (omega (arith, g .room)) in
-      let i : Meets b f s p tag 1 1 n = record { it = heads.Whole tag 1 1 n; told = item-head-short (levelOf b) (drop p s) tag n et en z th nh room (g .quick .no-seal); is = refl; quick = g .quick; begins = g .begins } in
+      let i : Meets b f s p tag 1 1 n = quick-meets (item-head-short (levelOf b) (drop p s) tag n et en z th nh room (g .quick .no-seal)) refl (g .quick) (g .begins) in
       quick-piece i λ seen q. sym (q .under tag (g .above))
 
   -- x is the tag as the code read it

@@ -9,8 +9,10 @@ ghost use Rattle.format.specs.Table.{isSet, isAlone};
 ghost use Rattle.format.specs.Read.{item, parse};
 ghost use Rattle.items.specs.Meet.{formOf, levelOf, itemTable};
 ghost use Rattle.heads.specs.Meet.{peek, Past, Clear};
+ghost use Rattle.walks.specs.Going.{LevelGoing};
 ghost use Rattle.walks.specs.Meet.{pieceOf, pieceFault, itemSizes, stopAt, laterBy, seriesFrom, markTag, levelWalk, seriesWalk, Within};
 use heads::Head;
+use quick::Quick;
 
 // An item that may stand where it does: its tag, where its value begins, its length, and its shortest length; or the refusal's number.
 pub enum Piece {
@@ -201,12 +203,20 @@ pub fn series_of(w: Walked, k: usize) -> Walked
     }
 }
 
-// The items of a level: the set, or a pack.
+// The items of a level, the set or a pack.
 pub fn item_walk(table: &[u64], s: &[u8], set: bool, alone: bool) -> Walked
     requires { ⌜ (now table ≡ itemTable) × (length (now s) ≤ 8192) ⌝ }
     ensures { λ r. ⌜ (r ≡ levelWalk (levelOf set) (formOf alone) (now (s .entry))) × Within r (length (now (s .entry))) ⌝ }
 {
-    let q = quick::onward(s, set, alone, quick::run(table, s, set, alone));
+    item_rest(table, s, set, alone, quick::run(table, s, set, alone))
+}
+
+// The same, from where a quick way over them ended.
+pub fn item_rest(table: &[u64], s: &[u8], set: bool, alone: bool, from: Quick) -> Walked
+    requires { ⌜ (now table ≡ itemTable) × (length (now s) ≤ 8192) × LevelGoing set (formOf alone) (now s) (from .at) (from .sizes) (from .mark) (from .top) (from .low) ⌝ }
+    ensures { λ r. ⌜ (r ≡ levelWalk (levelOf set) (formOf alone) (now (s .entry))) × Within r (length (now (s .entry))) ⌝ }
+{
+    let q = quick::onward(s, set, alone, from);
     let mut p = q.at;
     let mut sum = q.sizes;
     let mut mark = q.mark;
@@ -274,7 +284,14 @@ pub fn pack_walk(table: &[u64], s: &[u8], alone: bool) -> Walked
         }
         let from = p + width + used;
         let next = p + width + size;
-        let w = item_walk(table, &s[from..next], false, alone);
+        let items = &s[from..next];
+        let w = item_rest(
+            table,
+            items,
+            false,
+            alone,
+            quick::run(table, items, false, alone),
+        );
         let Walked::Good { sizes, mark } = w else {
             return later(w, from);
         };

@@ -114,7 +114,7 @@ pub fn run(table: &[u64], s: &[u8], set: bool, alone: bool) -> Quick
 // ---- on from there
 
 // Where a walk goes on.
-fn stands(at: usize, sizes: Sizes, mark: bool, top: u64, low: u64) -> Quick
+pub fn stands(at: usize, sizes: Sizes, mark: bool, top: u64, low: u64) -> Quick
     ensures { λ r. ⌜ r ≡ quickAt at sizes mark top low ⌝ }
 {
     Quick {

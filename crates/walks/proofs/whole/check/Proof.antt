@@ -29,19 +29,19 @@ start-of-requires c κs =
     let a = c .before in
     omega (arith, a .before .before .before .if1 .left, check-room _ _ (a .before .before .before .if1 .left) (a .before .before .opening-of .ensures) (a .a .given .1) .0)
 
-sub-item-walk : tie.Need-sub-item-walk
-sub-item-walk c =
+sub-set-walk : tie.Need-sub-set-walk
+sub-set-walk c =
     let a = c .before .before in
     omega (arith, c .start-of .ensures, check-room _ _ (a .before .before .before .if1 .left) (a .before .before .opening-of .ensures) (a .a .given .1) .1)
 
-part-item-walk-start : tie.Need-part-item-walk-start
-part-item-walk-start c = sub-item-walk c
+part-set-walk-start : tie.Need-part-set-walk-start
+part-set-walk-start c = sub-set-walk c
 
-part-item-walk-end : tie.Need-part-item-walk-end
-part-item-walk-end c = search needs
+part-set-walk-end : tie.Need-part-set-walk-end
+part-set-walk-end c = search needs
 
-item-walk-requires : tie.Need-item-walk-requires
-item-walk-requires c κs = (c .before .before .before .before .before .before .before .before .before .pre, omega arith)
+set-walk-requires : tie.Need-set-walk-requires
+set-walk-requires c κs = (c .before .before .before .before .before .before .before .before .before .pre, omega arith)
 
 enum-known-w : tie.Need-enum-known-w
 enum-known-w c = search needs
@@ -53,13 +53,13 @@ wrong-set-requires : tie.Need-wrong-set-requires
 wrong-set-requires c κs =
     let k = c .before .before .before .before in
     let l = k .before .before .before .before .before .if1 .left in
-    (set-within (k .before .before .before .before .before .before .before .before .args .s .now) (k .start-of .result) l (c .before .before .item-walk .result) (c .before .before .item-walk .ensures .1), omega (arith, l, sub-item-walk k))
+    (set-within (k .before .before .before .before .before .before .before .before .args .s .now) (k .start-of .result) l (c .before .before .set-walk .result) (c .before .before .set-walk .ensures .1), omega (arith, l, sub-set-walk k))
 
 returns-3 : tie.Need-returns-3
 returns-3 c =
     let k = c .before .before .before .before .before in
     let a = k .before .before in
-    check-bad _ _ (a .before .before .before .if1 .left) (a .before .before .opening-of .ensures) (a .a .given .1) (k .start-of .ensures) (c .before .before .before .item-walk .ensures .0) (c .before .enum-told2 .given .1) (c .wrong-set .ensures)
+    check-bad _ _ (a .before .before .before .if1 .left) (a .before .before .opening-of .ensures) (a .a .given .1) (k .start-of .ensures) (c .before .before .before .set-walk .ensures .0) (c .before .enum-told2 .given .1) (c .wrong-set .ensures)
 
 closing-of-requires : tie.Need-closing-of-requires
 closing-of-requires c κs =
@@ -68,14 +68,14 @@ closing-of-requires c κs =
     let l = a .before .before .before .if1 .left in (
       check-room _ _ l (a .before .before .opening-of .ensures) (a .a .given .1) .2,
       l,
-      good-within (k .before .before .before .before .before .before .before .before .args .s .now) (k .start-of .result) l (c .before .before .before .item-walk .result) (c .before .before .before .item-walk .ensures .1) (c .before .w .given .1),
+      good-within (k .before .before .before .before .before .before .before .before .args .s .now) (k .start-of .result) l (c .before .before .before .set-walk .result) (c .before .before .before .set-walk .ensures .1) (c .before .w .given .1),
     )
 
 returns-4 : tie.Need-returns-4
 returns-4 c =
     let k = c .before .before .before .before .before .before in
     let a = k .before .before in
-    check-good _ _ (a .before .before .before .if1 .left) (a .before .before .opening-of .ensures) (a .a .given .1) (k .start-of .ensures) (c .before .before .before .before .item-walk .ensures .0) (λ i. a .before .before .before .before .shared-slice-known2 .given i .fits) (c .before .before .w .given .1) (c .closing-of .ensures)
+    check-good _ _ (a .before .before .before .if1 .left) (a .before .before .opening-of .ensures) (a .a .given .1) (k .start-of .ensures) (c .before .before .before .before .set-walk .ensures .0) (λ i. a .before .before .before .before .shared-slice-known2 .given i .fits) (c .before .before .w .given .1) (c .closing-of .ensures)
 
 pub check-spec : {M : Type 1} → statement M
 check-spec =
@@ -88,10 +88,10 @@ check-spec =
     wrong-num-requires
     returns-2
     start-of-requires
-    sub-item-walk
-    part-item-walk-start
-    part-item-walk-end
-    item-walk-requires
+    sub-set-walk
+    part-set-walk-start
+    part-set-walk-end
+    set-walk-requires
     enum-known-w
     enum-told-2
     wrong-set-requires

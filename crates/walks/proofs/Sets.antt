@@ -1,0 +1,149 @@
+-- The quick way's turns over the series and the checksum of the set: each is read as the item walk reads it.
+use mathlib.Core.Path.{_≡_, refl, ap, _∙_}
+use Prim.Native.Nat.{ℕ, _+_, _-_, _≤_, _<_}
+use native.Mathlib.Omega.{arith}
+use mathlib.Core.Bool.{Bool, true, false, _&&_, _||_}
+use mathlib.Core.List.{List}
+use mathlib.Core.Logic.{inl, inr}
+use lib.ListN.{length, drop, take, getD, length-drop}
+use lib.Seq.{length-take-le}
+use lib.Dec.{eqb}
+use borrow.Author.Tests.{eq-eqb}
+use Rattle.format.specs.Answer.{ok}
+use Rattle.format.specs.Coding.{Bytes}
+use Rattle.format.specs.Table.{Form, set, isAlone, B, unlisted, rules, find, ruleOf, mayStand, sized, valued, short}
+use Rattle.format.specs.Read.{headOf}
+use Rattle.coding.proofs.Rooms.{tail-part}
+use Rattle.items.proofs.Glances.{plainly, any-size}
+use Rattle.heads.specs.declared.Head.{Head}
+use Rattle.heads.specs.declared.Head.the-variants as heads
+use Rattle.heads.specs.Meet.{itemHeadOf}
+use Rattle.walks.specs.declared.Sizes.{Sizes}
+use Rattle.walks.specs.declared.Walked.the-variants.{Good}
+use Rattle.walks.specs.Meet.{itemSizes, seriesSizes, plusSizes, seriesWalk, Small, Within}
+use Rattle.walks.specs.Going.{LevelGoing, SeriesGoing}
+use Rattle.walks.proofs.Walks.{few-more}
+use Rattle.walks.proofs.Turns.{turn-done}
+use Rattle.walks.proofs.Pieces.{piece-within}
+use Rattle.walks.proofs.ItemTurns.{ItemAt, EntryTold, item-told, series-told, good-small, entry-more}
+use Rattle.walks.proofs.Glances.{MetAt, met-item, begun-later}
+use Rattle.walks.proofs.Beyond.{or-false}
+
+-- ---- their values
+
+series-value : (v : List ℕ) → 0 < length v → (valued (ruleOf set 101) v ≡ ok tt) × (short (ruleOf set 101) v ≡ v)
+unfolding ruleOf rules find
+series-value v h = plainly unlisted v h (any-size (length v) h) refl
+
+seal-value : (v : List ℕ) → length v ≡ 2 → (valued (ruleOf set 1) v ≡ ok tt) × (short (ruleOf set 1) v ≡ v)
+unfolding ruleOf rules find sized
+seal-value v e = plainly (B 2) v (omega (arith, e)) (rw e) refl
+
+or-true : (m : Bool) → true ≡ (m || true)
+or-true true = refl
+or-true false = refl
+
+-- ---- an item of the set whose head the code has read at p
+
+pub record HeadAt (f : Form) (s : List ℕ) (p : ℕ) (sum : Sizes) (mark : Bool) (top low tag u w n : ℕ) : Type 0 where
+  pub going : LevelGoing true f s p sum mark top low
+  pub here : p < length s
+  pub it : Head
+  pub told : itemHeadOf it ≡ headOf set (take (length s - p) (drop p s))
+  pub is : it ≡ heads.Whole tag u w n
+  pub bytes : Bytes s
+  pub most : length s ≤ 8192
+
+module _ {f : Form} {s : List ℕ} {p : ℕ} {sum : Sizes} {mark : Bool} {top low tag u w n : ℕ} (i : HeadAt f s p sum mark top low tag u w n) where
+  head-told : itemHeadOf (i .it) ≡ headOf set (drop p s)
+  head-told = rw tail-part at (i .told)
+
+  pub head-room : p + u + w + n ≤ length s
+  head-room = omega (arith, i .here, length-drop p s, piece-within (drop p s) set head-told (i .is))
+
+  -- ---- it is the series, and all its packs were walked
+
+  module _ (next : (0 < p) × (top < 101) × (tag ≡ 101)) where
+    series-met : 0 < n → MetAt true f s p sum mark top low 101 u w n
+    unfolding mayStand
+    series-met some = record {
+      going = i .going;
+      here = i .here;
+      meets = record {
+        it = i .it;
+        told = head-told;
+        is = i .is ∙ ap (λ t. heads.Whole t u w n) (next .2);
+        some = some;
+        stands = refl;
+        allowed = λ v e _. series-value v (omega (arith, e, some)) .0;
+        shortest = λ v e _. series-value v (omega (arith, e, some)) .1;
+        begins = begun-later true f p 101 (next .0);
+      };
+      new = inr (inl (next .1));
+      bytes = i .bytes;
+      most = i .most;
+    }
+
+    abbrev packs : List ℕ
+    packs = take (p + u + w + n - (p + u + w)) (drop (p + u + w) s)
+
+    pub packs-long : length packs ≡ n
+    packs-long = length-take-le (p + u + w + n - (p + u + w)) (drop (p + u + w) s) (rw length-drop (omega (arith, head-room))) ∙ omega arith
+
+    module _ {at : ℕ} {a : Sizes} {top′ low′ : ℕ} (g : SeriesGoing f packs at a top′ low′) (full : at ≡ length packs) (some : at ≡ 0 → ⊥) where
+      item : ItemAt true f s p sum mark top low 101 (u + w) n n
+      item = met-item (series-met (omega (arith, full, some, packs-long)))
+
+      walked : (Good a false ≡ seriesWalk f (take (p + (u + w) + n - (p + (u + w))) (drop (p + (u + w)) s))) × Within (Good a false) (length (take (p + (u + w) + n - (p + (u + w))) (drop (p + (u + w)) s)))
+      walked = let e : p + u + w ≡ p + (u + w) = omega arith in rw e at (turn-done g (omega (arith, full)))
+
+      told-so : EntryTold item (Good (seriesSizes a) false)
+      told-so = series-told item {x = true} refl refl walked refl
+
+      pub series-small : Small a
+      series-small = few-more a at 65536 (omega (arith, full, packs-long, head-room, i .most)) (g .few)
+
+      -- z is what the code says of its sizes
+      module _ {z : Sizes} (ez : z ≡ seriesSizes a) where
+        pub series-sums : Small sum × Small z
+        series-sums = rw ez (good-small item told-so refl)
+
+        pub series-more : {sum′ : Sizes} → sum′ ≡ plusSizes sum z → {low″ : ℕ} → (low″ ≤ low) × (low″ ≤ 101) → LevelGoing true f s (p + u + w + n) sum′ mark 101 low″
+        series-more es el =
+            let e : p + u + w + n ≡ p + (u + w) + n = omega arith in
+            rw e (entry-more item told-so refl (es ∙ ap (plusSizes sum) ez) (or-false mark refl) (omega (arith, next .1), omega arith) el)
+
+  -- ---- it is the checksum, and ends the set
+
+  module _ (alone : isAlone f ≡ true) (next : (0 < p) × (1 < low) × (tag ≡ 1) × (n ≡ 2)) (end : p + u + w + n ≡ length s) where
+    seal-item : ItemAt true f s p sum mark top low 1 (u + w) 2 2
+    unfolding mayStand
+    seal-item = met-item (record {
+      going = i .going;
+      here = i .here;
+      meets = record {
+        it = i .it;
+        told = head-told;
+        is = i .is ∙ ap (λ t. heads.Whole t u w n) (next .2) ∙ ap (heads.Whole 1 u w) (next .3);
+        some = omega arith;
+        stands = rw (alone, eq-eqb (u + w + 2) (length (drop p s)) (omega (arith, length-drop p s, end, next .3)));
+        allowed = λ v e _. seal-value v e .0;
+        shortest = λ v e _. seal-value v e .1;
+        begins = begun-later true f p 1 (next .0);
+      };
+      new = inr (inr (next .1));
+      bytes = i .bytes;
+      most = i .most;
+    })
+
+    seal-told : EntryTold seal-item (Good (itemSizes set 1 2) true)
+    seal-told = item-told seal-item {x = true && eqb 1 101} refl refl refl
+
+    module _ {z : Sizes} (ez : z ≡ itemSizes set 1 2) where
+      pub seal-sums : Small sum × Small z
+      seal-sums = rw ez (good-small seal-item seal-told refl)
+
+      pub seal-more : {sum′ : Sizes} → sum′ ≡ plusSizes sum z → {top′ : ℕ} → (top ≤ top′) × (1 ≤ top′) → LevelGoing true f s (p + u + w + n) sum′ true top′ 1
+      seal-more es et =
+          let e : p + u + w + n ≡ p + (u + w) + 2 = omega (arith, next .3) in
+          rw e (entry-more seal-item seal-told refl (es ∙ ap (plusSizes sum) ez) (or-true mark) et (omega (arith, next .1), omega arith))

@@ -1,0 +1,15 @@
+-- `walks::item_walk` meets its contract.
+use Rattle.walks.proofs.item_walk.Statement.{statement}
+use Rattle.walks.proofs.item_walk.Tie as tie
+
+run-requires : tie.Need-run-requires
+run-requires c κs = c .before .before .pre
+
+item-rest-requires : tie.Need-item-rest-requires
+item-rest-requires c κs = (c .before .before .before .pre .0, c .before .before .before .pre .1, c .run .ensures .0)
+
+returns : tie.Need-returns
+returns c = c .item-rest .ensures
+
+pub item-walk-spec : {M : Type 1} → statement M
+item-walk-spec = tie.close (tie.spec run-requires item-rest-requires returns)

@@ -1,0 +1,143 @@
+-- `whole::series` meets its contract: the turn over the series is a turn of the item walk. `a` is where its head was read.
+use Prim.Native.Nat.{_+_, _≤_}
+use native.Mathlib.Omega.{arith}
+use lib.ListN.{length}
+use borrow.Author.Tests.{not-false}
+use Rattle.items.specs.Meet.{formOf}
+use Rattle.walks.proofs.Sets.{HeadAt, head-room, packs-long, series-small, series-sums, series-more}
+use Rattle.walks.proofs.whole.series.Reads as reads
+use Rattle.walks.proofs.whole.series.Lts as lts
+use Rattle.heads.proofs.item_head.Reads as item-head-reads
+use Rattle.walks.proofs.quick.packs.Reads as packs-reads
+use Rattle.walks.proofs.quick.stands.Reads as stands-reads
+use Rattle.walks.proofs.smaller.Reads as smaller-reads
+use Rattle.walks.proofs.weights.plus.Reads as plus-reads
+use Rattle.walks.proofs.weights.series_sizes.Reads as series-sizes-reads
+use Rattle.walks.proofs.whole.is_at.Reads as is-at-reads
+use Rattle.walks.proofs.whole.is_series_next.Reads as is-series-next-reads
+use borrow.Author.Needs.{needs}
+use Rattle.walks.proofs.whole.series.Statement.{statement}
+use Rattle.walks.proofs.whole.series.Tie as tie
+
+abbrev Head-read : Type 0
+Head-read = lts.After-h (is-at-reads.Asked, is-at-reads.Learnt, item-head-reads.Asked, item-head-reads.Learnt, is-series-next-reads.Asked, is-series-next-reads.Learnt, packs-reads.Asked, packs-reads.Learnt, series-sizes-reads.Asked, series-sizes-reads.Learnt, plus-reads.Asked, plus-reads.Learnt, smaller-reads.Asked, smaller-reads.Learnt, stands-reads.Asked, stands-reads.Learnt) reads.Pre reads.Post
+
+here : (a : Head-read) → HeadAt (formOf (a .before .before .before .before .before .before .before .before .args .alone)) (a .before .before .before .before .before .before .before .before .args .s .now) (a .before .before .before .before .before .before .before .before .args .q .at) (a .before .before .before .before .before .before .before .before .args .q .sizes) (a .before .before .before .before .before .before .before .before .args .q .mark) (a .before .before .before .before .before .before .before .before .args .q .top) (a .before .before .before .before .before .before .before .before .args .q .low) (a .h .given .0 .0) (a .h .given .0 .1 .0) (a .h .given .0 .1 .1 .0) (a .h .given .0 .1 .1 .1 .0)
+here a = record {
+  going = a .before .before .before .before .before .before .before .before .pre .2;
+  here = a .before .before .before .before .before .is-at .ensures (not-false _ (a .before .before .before .before .if1 .left));
+  it = a .before .before .item-head .result;
+  told = a .before .before .item-head .ensures;
+  is = a .h .given .1;
+  bytes = λ i. a .before .before .before .before .before .before .shared-slice-known2 .given i .fits;
+  most = a .before .before .before .before .before .before .before .before .pre .1;
+}
+
+-- it lies within the set
+room : (a : Head-read) → (a .before .before .before .before .before .before .before .before .args .q .at + a .h .given .0 .1 .0 + a .h .given .0 .1 .1 .0 + a .h .given .0 .1 .1 .1 .0 ≤ length (a .before .before .before .before .before .before .before .before .args .s .now)) × (length (a .before .before .before .before .before .before .before .before .args .s .now) ≤ 8192)
+room a = (head-room (here a), a .before .before .before .before .before .before .before .before .pre .1)
+
+is-at-requires : tie.Need-is-at-requires
+is-at-requires c κs = search needs
+
+returns : tie.Need-returns
+returns c = c .before .before .before .before .pre .2
+
+sub-item-head : tie.Need-sub-item-head
+sub-item-head c = search needs
+
+part-item-head-start : tie.Need-part-item-head-start
+part-item-head-start c = search needs
+
+part-item-head-end : tie.Need-part-item-head-end
+part-item-head-end c = search needs
+
+item-head-requires : tie.Need-item-head-requires
+item-head-requires c κs = search needs
+
+enum-known-h : tie.Need-enum-known-h
+enum-known-h c = search needs
+
+enum-told : tie.Need-enum-told
+enum-told c = search needs
+
+returns-2 : tie.Need-returns-2
+returns-2 c = c .before .before .before .before .before .before .before .before .pre .2
+
+is-series-next-requires : tie.Need-is-series-next-requires
+is-series-next-requires c κs = search needs
+
+returns-3 : tie.Need-returns-3
+returns-3 c = c .before .before .before .before .before .before .before .before .before .before .before .pre .2
+
+add-from : tie.Need-add-from
+add-from c = omega (arith, room (c .before .before .before))
+
+add-from-2 : tie.Need-add-from-2
+add-from-2 c = omega (arith, room (c .before .before .before))
+
+add-next : tie.Need-add-next
+add-next c = omega (arith, room (c .before .before .before))
+
+sub-t : tie.Need-sub-t
+sub-t c = omega (arith, room (c .before .before .before))
+
+part-t-start : tie.Need-part-t-start
+part-t-start c = omega (arith, room (c .before .before .before))
+
+part-t-end : tie.Need-part-t-end
+part-t-end c = omega (arith, room (c .before .before .before))
+
+packs-requires : tie.Need-packs-requires
+packs-requires c κs = (c .before .before .before .before .before .before .before .before .before .before .before .before .pre .0, omega (arith, packs-long (here (c .before .before .before .before)) (c .before .before .is-series-next .ensures (not-false _ (c .before .if2 .left))), room (c .before .before .before .before)))
+
+returns-4 : tie.Need-returns-4
+returns-4 c = c .before .before .before .before .before .before .before .before .before .before .before .before .before .before .before .pre .2
+
+returns-5 : tie.Need-returns-5
+returns-5 c = c .before .before .before .before .before .before .before .before .before .before .before .before .before .before .before .before .before .pre .2
+
+series-sizes-requires : tie.Need-series-sizes-requires
+series-sizes-requires c κs = series-small (here (c .before .before .before .before .before .before .before .before .before)) (c .before .before .before .before .before .before .before .is-series-next .ensures (not-false _ (c .before .before .before .before .before .before .if2 .left))) (c .before .before .before .before .packs .ensures) (omega (arith, c .if4 .left)) (c .before .before .if3 .left)
+
+plus-requires : tie.Need-plus-requires
+plus-requires c κs = series-sums (here (c .before .before .before .before .before .before .before .before .before .before)) (c .before .before .before .before .before .before .before .before .is-series-next .ensures (not-false _ (c .before .before .before .before .before .before .before .if2 .left))) (c .before .before .before .before .before .packs .ensures) (omega (arith, c .before .if4 .left)) (c .before .before .before .if3 .left) (c .series-sizes .ensures)
+
+smaller-requires : tie.Need-smaller-requires
+smaller-requires c κs = search needs
+
+stands-requires : tie.Need-stands-requires
+stands-requires c κs = search needs
+
+returns-6 : tie.Need-returns-6
+returns-6 c = rw (c .stands .ensures) (series-more (here (c .before .before .before .before .before .before .before .before .before .before .before .before .before)) (c .before .before .before .before .before .before .before .before .before .before .before .is-series-next .ensures (not-false _ (c .before .before .before .before .before .before .before .before .before .before .if2 .left))) (c .before .before .before .before .before .before .before .before .packs .ensures) (omega (arith, c .before .before .before .before .if4 .left)) (c .before .before .before .before .before .before .if3 .left) (c .before .before .before .series-sizes .ensures) (c .before .before .plus .ensures) (c .before .smaller .ensures))
+
+pub series-spec : {M : Type 1} → statement M
+series-spec =
+    tie.close
+    (tie.spec
+    is-at-requires
+    returns
+    sub-item-head
+    part-item-head-start
+    part-item-head-end
+    item-head-requires
+    enum-known-h
+    enum-told
+    returns-2
+    is-series-next-requires
+    returns-3
+    add-from
+    add-from-2
+    add-next
+    sub-t
+    part-t-start
+    part-t-end
+    packs-requires
+    returns-4
+    returns-5
+    series-sizes-requires
+    plus-requires
+    smaller-requires
+    stands-requires
+    returns-6)

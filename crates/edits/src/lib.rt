@@ -184,7 +184,7 @@ fn must_stay(alone: bool, set: bool, tag: u64) -> bool
 
 // For a put 7, 13, 11 or 12, for a removal 18 or 14; or 0.
 fn change_fault(
-    table: &[u64],
+    table: &[u32],
     alone: bool,
     set: bool,
     tag: u64,
@@ -216,7 +216,7 @@ fn change_fault(
 
 // The place of the item to be put or removed; or 19, 18, then for a put 7, 13, 11, 12, for a removal 14.
 pub fn judge(
-    table: &[u64],
+    table: &[u32],
     s: &[u8],
     alone: bool,
     set: bool,

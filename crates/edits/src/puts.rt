@@ -14,7 +14,7 @@ use super::Place;
 // ---- the item
 
 // The bytes of the item that is put; none for a removal.
-fn item_size(table: &[u64], set: bool, tag: u64, removal: bool, v: &[u8]) -> usize
+fn item_size(table: &[u32], set: bool, tag: u64, removal: bool, v: &[u8]) -> usize
     requires { ⌜ (now table ≡ itemTable) × (tag ≤ 16383) × Puttable (changeOf removal (now v)) ⌝ }
     ensures { λ r. ⌜ r ≡ length (itemBytes (levelOf set) tag (changeOf removal (now (v .entry)))) ⌝ }
 {
@@ -28,7 +28,7 @@ fn item_size(table: &[u64], set: bool, tag: u64, removal: bool, v: &[u8]) -> usi
 
 // The item that is put; where it ends.
 fn put_item(
-    table: &[u64],
+    table: &[u32],
     out: &mut [u8],
     at: usize,
     set: bool,
@@ -79,7 +79,7 @@ fn runs_size(set: bool, p: Place, n: usize) -> usize
 
 // How many bytes the edited entries take.
 pub fn edited_size(
-    table: &[u64],
+    table: &[u32],
     s: &[u8],
     alone: bool,
     set: bool,
@@ -120,7 +120,7 @@ fn put_front(s: &[u8], set: bool, p: Place, n: usize, out: &mut [u8]) -> usize
 
 // The edited entries, at the start of out; how many bytes.
 pub fn put_edited(
-    table: &[u64],
+    table: &[u32],
     s: &[u8],
     alone: bool,
     set: bool,

@@ -44,9 +44,9 @@ rowAt b tag = getD itemTable (rowsFrom b + tag) 0
 abbrev right : Level → Form → ℕ → ℕ → ℕ → ℕ → Bool
 right l f least row tag n =
     not (bit row n && leb least row)
-    || (ltb 0 n && (sized (ruleOf l tag) n && ((ltb 0 (row / 2 ^ 63) || not (isNumber (ruleOf l tag .kind))) && (mayStand l f tag false && not (isSet l && eqb tag 1)))))
+    || (ltb 0 n && (sized (ruleOf l tag) n && ((ltb 0 (row / 2 ^ 31) || not (isNumber (ruleOf l tag .kind))) && (mayStand l f tag false && not (isSet l && eqb tag 1)))))
 
-bits-right : (b a : Bool) → below (suc (mostTag b)) (λ tag. below 32 λ n. right (levelOf b) (formOf a) (leastRow a) (rowAt b tag) tag n) ≡ true
+bits-right : (b a : Bool) → below (suc (mostTag b)) (λ tag. below 30 λ n. right (levelOf b) (formOf a) (leastRow a) (rowAt b tag) tag n) ≡ true
 unfolding itemTable ruleOf rules find sized mayStand has
 bits-right true true = refl
 bits-right true false = refl
@@ -121,23 +121,23 @@ module _ (b a : Bool) (tag n first : ℕ) (small : tag ≤ mostTag b) (high : le
   abbrev rule : Rule
   rule = ruleOf (levelOf b) tag
 
-  parts : (ltb n 32 ≡ true) × (bit row n ≡ true) × (leb (row / 2 ^ 63) first ≡ true)
+  parts : (ltb n 30 ≡ true) × (bit row n ≡ true) × (leb (row / 2 ^ 31) first ≡ true)
   unfolding glanced
   parts =
-      let (few, e) = and-both (ltb n 32) (bit row n && leb (row / 2 ^ 63) first) g in
-      let (have, top) = and-both (bit row n) (leb (row / 2 ^ 63) first) e in
+      let (few, e) = and-both (ltb n 30) (bit row n && leb (row / 2 ^ 31) first) g in
+      let (have, top) = and-both (bit row n) (leb (row / 2 ^ 31) first) e in
       (few, have, top)
 
-  few : n < 32
-  few = ltb-true n 32 (parts .0)
+  few : n < 30
+  few = ltb-true n 30 (parts .0)
 
-  holds : (ltb 0 n ≡ true) × (sized rule n ≡ true) × (ltb 0 (row / 2 ^ 63) || not (isNumber (rule .kind)) ≡ true) × (mayStand (levelOf b) (formOf a) tag false ≡ true) × (not (isSet (levelOf b) && eqb tag 1) ≡ true)
+  holds : (ltb 0 n ≡ true) × (sized rule n ≡ true) × (ltb 0 (row / 2 ^ 31) || not (isNumber (rule .kind)) ≡ true) × (mayStand (levelOf b) (formOf a) tag false ≡ true) × (not (isSet (levelOf b) && eqb tag 1) ≡ true)
   holds =
       let test : ℕ → ℕ → Bool = λ tag n. right (levelOf b) (formOf a) (leastRow a) (rowAt b tag) tag n in
-      let e = implied (bit row n && leb (leastRow a) row) _ (below-at 32 (test tag) (below-at (suc (mostTag b)) (λ tag. below 32 (test tag)) (bits-right b a) tag (omega (arith, small))) n few) (rw (parts .1, le-leb (leastRow a) row high)) in
+      let e = implied (bit row n && leb (leastRow a) row) _ (below-at 30 (test tag) (below-at (suc (mostTag b)) (λ tag. below 30 (test tag)) (bits-right b a) tag (omega (arith, small))) n few) (rw (parts .1, le-leb (leastRow a) row high)) in
       let (h₀, e₁) = and-both (ltb 0 n) _ e in
       let (h₁, e₂) = and-both (sized rule n) _ e₁ in
-      let (h₂, e₃) = and-both (ltb 0 (row / 2 ^ 63) || not (isNumber (rule .kind))) _ e₂ in
+      let (h₂, e₃) = and-both (ltb 0 (row / 2 ^ 31) || not (isNumber (rule .kind))) _ e₂ in
       let (h₃, h₄) = and-both (mayStand (levelOf b) (formOf a) tag false) _ e₃ in
       (h₀, h₁, h₂, h₃, h₄)
 
@@ -155,8 +155,8 @@ module _ (b a : Bool) (tag n first : ℕ) (small : tag ≤ mostTag b) (high : le
 
       go : (z : Bool) → eqb first 0 ≡ z → (valued rule v ≡ ok tt) × (short rule v ≡ v)
       go true z =
-          let low : row / 2 ^ 63 ≤ 0 = omega (arith, leb-true (row / 2 ^ 63) first (parts .2), eqb-true first 0 z) in
-          plainly rule v long fits (not-true _ (rw (le-ltb 0 (row / 2 ^ 63) low) at (holds .2)))
+          let low : row / 2 ^ 31 ≤ 0 = omega (arith, leb-true (row / 2 ^ 31) first (parts .2), eqb-true first 0 z) in
+          plainly rule v long fits (not-true _ (rw (le-ltb 0 (row / 2 ^ 31) low) at (holds .2)))
       go false z = briefly rule v long fits (λ y. eqb-false first 0 z (sym f ∙ y))
 
   pub glanced-quick : (tag < 128) × (n < 128) × Quick (levelOf b) (formOf a) tag n first
@@ -178,10 +178,10 @@ module _ (b : Bool) (tag : ℕ) {m : ℕ} (em : m ≡ mostTag b) (few : tag ≤ 
   small : tag ≤ mostTag b
   small = rw em at few
 
-  pub row-in : y + tag < 37
+  pub row-in : y + tag < 74
   row-in = rw ey (go b small)
     where
-      go : (b : Bool) → tag ≤ mostTag b → rowsFrom b + tag < 37
+      go : (b : Bool) → tag ≤ mostTag b → rowsFrom b + tag < 74
       go true h = omega arith
       go false h = omega arith
 
@@ -193,18 +193,18 @@ module _ (b : Bool) (tag : ℕ) {m : ℕ} (em : m ≡ mostTag b) (few : tag ≤ 
 -- ---- the code's tests, one after the other
 
 module _ (row n first : ℕ) where
-  pub fits-long : 31 < n → false ≡ glanced row n first
+  pub fits-long : 29 < n → false ≡ glanced row n first
   unfolding glanced
-  fits-long h = rw (le-ltb n 32 (omega arith))
+  fits-long h = rw (le-ltb n 30 (omega arith))
 
-  module _ (few : n < 32) where
+  module _ (few : n < 30) where
     pub fits-not : row / 2 ^ n % 2 ≡ 0 → false ≡ glanced row n first
     unfolding glanced
-    fits-not e = rw (lt-ltb n 32 few, e)
+    fits-not e = rw (lt-ltb n 30 few, e)
 
-    pub fits-so : (row / 2 ^ n % 2 ≡ 0 → ⊥) → leb (row / 2 ^ 63) first ≡ glanced row n first
+    pub fits-so : (row / 2 ^ n % 2 ≡ 0 → ⊥) → leb (row / 2 ^ 31) first ≡ glanced row n first
     unfolding glanced
-    fits-so have = rw (lt-ltb n 32 few, ne-eqb (row / 2 ^ n % 2) 0 have)
+    fits-so have = rw (lt-ltb n 30 few, ne-eqb (row / 2 ^ n % 2) 0 have)
 
 -- ---- a tag that is not listed
 

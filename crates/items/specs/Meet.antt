@@ -26,23 +26,30 @@ rowRule (suc (suc (suc (suc k)))) a b = record { kind = bytes; least = a; most =
 abbrev pub ruleFrom : declared.Rule → Rule
 ruleFrom r = rowRule (r .1) (r .2) (r .3)
 
--- a row as one number: its two bits, tag, kind, least and greatest length, and the lengths that are told at a glance; and the rule that it stands for
-abbrev pub row : ℕ → ℕ → ℕ → ℕ → ℕ → ℕ → ℕ
-row f t k a b m = f * 2 ^ 62 + t * 2 ^ 56 + k * 2 ^ 48 + a * 2 ^ 40 + b * 2 ^ 32 + m
+-- a row as one number: tag, kind, least and greatest length; and the rule that it stands for
+abbrev pub row : ℕ → ℕ → ℕ → ℕ → ℕ
+row t k a b = t * 2 ^ 24 + k * 2 ^ 16 + a * 2 ^ 8 + b
 
 abbrev pub rowFrom : ℕ → Rule
-rowFrom r = rowRule (r / 2 ^ 48 % 256) (r / 2 ^ 40 % 256) (r / 2 ^ 32 % 256)
+rowFrom r = rowRule (r / 2 ^ 16 % 256) (r / 2 ^ 8 % 256) (r % 256)
 
--- the code's table: the rows of the set, then those of a pack, each at its tag
+-- its second row: its two bits, and the lengths that are told at a glance
+abbrev pub glance : ℕ → ℕ → ℕ
+glance f m = f * 2 ^ 30 + m
+
+-- the code's table: the rows of the set, then those of a pack, each at its tag; then their second rows
 unfoldable pub itemTable : List ℕ
 itemTable =
-    row 1 0 0 1 0 0 ∷ row 1 1 1 2 2 0 ∷ row 1 2 1 8 8 256 ∷ row 1 3 1 1 32 4294967294 ∷ row 3 4 2 1 2 6 ∷ row 3 5 2 1 3 14 ∷
-    row 3 6 2 1 3 14 ∷ row 1 7 0 1 0 4294967294 ∷ row 3 8 2 1 3 14 ∷ row 3 9 2 1 3 14 ∷ row 1 10 1 1 128 4294967294 ∷
-    row 1 11 1 2 2 4 ∷ row 1 12 1 2 2 4 ∷
-    row 1 0 0 1 0 0 ∷ row 3 1 3 1 6 126 ∷ row 3 2 3 1 6 126 ∷ row 3 3 3 1 6 126 ∷ row 1 4 1 1 1 2 ∷ row 1 5 1 1 1 2 ∷ row 3 6 2 1 2 6 ∷
-    row 1 7 1 1 1 2 ∷ row 1 8 1 3 3 8 ∷ row 3 9 2 1 3 14 ∷ row 0 10 1 3 3 8 ∷ row 0 11 1 3 3 8 ∷ row 1 12 1 2 2 4 ∷
-    row 0 13 1 3 3 8 ∷ row 0 14 1 3 3 8 ∷ row 0 15 1 3 3 8 ∷ row 0 16 1 3 3 8 ∷ row 1 17 4 10 22 4260864 ∷ row 1 18 0 1 0 4294967294 ∷
-    row 3 19 3 1 4 30 ∷ row 3 20 3 1 4 30 ∷ row 1 21 0 1 0 4294967294 ∷ row 3 22 2 1 3 14 ∷ row 1 23 1 1 1 2 ∷ []
+    row 0 0 1 0 ∷ row 1 1 2 2 ∷ row 2 1 8 8 ∷ row 3 1 1 32 ∷ row 4 2 1 2 ∷ row 5 2 1 3 ∷ row 6 2 1 3 ∷ row 7 0 1 0 ∷ row 8 2 1 3 ∷ row 9 2 1 3 ∷
+    row 10 1 1 128 ∷ row 11 1 2 2 ∷ row 12 1 2 2 ∷
+    row 0 0 1 0 ∷ row 1 3 1 6 ∷ row 2 3 1 6 ∷ row 3 3 1 6 ∷ row 4 1 1 1 ∷ row 5 1 1 1 ∷ row 6 2 1 2 ∷ row 7 1 1 1 ∷ row 8 1 3 3 ∷ row 9 2 1 3 ∷
+    row 10 1 3 3 ∷ row 11 1 3 3 ∷ row 12 1 2 2 ∷ row 13 1 3 3 ∷ row 14 1 3 3 ∷ row 15 1 3 3 ∷ row 16 1 3 3 ∷ row 17 4 10 22 ∷ row 18 0 1 0 ∷
+    row 19 3 1 4 ∷ row 20 3 1 4 ∷ row 21 0 1 0 ∷ row 22 2 1 3 ∷ row 23 1 1 1 ∷
+    glance 1 0 ∷ glance 1 0 ∷ glance 1 256 ∷ glance 1 1073741822 ∷ glance 3 6 ∷ glance 3 14 ∷ glance 3 14 ∷ glance 1 1073741822 ∷ glance 3 14 ∷
+    glance 3 14 ∷ glance 1 1073741822 ∷ glance 1 4 ∷ glance 1 4 ∷
+    glance 1 0 ∷ glance 3 126 ∷ glance 3 126 ∷ glance 3 126 ∷ glance 1 2 ∷ glance 1 2 ∷ glance 3 6 ∷ glance 1 2 ∷ glance 1 8 ∷ glance 3 14 ∷
+    glance 0 8 ∷ glance 0 8 ∷ glance 1 4 ∷ glance 0 8 ∷ glance 0 8 ∷ glance 0 8 ∷ glance 0 8 ∷ glance 1 4260864 ∷ glance 1 1073741822 ∷ glance 3 30 ∷
+    glance 3 30 ∷ glance 1 1073741822 ∷ glance 3 14 ∷ glance 1 2 ∷ []
 
 -- the number of a refusal, 0 for none
 abbrev pub answerOf : ℕ → Ans (Unit {0})

@@ -11,22 +11,22 @@ use Rattle.format.specs.Table.{Form, Level, isSet, ruleOf, mayStand, valued, sh
 abbrev pub bit : ℕ → ℕ → Bool
 bit row k = not (eqb (row / 2 ^ k % 2) 0)
 
--- the greatest tag that has a row and where the rows begin, for the set or a pack; the least row that may stand wherever an item may, alone or not
+-- the greatest tag that has a row and where the second rows begin, for the set or a pack; the least row that may stand wherever an item may, alone or not
 abbrev pub mostTag : Bool → ℕ
 mostTag true = 12
 mostTag false = 23
 
 abbrev pub rowsFrom : Bool → ℕ
-rowsFrom true = 0
-rowsFrom false = 13
+rowsFrom true = 37
+rowsFrom false = 50
 
 abbrev pub leastRow : Bool → ℕ
-leastRow true = 2 ^ 62
+leastRow true = 2 ^ 30
 leastRow false = 1
 
 -- a row's bits have the length, and the first byte is not below the uppermost bit: where that is set, for a number, the byte is not 0
 unfoldable pub glanced : ℕ → ℕ → ℕ → Bool
-glanced row n first = ltb n 32 && (bit row n && leb (row / 2 ^ 63) first)
+glanced row n first = ltb n 30 && (bit row n && leb (row / 2 ^ 31) first)
 
 -- a tag that the table does not list, and that is not the set's series
 abbrev pub beyond : Bool → ℕ → Bool

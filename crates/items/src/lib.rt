@@ -1,82 +1,115 @@
 // The constant item table, and the rules for one item: of a set or a pack, in a packet, a sheet or an edit.
 ghost use mathlib.Core.Path.{_≡_};
-ghost use Prim.Native.Nat.{ℕ, _+_, _-_, _/_, _%_, _≤_, _<_, _^_};
+ghost use Prim.Native.Nat.{ℕ, _<_};
 ghost use mathlib.Core.Bool.{_&&_, _||_, not, false, true};
 ghost use mathlib.Core.List.{List};
 ghost use lib.ListN.{length};
 ghost use lib.Dec.{eqb};
 ghost use Rattle.format.specs.Lists.{has, none?};
 ghost use Rattle.format.specs.Table.{isAlone, isSet, ruleOf, nameable, mayStand, mayBegin, standing, sized, valued, short};
-ghost use Rattle.items.specs.Meet.{formOf, levelOf, rowRule, ruleFrom, itemTable, answerOf, zeros, offsets, shortSize};
+ghost use Rattle.items.specs.Meet.{formOf, levelOf, ruleFrom, rowFrom, itemTable, answerOf, zeros, offsets, shortSize};
 
 // A row of the item table: tag, kind, least and greatest length. Kinds: 0 not listed (one or more bytes), 1 bytes, 2 a number, 3 a pixel,
 // 4 a location (10, 16 or 22 bytes).
 pub struct Rule(pub u64, pub u64, pub u64, pub u64);
 
-// The rows of the set, then those of a pack, each at its tag: two bits, then tag, kind, least and greatest length, then bit by bit the lengths
-// below 32 that are told at a glance (quick.rt). The two bits: 3 a number or a pixel, which at a glance may not begin with 0; 0 an offset, which
-// may stand in embedded only; 1 any other.
-const ITEMS: [u64; 37] = [
-    1 << 62 | 0 << 56 | 0 << 48 | 1 << 40 | 0 << 32 | 0x0,
-    1 << 62 | 1 << 56 | 1 << 48 | 2 << 40 | 2 << 32 | 0x0,
-    1 << 62 | 2 << 56 | 1 << 48 | 8 << 40 | 8 << 32 | 0x100,
-    1 << 62 | 3 << 56 | 1 << 48 | 1 << 40 | 32 << 32 | 0xfffffffe,
-    3 << 62 | 4 << 56 | 2 << 48 | 1 << 40 | 2 << 32 | 0x6,
-    3 << 62 | 5 << 56 | 2 << 48 | 1 << 40 | 3 << 32 | 0xe,
-    3 << 62 | 6 << 56 | 2 << 48 | 1 << 40 | 3 << 32 | 0xe,
-    1 << 62 | 7 << 56 | 0 << 48 | 1 << 40 | 0 << 32 | 0xfffffffe,
-    3 << 62 | 8 << 56 | 2 << 48 | 1 << 40 | 3 << 32 | 0xe,
-    3 << 62 | 9 << 56 | 2 << 48 | 1 << 40 | 3 << 32 | 0xe,
-    1 << 62 | 10 << 56 | 1 << 48 | 1 << 40 | 128 << 32 | 0xfffffffe,
-    1 << 62 | 11 << 56 | 1 << 48 | 2 << 40 | 2 << 32 | 0x4,
-    1 << 62 | 12 << 56 | 1 << 48 | 2 << 40 | 2 << 32 | 0x4,
-    1 << 62 | 0 << 56 | 0 << 48 | 1 << 40 | 0 << 32 | 0x0,
-    3 << 62 | 1 << 56 | 3 << 48 | 1 << 40 | 6 << 32 | 0x7e,
-    3 << 62 | 2 << 56 | 3 << 48 | 1 << 40 | 6 << 32 | 0x7e,
-    3 << 62 | 3 << 56 | 3 << 48 | 1 << 40 | 6 << 32 | 0x7e,
-    1 << 62 | 4 << 56 | 1 << 48 | 1 << 40 | 1 << 32 | 0x2,
-    1 << 62 | 5 << 56 | 1 << 48 | 1 << 40 | 1 << 32 | 0x2,
-    3 << 62 | 6 << 56 | 2 << 48 | 1 << 40 | 2 << 32 | 0x6,
-    1 << 62 | 7 << 56 | 1 << 48 | 1 << 40 | 1 << 32 | 0x2,
-    1 << 62 | 8 << 56 | 1 << 48 | 3 << 40 | 3 << 32 | 0x8,
-    3 << 62 | 9 << 56 | 2 << 48 | 1 << 40 | 3 << 32 | 0xe,
-    0 << 62 | 10 << 56 | 1 << 48 | 3 << 40 | 3 << 32 | 0x8,
-    0 << 62 | 11 << 56 | 1 << 48 | 3 << 40 | 3 << 32 | 0x8,
-    1 << 62 | 12 << 56 | 1 << 48 | 2 << 40 | 2 << 32 | 0x4,
-    0 << 62 | 13 << 56 | 1 << 48 | 3 << 40 | 3 << 32 | 0x8,
-    0 << 62 | 14 << 56 | 1 << 48 | 3 << 40 | 3 << 32 | 0x8,
-    0 << 62 | 15 << 56 | 1 << 48 | 3 << 40 | 3 << 32 | 0x8,
-    0 << 62 | 16 << 56 | 1 << 48 | 3 << 40 | 3 << 32 | 0x8,
-    1 << 62 | 17 << 56 | 4 << 48 | 10 << 40 | 22 << 32 | 0x410400,
-    1 << 62 | 18 << 56 | 0 << 48 | 1 << 40 | 0 << 32 | 0xfffffffe,
-    3 << 62 | 19 << 56 | 3 << 48 | 1 << 40 | 4 << 32 | 0x1e,
-    3 << 62 | 20 << 56 | 3 << 48 | 1 << 40 | 4 << 32 | 0x1e,
-    1 << 62 | 21 << 56 | 0 << 48 | 1 << 40 | 0 << 32 | 0xfffffffe,
-    3 << 62 | 22 << 56 | 2 << 48 | 1 << 40 | 3 << 32 | 0xe,
-    1 << 62 | 23 << 56 | 1 << 48 | 1 << 40 | 1 << 32 | 0x2,
+// The rows of the set, then those of a pack, each at its tag: tag, kind, least and greatest length. Then a second row for each, for a glance
+// (quick.rt): two bits, then bit by bit the lengths below 30 that are told so. The two bits: 3 a number or a pixel, which at a glance may not begin
+// with 0; 0 an offset, which may stand in embedded only; 1 any other. Of 32 bits each, as the compiler lays out four of those at once.
+const ITEMS: [u32; 74] = [
+    0 << 24 | 0 << 16 | 1 << 8 | 0,
+    1 << 24 | 1 << 16 | 2 << 8 | 2,
+    2 << 24 | 1 << 16 | 8 << 8 | 8,
+    3 << 24 | 1 << 16 | 1 << 8 | 32,
+    4 << 24 | 2 << 16 | 1 << 8 | 2,
+    5 << 24 | 2 << 16 | 1 << 8 | 3,
+    6 << 24 | 2 << 16 | 1 << 8 | 3,
+    7 << 24 | 0 << 16 | 1 << 8 | 0,
+    8 << 24 | 2 << 16 | 1 << 8 | 3,
+    9 << 24 | 2 << 16 | 1 << 8 | 3,
+    10 << 24 | 1 << 16 | 1 << 8 | 128,
+    11 << 24 | 1 << 16 | 2 << 8 | 2,
+    12 << 24 | 1 << 16 | 2 << 8 | 2,
+    0 << 24 | 0 << 16 | 1 << 8 | 0,
+    1 << 24 | 3 << 16 | 1 << 8 | 6,
+    2 << 24 | 3 << 16 | 1 << 8 | 6,
+    3 << 24 | 3 << 16 | 1 << 8 | 6,
+    4 << 24 | 1 << 16 | 1 << 8 | 1,
+    5 << 24 | 1 << 16 | 1 << 8 | 1,
+    6 << 24 | 2 << 16 | 1 << 8 | 2,
+    7 << 24 | 1 << 16 | 1 << 8 | 1,
+    8 << 24 | 1 << 16 | 3 << 8 | 3,
+    9 << 24 | 2 << 16 | 1 << 8 | 3,
+    10 << 24 | 1 << 16 | 3 << 8 | 3,
+    11 << 24 | 1 << 16 | 3 << 8 | 3,
+    12 << 24 | 1 << 16 | 2 << 8 | 2,
+    13 << 24 | 1 << 16 | 3 << 8 | 3,
+    14 << 24 | 1 << 16 | 3 << 8 | 3,
+    15 << 24 | 1 << 16 | 3 << 8 | 3,
+    16 << 24 | 1 << 16 | 3 << 8 | 3,
+    17 << 24 | 4 << 16 | 10 << 8 | 22,
+    18 << 24 | 0 << 16 | 1 << 8 | 0,
+    19 << 24 | 3 << 16 | 1 << 8 | 4,
+    20 << 24 | 3 << 16 | 1 << 8 | 4,
+    21 << 24 | 0 << 16 | 1 << 8 | 0,
+    22 << 24 | 2 << 16 | 1 << 8 | 3,
+    23 << 24 | 1 << 16 | 1 << 8 | 1,
+    1 << 30 | 0x0,
+    1 << 30 | 0x0,
+    1 << 30 | 0x100,
+    1 << 30 | 0x3ffffffe,
+    3 << 30 | 0x6,
+    3 << 30 | 0xe,
+    3 << 30 | 0xe,
+    1 << 30 | 0x3ffffffe,
+    3 << 30 | 0xe,
+    3 << 30 | 0xe,
+    1 << 30 | 0x3ffffffe,
+    1 << 30 | 0x4,
+    1 << 30 | 0x4,
+    1 << 30 | 0x0,
+    3 << 30 | 0x7e,
+    3 << 30 | 0x7e,
+    3 << 30 | 0x7e,
+    1 << 30 | 0x2,
+    1 << 30 | 0x2,
+    3 << 30 | 0x6,
+    1 << 30 | 0x2,
+    1 << 30 | 0x8,
+    3 << 30 | 0xe,
+    0 << 30 | 0x8,
+    0 << 30 | 0x8,
+    1 << 30 | 0x4,
+    0 << 30 | 0x8,
+    0 << 30 | 0x8,
+    0 << 30 | 0x8,
+    0 << 30 | 0x8,
+    1 << 30 | 0x410400,
+    1 << 30 | 0x3ffffffe,
+    3 << 30 | 0x1e,
+    3 << 30 | 0x1e,
+    1 << 30 | 0x3ffffffe,
+    3 << 30 | 0xe,
+    1 << 30 | 0x2,
 ];
 
 // A constant array is laid out anew wherever it is named, so a call asks for it once and lends it to all that it calls.
-pub fn table() -> [u64; 37]
+pub fn table() -> [u32; 74]
     ensures { λ r. ⌜ r ≡ itemTable ⌝ }
 {
     ITEMS
 }
 
 // A row taken apart.
-fn rule_from(row: u64) -> Rule
-    ensures { λ r. ⌜ ruleFrom r ≡ rowRule (row / 2 ^ 48 % 256) (row / 2 ^ 40 % 256) (row / 2 ^ 32 % 256) ⌝ }
+fn rule_from(row: u32) -> Rule
+    ensures { λ r. ⌜ ruleFrom r ≡ rowFrom row ⌝ }
 {
-    Rule(
-        (row >> 56) % 64,
-        (row >> 48) % 256,
-        (row >> 40) % 256,
-        (row >> 32) % 256,
-    )
+    let row = row as u64;
+    Rule(row >> 24, (row >> 16) % 256, (row >> 8) % 256, row % 256)
 }
 
 // The rule of a tag, for the set or for a pack.
-pub fn rule_of(table: &[u64], set: bool, tag: u64) -> Rule
+pub fn rule_of(table: &[u32], set: bool, tag: u64) -> Rule
     requires { ⌜ now table ≡ itemTable ⌝ }
     ensures { λ r. ⌜ ruleFrom r ≡ ruleOf (levelOf set) tag ⌝ }
 {

@@ -1,5 +1,5 @@
-// Most items are told at a glance: a tag that the table lists, a length below 32 that it allows, and no zero before a number; or a tag
-// that no table lists.
+// Most items are told at a glance: a tag that the table lists, a length below 30 that it allows, and no zero before a number; or a tag
+// that no table lists. A row is here the second one of its tag.
 ghost use mathlib.Core.Path.{_≡_};
 ghost use Prim.Native.Nat.{_<_};
 ghost use mathlib.Core.Bool.{true};
@@ -7,16 +7,16 @@ ghost use Rattle.items.specs.Meet.{formOf, levelOf, itemTable};
 ghost use Rattle.items.specs.Quick.{Quick, glanced, mostTag, rowsFrom, leastRow, beyond};
 
 // Whether a row's bits have this length. The uppermost is set in the kinds of a number, whose first byte may not be 0.
-fn fits(row: u64, n: u64, first: u8) -> bool
+fn fits(row: u32, n: u64, first: u8) -> bool
     ensures { λ r. ⌜ r ≡ glanced row n first ⌝ }
 {
-    if 31 < n {
+    if 29 < n {
         return false;
     }
     if (row >> n) % 2 == 0 {
         return false;
     }
-    (row >> 63) <= (first as u64)
+    (row >> 31) <= (first as u32)
 }
 
 // The greatest tag that has a row.
@@ -26,19 +26,19 @@ fn most_tag(set: bool) -> u64
     if set { 12 } else { 23 }
 }
 
-// Where the rows of the set or of a pack begin.
+// Where the second rows of the set or of a pack begin.
 fn rows_from(set: bool) -> usize
     ensures { λ r. ⌜ r ≡ rowsFrom set ⌝ }
 {
-    if set { 0 } else { 13 }
+    if set { 37 } else { 50 }
 }
 
 // The least row that may stand wherever an item may: in a standalone packet those of the six offsets are below it, elsewhere none is. No row
 // is 0, and with 0 for 1 the compiler would test the form at each item.
-fn least_row(alone: bool) -> u64
+fn least_row(alone: bool) -> u32
     ensures { λ r. ⌜ r ≡ leastRow alone ⌝ }
 {
-    if alone { 1 << 62 } else { 1 }
+    if alone { 1 << 30 } else { 1 }
 }
 
 // Whether no table lists a tag: then any value of a byte or more will do, wherever it may begin. The set's series is not one of these.
@@ -72,7 +72,7 @@ fn is_other(set: bool, tag: u64, n: u64) -> bool
 
 // Whether an item with this tag, whose value has n bytes and begins with this one, meets the rules for one item wherever it may begin,
 // and is shortest as it stands, tag and length too. Where it says no, nothing is known.
-pub fn is_quick(table: &[u64], set: bool, alone: bool, tag: u64, n: u64, first: u8) -> bool
+pub fn is_quick(table: &[u32], set: bool, alone: bool, tag: u64, n: u64, first: u8) -> bool
     requires { ⌜ now table ≡ itemTable ⌝ }
     ensures { λ r. ⌜ (r ≡ true → (tag < 128) × (n < 128) × Quick (levelOf set) (formOf alone) tag n first) ⌝ }
 {

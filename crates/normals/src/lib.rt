@@ -12,7 +12,7 @@ use walks::Walked;
 // ---- items and heads
 
 // An item in normal form, from its value as it stands in the packet; where it ends. The set's checksum has no place.
-pub fn put_normal(table: &[u64], out: &mut [u8], at: usize, set: bool, tag: u64, v: &[u8]) -> usize
+pub fn put_normal(table: &[u32], out: &mut [u8], at: usize, set: bool, tag: u64, v: &[u8]) -> usize
     requires { ⌜ (now table ≡ itemTable) × ((tag ≤ 16383) × (0 < length (now v)) × (length (now v) ≤ 8192) × (at + length (itemNormal (levelOf set) tag (now v)) ≤ length (now out))) ⌝ }
     ensures { λ r. ⌜ (r ≡ at + length (itemNormal (levelOf set) tag (now (v .entry)))) × (now (out .exit) ≡ sets (now (out .entry)) at (itemNormal (levelOf set) tag (now (v .entry)))) ⌝ }
 {
@@ -48,7 +48,7 @@ pub fn put_pack(out: &mut [u8], at: usize, n: usize, id: u64) -> usize
 
 // The items of a level: the set, whose series has `inner` bytes of packs in normal form, or a pack; how many bytes.
 pub fn item_normal(
-    table: &[u64],
+    table: &[u32],
     s: &[u8],
     set: bool,
     alone: bool,
@@ -85,7 +85,7 @@ pub fn item_normal(
 }
 
 // The packs of a series; how many bytes.
-pub fn pack_normal(table: &[u64], s: &[u8], alone: bool, out: &mut [u8]) -> usize
+pub fn pack_normal(table: &[u32], s: &[u8], alone: bool, out: &mut [u8]) -> usize
     requires { ⌜ (now table ≡ itemTable) × ((length (now s) ≤ 8192) × Ran (seriesRun (formOf alone) (now s)) × (length (seriesNormal (formOf alone) (now s)) ≤ length (now out))) ⌝ }
     ensures { λ r. ⌜ (r ≡ length (seriesNormal (formOf alone) (now (s .entry)))) × (now (out .exit) ≡ sets (now (out .entry)) 0 (seriesNormal (formOf alone) (now (s .entry)))) ⌝ }
 {

@@ -19,7 +19,7 @@ use walks::Walked;
 
 // An `IT` or a `TI`, its mark passed over: 17, 7, 9, 13, 14, 11, 12, and 17 for a number that is not shortest.
 fn value_at(
-    table: &[u64],
+    table: &[u32],
     s: &[u8],
     p: usize,
     clear: usize,
@@ -85,7 +85,7 @@ fn series_at(s: &[u8], p: usize, clear: usize, alone: bool, top: u64, low: u64) 
 
 // The record at p of a level s: of the set an `IT` or a `TS`, else a `TI`. Most are told at a glance.
 pub fn part_at(
-    table: &[u64],
+    table: &[u32],
     s: &[u8],
     p: usize,
     clear: usize,
@@ -163,7 +163,7 @@ pub fn goes_on(s: &[u8], p: usize, set: bool) -> bool
 }
 
 // The records of a level: the set, or a target. A part takes as many bytes as it adds to the sheet.
-pub fn item_records(table: &[u64], s: &[u8], set: bool, alone: bool) -> Walked
+pub fn item_records(table: &[u32], s: &[u8], set: bool, alone: bool) -> Walked
     requires { ⌜ (now table ≡ itemTable) × (length (now s) ≤ 65536) ⌝ }
     ensures { λ r. ⌜ (r ≡ recordsWalk (levelOf set) (formOf alone) (now (s .entry))) × Within r (length (now (s .entry))) ⌝ }
 {
@@ -211,7 +211,7 @@ pub fn item_records(table: &[u64], s: &[u8], set: bool, alone: bool) -> Walked
 }
 
 // The targets of the series.
-pub fn target_records(table: &[u64], s: &[u8], alone: bool) -> Walked
+pub fn target_records(table: &[u32], s: &[u8], alone: bool) -> Walked
     requires { ⌜ (now table ≡ itemTable) × (length (now s) ≤ 65536) ⌝ }
     ensures { λ r. ⌜ (r ≡ targetsWalk (formOf alone) (now (s .entry))) × Within r (length (now (s .entry))) ⌝ }
 {

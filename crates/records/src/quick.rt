@@ -31,7 +31,7 @@ fn word_of(set: bool) -> u32
 }
 
 // A level's record at p that is told at a glance, its tag above top.
-pub fn glance(table: &[u64], s: &[u8], p: usize, set: bool, alone: bool, top: u64) -> Told
+pub fn glance(table: &[u32], s: &[u8], p: usize, set: bool, alone: bool, top: u64) -> Told
     requires { ⌜ (now table ≡ itemTable) × (length (now s) ≤ 65536) × (p ≤ length (now s)) ⌝ }
     ensures { λ r. ⌜ (0 < r .next → Glanced set (formOf alone) (now (s .entry)) p top (r .tag) (r .next - (p + 6))) ⌝ }
 {
@@ -69,7 +69,7 @@ pub struct Ran {
 }
 
 // The records of a target told at a glance, one after another.
-pub fn run(table: &[u64], s: &[u8], alone: bool) -> Ran
+pub fn run(table: &[u32], s: &[u8], alone: bool) -> Ran
     requires { ⌜ (now table ≡ itemTable) × (length (now s) ≤ 65536) ⌝ }
     ensures { λ r. ⌜ TargetRan (formOf alone) (now (s .entry)) (r .sizes) (r .mark) ⌝ }
 {
@@ -118,7 +118,7 @@ fn passed(p: usize, rows: usize, normal: usize, top: u64, low: u64) -> Quick
 
 // The targets whose ids have one or two bytes in a packet and rise or fall, whose records are all told at a glance, and whose packs have a
 // byte for their length, one after another, from the series' start.
-pub fn targets(table: &[u64], s: &[u8], alone: bool) -> Quick
+pub fn targets(table: &[u32], s: &[u8], alone: bool) -> Quick
     requires { ⌜ (now table ≡ itemTable) × (length (now s) ≤ 65536) ⌝ }
     ensures { λ r. ⌜ TargetsGoing (formOf alone) (now (s .entry)) (r .at) (r .sizes) (r .top) (r .low) × (r .top < 2 ^ 63) ⌝ }
 {

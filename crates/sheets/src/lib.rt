@@ -34,7 +34,7 @@ fn put_item(out: &mut [u8], at: usize, set: bool, tag: u64, v: &[u8]) -> usize
 }
 
 // An item's record from its value as it stands in the packet; where it ends. The set's checksum has none.
-fn put_plain(table: &[u64], out: &mut [u8], at: usize, set: bool, tag: u64, v: &[u8]) -> usize
+fn put_plain(table: &[u32], out: &mut [u8], at: usize, set: bool, tag: u64, v: &[u8]) -> usize
     requires { ⌜ (now table ≡ itemTable) × ((0 < length (now v)) × (at + length (itemSheet (levelOf set) tag (now v)) ≤ length (now out))) ⌝ }
     ensures { λ r. ⌜ (r ≡ at + length (itemSheet (levelOf set) tag (now (v .entry)))) × (now (out .exit) ≡ sets (now (out .entry)) at (itemSheet (levelOf set) tag (now (v .entry)))) ⌝ }
 {
@@ -64,7 +64,7 @@ fn put_target(out: &mut [u8], at: usize, id: u64) -> usize
 
 // The items of a level from a place on, where at bytes of its sheet are written; how many bytes the sheet has.
 fn rest_sheet(
-    table: &[u64],
+    table: &[u32],
     s: &[u8],
     from: usize,
     at: usize,
@@ -102,7 +102,7 @@ fn rest_sheet(
 }
 
 // The items of a pack, the quick way first; how many bytes.
-fn pack_items(table: &[u64], s: &[u8], alone: bool, out: &mut [u8]) -> usize
+fn pack_items(table: &[u32], s: &[u8], alone: bool, out: &mut [u8]) -> usize
     requires { ⌜ (now table ≡ itemTable) × ((length (now s) ≤ 8192) × Ran (levelRun pack (formOf alone) (now s)) × (length (levelSheet pack (formOf alone) (now s)) ≤ length (now out))) ⌝ }
     ensures { λ r. ⌜ (r ≡ length (levelSheet pack (formOf alone) (now (s .entry)))) × (now (out .exit) ≡ sets (now (out .entry)) 0 (levelSheet pack (formOf alone) (now (s .entry)))) ⌝ }
 {
@@ -115,7 +115,7 @@ fn pack_items(table: &[u64], s: &[u8], alone: bool, out: &mut [u8]) -> usize
 }
 
 // The packs of a series, the quick way first; how many bytes.
-pub fn pack_sheet(table: &[u64], s: &[u8], alone: bool, out: &mut [u8]) -> usize
+pub fn pack_sheet(table: &[u32], s: &[u8], alone: bool, out: &mut [u8]) -> usize
     requires { ⌜ (now table ≡ itemTable) × ((length (now s) ≤ 8192) × Ran (seriesRun (formOf alone) (now s)) × (length (seriesSheet (formOf alone) (now s)) ≤ length (now out))) ⌝ }
     ensures { λ r. ⌜ (r ≡ length (seriesSheet (formOf alone) (now (s .entry)))) × (now (out .exit) ≡ sets (now (out .entry)) 0 (seriesSheet (formOf alone) (now (s .entry)))) ⌝ }
 {
@@ -143,7 +143,7 @@ pub fn pack_sheet(table: &[u64], s: &[u8], alone: bool, out: &mut [u8]) -> usize
 }
 
 // The items of a level: the set, or a pack; how many bytes.
-pub fn item_sheet(table: &[u64], s: &[u8], set: bool, alone: bool, out: &mut [u8]) -> usize
+pub fn item_sheet(table: &[u32], s: &[u8], set: bool, alone: bool, out: &mut [u8]) -> usize
     requires { ⌜ (now table ≡ itemTable) × ((length (now s) ≤ 8192) × Ran (levelRun (levelOf set) (formOf alone) (now s)) × (length (levelSheet (levelOf set) (formOf alone) (now s)) ≤ length (now out))) ⌝ }
     ensures { λ r. ⌜ (r ≡ length (levelSheet (levelOf set) (formOf alone) (now (s .entry)))) × (now (out .exit) ≡ sets (now (out .entry)) 0 (levelSheet (levelOf set) (formOf alone) (now (s .entry)))) ⌝ }
 {

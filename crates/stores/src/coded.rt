@@ -59,7 +59,7 @@ pub fn put_oid(out: &mut [u8], at: usize, n: u64) -> usize
 }
 
 // How many bytes the value of a tag has in its shortest form: all, where the first is not 0, whatever the table says.
-pub fn short_of(table: &[u64], set: bool, tag: u64, v: &[u8]) -> usize
+pub fn short_of(table: &[u32], set: bool, tag: u64, v: &[u8]) -> usize
     requires { ⌜ (now table ≡ itemTable) × (0 < length (now v)) ⌝ }
     ensures { λ r. ⌜ r ≡ length (short (ruleOf (levelOf set) tag) (now (v .entry))) ⌝ }
 {

@@ -27,7 +27,7 @@ pub enum Piece {
 
 // The item at p of a level s; no tag before p is above top or below low, and none repeats before clear.
 pub fn item_at(
-    table: &[u64],
+    table: &[u32],
     s: &[u8],
     p: usize,
     clear: usize,
@@ -204,7 +204,7 @@ pub fn series_of(w: Walked, k: usize) -> Walked
 }
 
 // The items of a level, the set or a pack.
-pub fn item_walk(table: &[u64], s: &[u8], set: bool, alone: bool) -> Walked
+pub fn item_walk(table: &[u32], s: &[u8], set: bool, alone: bool) -> Walked
     requires { ⌜ (now table ≡ itemTable) × (length (now s) ≤ 8192) ⌝ }
     ensures { λ r. ⌜ (r ≡ levelWalk (levelOf set) (formOf alone) (now (s .entry))) × Within r (length (now (s .entry))) ⌝ }
 {
@@ -212,7 +212,7 @@ pub fn item_walk(table: &[u64], s: &[u8], set: bool, alone: bool) -> Walked
 }
 
 // The same, from where a quick way over them ended.
-pub fn item_rest(table: &[u64], s: &[u8], set: bool, alone: bool, from: Quick) -> Walked
+pub fn item_rest(table: &[u32], s: &[u8], set: bool, alone: bool, from: Quick) -> Walked
     requires { ⌜ (now table ≡ itemTable) × (length (now s) ≤ 8192) × LevelGoing set (formOf alone) (now s) (from .at) (from .sizes) (from .mark) (from .top) (from .low) ⌝ }
     ensures { λ r. ⌜ (r ≡ levelWalk (levelOf set) (formOf alone) (now (s .entry))) × Within r (length (now (s .entry))) ⌝ }
 {
@@ -255,7 +255,7 @@ pub fn item_rest(table: &[u64], s: &[u8], set: bool, alone: bool, from: Quick) -
 }
 
 // The packs of a series.
-pub fn pack_walk(table: &[u64], s: &[u8], alone: bool) -> Walked
+pub fn pack_walk(table: &[u32], s: &[u8], alone: bool) -> Walked
     requires { ⌜ (now table ≡ itemTable) × (length (now s) ≤ 8192) ⌝ }
     ensures { λ r. ⌜ (r ≡ seriesWalk (formOf alone) (now (s .entry))) × Within r (length (now (s .entry))) ⌝ }
 {

@@ -25,7 +25,7 @@ fn span(s: &[u8], set: bool, alone: bool) -> usize
 }
 
 // Where such an item at p ends by its length, its tag above top; 0 where it is no such item.
-fn glance(table: &[u64], s: &[u8], p: usize, most: usize, set: bool, alone: bool, top: u64) -> usize
+fn glance(table: &[u32], s: &[u8], p: usize, most: usize, set: bool, alone: bool, top: u64) -> usize
     requires { ⌜ (now table ≡ itemTable) × (length (now s) ≤ 8192) × (most ≤ length (now s) - 2) × (0 < most → Begun set (formOf alone) 0 (getD (now s) 0 0)) ⌝ }
     ensures { λ r. ⌜ (0 < r → Glanced set (formOf alone) (now (s .entry)) p top r) ⌝ }
 {
@@ -79,7 +79,7 @@ fn nothing() -> Sizes
 }
 
 // The items told at a glance, one after another. If the last goes past the end, which is seen once for all, the walk begins anew.
-pub fn run(table: &[u64], s: &[u8], set: bool, alone: bool) -> Quick
+pub fn run(table: &[u32], s: &[u8], set: bool, alone: bool) -> Quick
     requires { ⌜ (now table ≡ itemTable) × (length (now s) ≤ 8192) ⌝ }
     ensures { λ r. ⌜ LevelGoing set (formOf alone) (now (s .entry)) (r .at) (r .sizes) (r .mark) (r .top) (r .low) × (r .sizes ≡ sizes (4 * (r .sizes .rows) + r .at) (r .sizes .rows) (r .at) 0) ⌝ }
 {
@@ -208,7 +208,7 @@ fn passed(p: usize, rows: usize, more: usize, top: u64, low: u64) -> Quick
 
 // The packs whose length has one byte and whose id has one or two, ids rising or falling, and whose items are all told at a glance, one after
 // another, from a series' start. Beside as many bytes as such a pack has, its sheet has four for each row, and five less those of its id.
-pub fn packs(table: &[u64], s: &[u8], alone: bool) -> Quick
+pub fn packs(table: &[u32], s: &[u8], alone: bool) -> Quick
     requires { ⌜ (now table ≡ itemTable) × (length (now s) ≤ 8192) ⌝ }
     ensures { λ r. ⌜ SeriesGoing (formOf alone) (now (s .entry)) (r .at) (r .sizes) (r .top) (r .low) ⌝ }
 {

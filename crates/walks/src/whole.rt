@@ -86,7 +86,7 @@ fn is_series_next(p: usize, top: u64, tag: u64) -> bool
 }
 
 // On over the series, if it stands next and all its packs are told at a glance.
-fn series(table: &[u64], s: &[u8], alone: bool, q: Quick) -> Quick
+fn series(table: &[u32], s: &[u8], alone: bool, q: Quick) -> Quick
     requires { ⌜ (now table ≡ itemTable) × (length (now s) ≤ 8192) × LevelGoing true (formOf alone) (now s) (q .at) (q .sizes) (q .mark) (q .top) (q .low) ⌝ }
     ensures { λ r. ⌜ LevelGoing true (formOf alone) (now (s .entry)) (r .at) (r .sizes) (r .mark) (r .top) (r .low) ⌝ }
 {
@@ -180,7 +180,7 @@ fn walked(q: Quick) -> Walked
 }
 
 // The rest of the set, from where the quick way ended: its checksum, or whatever is left, one by one.
-fn set_rest(table: &[u64], s: &[u8], alone: bool, from: Quick) -> Walked
+fn set_rest(table: &[u32], s: &[u8], alone: bool, from: Quick) -> Walked
     requires { ⌜ (now table ≡ itemTable) × (length (now s) ≤ 8192) × LevelGoing true (formOf alone) (now s) (from .at) (from .sizes) (from .mark) (from .top) (from .low) ⌝ }
     ensures { λ r. ⌜ (r ≡ levelWalk set (formOf alone) (now (s .entry))) × Within r (length (now (s .entry))) ⌝ }
 {
@@ -192,7 +192,7 @@ fn set_rest(table: &[u64], s: &[u8], alone: bool, from: Quick) -> Walked
 }
 
 // The items of the set. An embedded one often ends with its series.
-fn set_walk(table: &[u64], s: &[u8], alone: bool) -> Walked
+fn set_walk(table: &[u32], s: &[u8], alone: bool) -> Walked
     requires { ⌜ (now table ≡ itemTable) × (length (now s) ≤ 8192) ⌝ }
     ensures { λ r. ⌜ (r ≡ levelWalk set (formOf alone) (now (s .entry))) × Within r (length (now (s .entry))) ⌝ }
 {
@@ -285,7 +285,7 @@ fn wrong_set(w: Walked, k: usize) -> Checked
 }
 
 // The sizes of what a packet says, or the refusal: 1, what opens it, the set, what closes it.
-pub fn check(table: &[u64], s: &[u8], alone: bool) -> Checked
+pub fn check(table: &[u32], s: &[u8], alone: bool) -> Checked
     requires { ⌜ now table ≡ itemTable ⌝ }
     ensures { λ r. ⌜ r ≡ checkedOf (parse (formOf alone) (now (s .entry))) ⌝ }
 {

@@ -8,6 +8,9 @@ use Rattle.items.proofs.quick.fits.Tie as tie
 returns : tie.Need-returns
 returns c = fits-long _ _ _ (c .if1 .taken)
 
+cast-if2 : tie.Need-cast-if2
+cast-if2 c = search needs
+
 shr-if2 : tie.Need-shr-if2
 shr-if2 c = search needs
 
@@ -18,4 +21,4 @@ returns-3 : tie.Need-returns-3
 returns-3 c = fits-so _ _ _ (omega arith) (c .if2 .left)
 
 pub fits-spec : {M : Type 1} → statement M
-fits-spec = tie.close (tie.spec returns shr-if2 returns-2 returns-3)
+fits-spec = tie.close (tie.spec returns cast-if2 shr-if2 returns-2 returns-3)

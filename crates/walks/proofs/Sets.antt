@@ -1,5 +1,5 @@
 -- The quick way's turns over the series and the checksum of the set: each is read as the item walk reads it.
-use mathlib.Core.Path.{_≡_, refl, ap, _∙_}
+use mathlib.Core.Path.{_≡_, refl, sym, ap, _∙_, subst}
 use Prim.Native.Nat.{ℕ, _+_, _-_, _≤_, _<_}
 use native.Mathlib.Omega.{arith}
 use mathlib.Core.Bool.{Bool, true, false, _&&_, _||_}
@@ -19,14 +19,14 @@ use Rattle.heads.specs.declared.Head.{Head}
 use Rattle.heads.specs.declared.Head.the-variants as heads
 use Rattle.heads.specs.Meet.{itemHeadOf}
 use Rattle.walks.specs.declared.Sizes.{Sizes}
+use Rattle.walks.specs.declared.Walked.{Walked}
 use Rattle.walks.specs.declared.Walked.the-variants.{Good}
-use Rattle.walks.specs.Meet.{itemSizes, seriesSizes, plusSizes, seriesWalk, Small, Within}
-use Rattle.walks.specs.Going.{LevelGoing, SeriesGoing}
-use Rattle.walks.proofs.Walks.{few-more}
-use Rattle.walks.proofs.Turns.{turn-done}
+use Rattle.walks.specs.Meet.{itemSizes, seriesSizes, plusSizes, seriesWalk, seriesFrom, Small, Within}
+use Rattle.walks.specs.Going.{LevelGoing}
+use Rattle.walks.proofs.Turns.{within-more}
 use Rattle.walks.proofs.Pieces.{piece-within}
 use Rattle.walks.proofs.ItemTurns.{ItemAt, EntryTold, item-told, series-told, good-small, entry-more}
-use Rattle.walks.proofs.Glances.{MetAt, met-item, begun-later}
+use Rattle.walks.proofs.Glances.{met-item, begun-later}
 use Rattle.walks.proofs.Beyond.{or-false}
 
 -- ---- their values
@@ -61,28 +61,28 @@ module _ {f : Form} {s : List ℕ} {p : ℕ} {sum : Sizes} {mark : Bool} {top lo
   pub head-room : p + u + w + n ≤ length s
   head-room = omega (arith, i .here, length-drop p s, piece-within (drop p s) set head-told (i .is))
 
-  -- ---- it is the series, and all its packs were walked
+  -- ---- it is the series, and y is what was walked of its packs
 
-  module _ (next : (0 < p) × (top < 101) × (tag ≡ 101)) where
-    series-met : 0 < n → MetAt true f s p sum mark top low 101 u w n
+  module _ (next : (0 < p) × (top < 101) × (0 < n) × (tag ≡ 101)) where
+    series-item : ItemAt true f s p sum mark top low 101 (u + w) n n
     unfolding mayStand
-    series-met some = record {
+    series-item = met-item (record {
       going = i .going;
       here = i .here;
       meets = record {
         it = i .it;
         told = head-told;
-        is = i .is ∙ ap (λ t. heads.Whole t u w n) (next .2);
-        some = some;
+        is = i .is ∙ ap (λ t. heads.Whole t u w n) (next .3);
+        some = next .2;
         stands = refl;
-        allowed = λ v e _. series-value v (omega (arith, e, some)) .0;
-        shortest = λ v e _. series-value v (omega (arith, e, some)) .1;
+        allowed = λ v e _. series-value v (omega (arith, e, next .2)) .0;
+        shortest = λ v e _. series-value v (omega (arith, e, next .2)) .1;
         begins = begun-later true f p 101 (next .0);
       };
       new = inr (inl (next .1));
       bytes = i .bytes;
       most = i .most;
-    }
+    })
 
     abbrev packs : List ℕ
     packs = take (p + u + w + n - (p + u + w)) (drop (p + u + w) s)
@@ -90,28 +90,25 @@ module _ {f : Form} {s : List ℕ} {p : ℕ} {sum : Sizes} {mark : Bool} {top lo
     pub packs-long : length packs ≡ n
     packs-long = length-take-le (p + u + w + n - (p + u + w)) (drop (p + u + w) s) (rw length-drop (omega (arith, head-room))) ∙ omega arith
 
-    module _ {at : ℕ} {a : Sizes} {top′ low′ : ℕ} (g : SeriesGoing f packs at a top′ low′) (full : at ≡ length packs) (some : at ≡ 0 → ⊥) where
-      item : ItemAt true f s p sum mark top low 101 (u + w) n n
-      item = met-item (series-met (omega (arith, full, some, packs-long)))
+    module _ {y : Walked} (ey : (y ≡ seriesWalk f packs) × Within y (length packs)) {a : Sizes} {m : Bool} (good : y ≡ Good a m) where
+      walked : (y ≡ seriesWalk f (take (p + (u + w) + n - (p + (u + w))) (drop (p + (u + w)) s))) × Within y (length (take (p + (u + w) + n - (p + (u + w))) (drop (p + (u + w)) s)))
+      walked = let e : p + u + w ≡ p + (u + w) = omega arith in rw e at ey
 
-      walked : (Good a false ≡ seriesWalk f (take (p + (u + w) + n - (p + (u + w))) (drop (p + (u + w)) s))) × Within (Good a false) (length (take (p + (u + w) + n - (p + (u + w))) (drop (p + (u + w)) s)))
-      walked = let e : p + u + w ≡ p + (u + w) = omega arith in rw e at (turn-done g (omega (arith, full)))
-
-      told-so : EntryTold item (Good (seriesSizes a) false)
-      told-so = series-told item {x = true} refl refl walked refl
+      told-so : EntryTold series-item (Good (seriesSizes a) false)
+      told-so = series-told series-item {x = true} refl refl walked (ap (seriesFrom (u + w)) (sym good))
 
       pub series-small : Small a
-      series-small = few-more a at 65536 (omega (arith, full, packs-long, head-room, i .most)) (g .few)
+      series-small = subst (λ x. Within x 65536) good (within-more y (length packs) 65536 (omega (arith, packs-long, head-room, i .most)) (ey .1))
 
       -- z is what the code says of its sizes
       module _ {z : Sizes} (ez : z ≡ seriesSizes a) where
         pub series-sums : Small sum × Small z
-        series-sums = rw ez (good-small item told-so refl)
+        series-sums = rw ez (good-small series-item told-so refl)
 
-        pub series-more : {sum′ : Sizes} → sum′ ≡ plusSizes sum z → {low″ : ℕ} → (low″ ≤ low) × (low″ ≤ 101) → LevelGoing true f s (p + u + w + n) sum′ mark 101 low″
+        pub series-more : {sum′ : Sizes} → sum′ ≡ plusSizes sum z → {low′ : ℕ} → (low′ ≤ low) × (low′ ≤ 101) → LevelGoing true f s (p + u + w + n) sum′ mark 101 low′
         series-more es el =
             let e : p + u + w + n ≡ p + (u + w) + n = omega arith in
-            rw e (entry-more item told-so refl (es ∙ ap (plusSizes sum) ez) (or-false mark refl) (omega (arith, next .1), omega arith) el)
+            rw e (entry-more series-item told-so refl (es ∙ ap (plusSizes sum) ez) (or-false mark refl) (omega (arith, next .1), omega arith) el)
 
   -- ---- it is the checksum, and ends the set
 

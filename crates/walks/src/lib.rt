@@ -9,7 +9,7 @@ ghost use Rattle.format.specs.Table.{isSet, isAlone};
 ghost use Rattle.format.specs.Read.{item, parse};
 ghost use Rattle.items.specs.Meet.{formOf, levelOf, itemTable};
 ghost use Rattle.heads.specs.Meet.{peek, Past, Clear};
-ghost use Rattle.walks.specs.Going.{LevelGoing};
+ghost use Rattle.walks.specs.Going.{LevelGoing, SeriesGoing};
 ghost use Rattle.walks.specs.Meet.{pieceOf, pieceFault, itemSizes, stopAt, laterBy, seriesFrom, markTag, levelWalk, seriesWalk, Within};
 use heads::Head;
 use quick::Quick;
@@ -237,7 +237,11 @@ pub fn item_rest(table: &[u32], s: &[u8], set: bool, alone: bool, from: Quick) -
         let at = p + from;
         let next = at + size;
         let w = if is_series(set, tag) {
-            series_of(pack_walk(table, &s[at..next], alone), from)
+            let packs = &s[at..next];
+            series_of(
+                pack_walk(table, packs, alone, quick::packs(table, packs, alone)),
+                from,
+            )
         } else {
             one_item(set, tag, short)
         };
@@ -254,12 +258,11 @@ pub fn item_rest(table: &[u32], s: &[u8], set: bool, alone: bool, from: Quick) -
     Walked::Good { sizes: sum, mark }
 }
 
-// The packs of a series.
-pub fn pack_walk(table: &[u32], s: &[u8], alone: bool) -> Walked
-    requires { ⌜ (now table ≡ itemTable) × (length (now s) ≤ 8192) ⌝ }
+// The packs of a series, from where the quick way over them ended.
+pub fn pack_walk(table: &[u32], s: &[u8], alone: bool, q: Quick) -> Walked
+    requires { ⌜ (now table ≡ itemTable) × (length (now s) ≤ 8192) × SeriesGoing (formOf alone) (now s) (q .at) (q .sizes) (q .top) (q .low) ⌝ }
     ensures { λ r. ⌜ (r ≡ seriesWalk (formOf alone) (now (s .entry))) × Within r (length (now (s .entry))) ⌝ }
 {
-    let q = quick::packs(table, s, alone);
     let mut p = q.at;
     let mut sum = q.sizes;
     let mut top = q.top;

@@ -10,7 +10,7 @@ ghost use Rattle.format.specs.Packet.{checksum};
 ghost use Rattle.format.specs.Table.{set, standalone};
 ghost use Rattle.format.specs.Read.{opening, start, parse};
 ghost use Rattle.items.specs.Meet.{formOf, itemTable};
-ghost use Rattle.walks.specs.Meet.{checkedOf, levelWalk, Within};
+ghost use Rattle.walks.specs.Meet.{checkedOf, levelWalk, seriesWalk, Within};
 ghost use Rattle.walks.specs.Going.{LevelGoing};
 ghost use Rattle.walks.specs.Whole.{widthOf, numFault, walkFault, closingBy, fineOf};
 use super::Checked;
@@ -72,9 +72,9 @@ fn is_at(s: &[u8], p: usize, byte: u8) -> bool
     s[p] == byte
 }
 
-// Whether a tag is the series', and told to be new: items stand before it, and none has a tag so high.
-fn is_series_next(p: usize, top: u64, tag: u64) -> bool
-    ensures { λ r. ⌜ (r ≡ true → (0 < p) × (top < 101) × (tag ≡ 101)) ⌝ }
+// Whether a tag is the series', with a value, and told to be new: items stand before it, and none has a tag so high.
+fn is_series_next(p: usize, top: u64, tag: u64, size: usize) -> bool
+    ensures { λ r. ⌜ (r ≡ true → (0 < p) × (top < 101) × (0 < size) × (tag ≡ 101)) ⌝ }
 {
     if p == 0 {
         return false;
@@ -82,10 +82,27 @@ fn is_series_next(p: usize, top: u64, tag: u64) -> bool
     if 100 < top {
         return false;
     }
+    if size == 0 {
+        return false;
+    }
     tag == 101
 }
 
-// On over the series, if it stands next and all its packs are told at a glance.
+// The packs of a series: as far as they are told at a glance, then one by one.
+fn series_walk(table: &[u32], s: &[u8], alone: bool) -> Walked
+    requires { ⌜ (now table ≡ itemTable) × (length (now s) ≤ 8192) ⌝ }
+    ensures { λ r. ⌜ (r ≡ seriesWalk (formOf alone) (now (s .entry))) × Within r (length (now (s .entry))) ⌝ }
+{
+    let q = quick::packs(table, s, alone);
+    if q.at == s.len() {
+        let sizes = q.sizes;
+        return Walked::Good { sizes, mark: false };
+    }
+    // lent on as a part, so that the compiler keeps the slice itself in registers
+    super::pack_walk(table, &s[0..], alone, q)
+}
+
+// On over the series, if it stands next. A refusal in it is left to the item walk.
 fn series(table: &[u32], s: &[u8], alone: bool, q: Quick) -> Quick
     requires { ⌜ (now table ≡ itemTable) × (length (now s) ≤ 8192) × LevelGoing true (formOf alone) (now s) (q .at) (q .sizes) (q .mark) (q .top) (q .low) ⌝ }
     ensures { λ r. ⌜ LevelGoing true (formOf alone) (now (s .entry)) (r .at) (r .sizes) (r .mark) (r .top) (r .low) ⌝ }
@@ -104,20 +121,16 @@ fn series(table: &[u32], s: &[u8], alone: bool, q: Quick) -> Quick
     else {
         return q;
     };
-    if !is_series_next(p, q.top, key) {
+    if !is_series_next(p, q.top, key, size) {
         return q;
     }
     let from = p + used + width;
     let next = from + size;
-    let t = &s[from..next];
-    let w = quick::packs(table, t, alone);
-    if w.at == 0 {
+    let w = series_walk(table, &s[from..next], alone);
+    let Walked::Good { sizes, mark: _ } = w else {
         return q;
-    }
-    if w.at != t.len() {
-        return q;
-    }
-    let sum = super::weights::plus(q.sizes, super::weights::series_sizes(w.sizes));
+    };
+    let sum = super::weights::plus(q.sizes, super::weights::series_sizes(sizes));
     quick::stands(next, sum, q.mark, 101, super::smaller(q.low, 101))
 }
 
@@ -200,7 +213,7 @@ fn set_walk(table: &[u32], s: &[u8], alone: bool) -> Walked
     if q.at == s.len() {
         return walked(q);
     }
-    // lent on as a part, so that the compiler keeps the slice itself in registers
+    // as a part here too
     set_rest(table, &s[0..], alone, q)
 }
 

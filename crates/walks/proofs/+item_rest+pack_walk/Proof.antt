@@ -68,10 +68,10 @@ pack-walk-below t =
 
 -- what is known of the callees, the other walk's at a smaller measure
 abbrev item-claims : ℕ → item-rest-lts.Claims
-item-claims t = (onward-reads.Asked, onward-reads.Learnt, item-at-reads.Asked, item-at-reads.Learnt, stop-reads.Asked, stop-reads.Learnt, is-series-reads.Asked, is-series-reads.Learnt, pack-walk-below t, pack-walk.Post, series-of-reads.Asked, series-of-reads.Learnt, one-item-reads.Asked, one-item-reads.Learnt, later-reads.Asked, later-reads.Learnt, plus-reads.Asked, plus-reads.Learnt, either-reads.Asked, either-reads.Learnt, after-reads.Asked, after-reads.Learnt, larger-reads.Asked, larger-reads.Learnt, smaller-reads.Asked, smaller-reads.Learnt)
+item-claims t = (onward-reads.Asked, onward-reads.Learnt, item-at-reads.Asked, item-at-reads.Learnt, stop-reads.Asked, stop-reads.Learnt, is-series-reads.Asked, is-series-reads.Learnt, packs-reads.Asked, packs-reads.Learnt, pack-walk-below t, pack-walk.Post, series-of-reads.Asked, series-of-reads.Learnt, one-item-reads.Asked, one-item-reads.Learnt, later-reads.Asked, later-reads.Learnt, plus-reads.Asked, plus-reads.Learnt, either-reads.Asked, either-reads.Learnt, after-reads.Asked, after-reads.Learnt, larger-reads.Asked, larger-reads.Learnt, smaller-reads.Asked, smaller-reads.Learnt)
 
 abbrev pack-claims : ℕ → pack-walk-lts.Claims
-pack-claims t = (packs-reads.Asked, packs-reads.Learnt, quick-pack-head-reads.Asked, quick-pack-head-reads.Learnt, piece-fault-reads.Asked, piece-fault-reads.Learnt, stop-reads.Asked, stop-reads.Learnt, is-seen-reads.Asked, is-seen-reads.Learnt, run-reads.Asked, run-reads.Learnt, item-rest-below t, item-rest.Post, later-reads.Asked, later-reads.Learnt, either-reads.Asked, either-reads.Learnt, pack-sizes-reads.Asked, pack-sizes-reads.Learnt, plus-reads.Asked, plus-reads.Learnt, after-reads.Asked, after-reads.Learnt, larger-reads.Asked, larger-reads.Learnt, smaller-reads.Asked, smaller-reads.Learnt)
+pack-claims t = (quick-pack-head-reads.Asked, quick-pack-head-reads.Learnt, piece-fault-reads.Asked, piece-fault-reads.Learnt, stop-reads.Asked, stop-reads.Learnt, is-seen-reads.Asked, is-seen-reads.Learnt, run-reads.Asked, run-reads.Learnt, item-rest-below t, item-rest.Post, later-reads.Asked, later-reads.Learnt, either-reads.Asked, either-reads.Learnt, pack-sizes-reads.Asked, pack-sizes-reads.Learnt, plus-reads.Asked, plus-reads.Learnt, after-reads.Asked, after-reads.Learnt, larger-reads.Asked, larger-reads.Learnt, smaller-reads.Asked, smaller-reads.Learnt)
 
 -- ---- the item walk
 
@@ -104,7 +104,7 @@ item-told-at : (t : ℕ) (j : item-rest-lts.Joined1 (item-claims t) (item-rest-a
 item-told-at t j =
     let a = j .before .before .before in
     ⊎-elim
-    (λ x. series-told (item-here t a) (j .before .is-series .ensures) (x .0 .taken) (x .2 .ensures) (x .4 ∙ x .3 .ensures))
+    (λ x. series-told (item-here t a) (j .before .is-series .ensures) (x .0 .taken) (x .3 .ensures) (x .5 ∙ x .4 .ensures))
     (λ x. item-told (item-here t a) (j .before .is-series .ensures) (x .0 .left) (x .2 ∙ x .1 .ensures))
     (j .if1 .came)
 
@@ -138,25 +138,29 @@ item-rest-add-next t c = omega (arith, item-room t (c .before), c .before .befor
 item-rest-is-series-requires : (t : ℕ) → item-rest-lts.Need-is-series-requires (item-claims t) (item-rest-at t) item-rest.Post item-rest-Inv-loop item-rest-μ-loop
 item-rest-is-series-requires t c κs = search needs
 
-item-rest-sub-pack-walk : (t : ℕ) → item-rest-lts.Need-sub-pack-walk (item-claims t) (item-rest-at t) item-rest.Post item-rest-Inv-loop item-rest-μ-loop
-item-rest-sub-pack-walk t c = omega (arith, item-room t (c .before .before .before))
+item-rest-sub-packs : (t : ℕ) → item-rest-lts.Need-sub-packs (item-claims t) (item-rest-at t) item-rest.Post item-rest-Inv-loop item-rest-μ-loop
+item-rest-sub-packs t c = omega (arith, item-room t (c .before .before .before))
 
-item-rest-part-pack-walk-start : (t : ℕ) → item-rest-lts.Need-part-pack-walk-start (item-claims t) (item-rest-at t) item-rest.Post item-rest-Inv-loop item-rest-μ-loop
-item-rest-part-pack-walk-start t c = omega (arith, item-room t (c .before .before .before))
+item-rest-part-packs-start : (t : ℕ) → item-rest-lts.Need-part-packs-start (item-claims t) (item-rest-at t) item-rest.Post item-rest-Inv-loop item-rest-μ-loop
+item-rest-part-packs-start t c = omega (arith, item-room t (c .before .before .before))
 
-item-rest-part-pack-walk-end : (t : ℕ) → item-rest-lts.Need-part-pack-walk-end (item-claims t) (item-rest-at t) item-rest.Post item-rest-Inv-loop item-rest-μ-loop
-item-rest-part-pack-walk-end t c = omega (arith, item-room t (c .before .before .before))
+item-rest-part-packs-end : (t : ℕ) → item-rest-lts.Need-part-packs-end (item-claims t) (item-rest-at t) item-rest.Post item-rest-Inv-loop item-rest-μ-loop
+item-rest-part-packs-end t c = omega (arith, item-room t (c .before .before .before))
+
+item-rest-packs-requires : (t : ℕ) → item-rest-lts.Need-packs-requires (item-claims t) (item-rest-at t) item-rest.Post item-rest-Inv-loop item-rest-μ-loop
+item-rest-packs-requires t c κs =
+    let a = c .before .before .before .before in
+    (a .before .before .before .before .before .before .before .before .before .pre .1 .0, omega (arith, value-long (item-here t a), item-room t a, a .before .before .before .before .before .before .before .before .before .pre .1 .1))
 
 item-rest-pack-walk-requires : (t : ℕ) → item-rest-lts.Need-pack-walk-requires (item-claims t) (item-rest-at t) item-rest.Post item-rest-Inv-loop item-rest-μ-loop
 item-rest-pack-walk-requires t c κs =
-    let a = c .before .before .before .before in (
-      omega (arith, series-deep (a .before .before .before .before .before .before .before .before .before .args .set) (a .a .given .0 .0) (c .before .before .is-series .ensures) (c .before .if1 .taken), a .before .before .before .before .before .before .before .before .before .pre .0),
-      (a .before .before .before .before .before .before .before .before .before .pre .1 .0, omega (arith, value-long (item-here t a), item-room t a, a .before .before .before .before .before .before .before .before .before .pre .1 .1)),
-    )
+    let a = c .before .before .before .before .before in
+    let (b, l) = item-rest-packs-requires t (c .before) κs in
+    (omega (arith, series-deep (a .before .before .before .before .before .before .before .before .before .args .set) (a .a .given .0 .0) (c .before .before .before .is-series .ensures) (c .before .before .if1 .taken), a .before .before .before .before .before .before .before .before .before .pre .0), (b, l, c .packs2 .ensures))
 
 item-rest-series-of-requires : (t : ℕ) → item-rest-lts.Need-series-of-requires (item-claims t) (item-rest-at t) item-rest.Post item-rest-Inv-loop item-rest-μ-loop
 item-rest-series-of-requires t c κs =
-    let a = c .before .before .before .before .before in
+    let a = c .before .before .before .before .before .before in
     series-within (item-here t a) (c .pack-walk .result) (c .pack-walk .ensures .1)
 
 item-rest-one-item-requires : (t : ℕ) → item-rest-lts.Need-one-item-requires (item-claims t) (item-rest-at t) item-rest.Post item-rest-Inv-loop item-rest-μ-loop
@@ -222,27 +226,24 @@ pack-walk-μ-loop table s alone p₀ sum₀ top₀ low₀ clear₀ p sum top low
 
 -- a pack, where its head was read
 pack-here : (t : ℕ) (a : pack-walk-lts.After-h (pack-claims t) (pack-walk-at t) pack-walk.Post pack-walk-Inv-loop pack-walk-μ-loop)
-    → PackAt (formOf (a .before .before .before .before .before .before .before .before .before .before .args .alone)) (a .before .before .before .before .before .before .before .before .before .before .args .s .now) (a .before .before .before .before .before .loop .p) (a .before .before .before .before .before .loop .sum) (a .before .before .before .before .before .loop .top) (a .before .before .before .before .before .loop .low) (a .h .given .0 .0) (a .h .given .0 .1 .0) (a .h .given .0 .1 .1 .0) (a .h .given .0 .1 .1 .1 .0)
+    → PackAt (formOf (a .before .before .before .before .before .before .before .before .before .args .alone)) (a .before .before .before .before .before .before .before .before .before .args .s .now) (a .before .before .before .before .before .loop .p) (a .before .before .before .before .before .loop .sum) (a .before .before .before .before .before .loop .top) (a .before .before .before .before .before .loop .low) (a .h .given .0 .0) (a .h .given .0 .1 .0) (a .h .given .0 .1 .1 .0) (a .h .given .0 .1 .1 .1 .0)
 pack-here t a = record {
   going = a .before .before .before .before .before .loop .inv .0;
   here = a .before .before .before .before .loop-test .taken;
   it = a .before .before .quick-pack-head .result;
   told = a .before .before .quick-pack-head .ensures;
   is = a .h .given .1;
-  bytes = λ i. a .before .before .before .before .before .before .before .before .shared-slice-known2 .given i .fits;
-  most = a .before .before .before .before .before .before .before .before .before .before .pre .1 .1;
+  bytes = λ i. a .before .before .before .before .before .before .before .shared-slice-known2 .given i .fits;
+  most = a .before .before .before .before .before .before .before .before .before .pre .1 .1;
 }
 
 -- it lies within the bytes lent, and its id within the pack
 pack-room : (t : ℕ) (a : pack-walk-lts.After-h (pack-claims t) (pack-walk-at t) pack-walk.Post pack-walk-Inv-loop pack-walk-μ-loop)
-    → (a .before .before .before .before .before .loop .p + a .h .given .0 .1 .1 .0 + a .h .given .0 .1 .1 .1 .0 ≤ length (a .before .before .before .before .before .before .before .before .before .before .args .s .now)) × (a .h .given .0 .1 .0 ≤ a .h .given .0 .1 .1 .1 .0) × (length (a .before .before .before .before .before .before .before .before .before .before .args .s .now) ≤ 8192)
-pack-room t a = (head-room (pack-here t a), head-stood (pack-here t a) .body, a .before .before .before .before .before .before .before .before .before .before .pre .1 .1)
-
-pack-walk-packs-requires : (t : ℕ) → pack-walk-lts.Need-packs-requires (pack-claims t) (pack-walk-at t) pack-walk.Post pack-walk-Inv-loop pack-walk-μ-loop
-pack-walk-packs-requires t c κs = c .before .before .pre .1
+    → (a .before .before .before .before .before .loop .p + a .h .given .0 .1 .1 .0 + a .h .given .0 .1 .1 .1 .0 ≤ length (a .before .before .before .before .before .before .before .before .before .args .s .now)) × (a .h .given .0 .1 .0 ≤ a .h .given .0 .1 .1 .1 .0) × (length (a .before .before .before .before .before .before .before .before .before .args .s .now) ≤ 8192)
+pack-room t a = (head-room (pack-here t a), head-stood (pack-here t a) .body, a .before .before .before .before .before .before .before .before .before .pre .1 .1)
 
 pack-walk-loop-holds : (t : ℕ) → pack-walk-lts.Need-loop-holds (pack-claims t) (pack-walk-at t) pack-walk.Post pack-walk-Inv-loop pack-walk-μ-loop
-pack-walk-loop-holds t c = (c .before .packs .ensures, clear-none _ _)
+pack-walk-loop-holds t c = (c .before .before .before .pre .1 .2, clear-none _ _)
 
 pack-walk-sub-quick-pack-head : (t : ℕ) → pack-walk-lts.Need-sub-quick-pack-head (pack-claims t) (pack-walk-at t) pack-walk.Post pack-walk-Inv-loop pack-walk-μ-loop
 pack-walk-sub-quick-pack-head t c = search needs
@@ -272,7 +273,7 @@ pack-walk-returns : (t : ℕ) → pack-walk-lts.Need-returns (pack-claims t) (pa
 pack-walk-returns t c = head-fault _ (c .before .before .before .before .before .before .before .loop .inv .0) (c .before .before .before .before .before .before .loop-test .taken) _ (c .before .before .before .before .quick-pack-head .ensures) (c .before .before .enum-told .given .1) (c .before .piece-fault .ensures) (c .stop .ensures)
 
 pack-walk-is-seen-requires : (t : ℕ) → pack-walk-lts.Need-is-seen-requires (pack-claims t) (pack-walk-at t) pack-walk.Post pack-walk-Inv-loop pack-walk-μ-loop
-pack-walk-is-seen-requires t c κs = (c .before .before .before .before .before .before .loop .inv .0 .to, c .before .before .before .before .before .before .loop .inv .1, pack-key _ (c .before .before .before .before .before .before .before .before .before .before .before .args .s .now) (c .before .before .before .before .before .before .loop .p) (c .before .h .given .1) (c .before .before .before .quick-pack-head .ensures))
+pack-walk-is-seen-requires t c κs = (c .before .before .before .before .before .before .loop .inv .0 .to, c .before .before .before .before .before .before .loop .inv .1, pack-key _ (c .before .before .before .before .before .before .before .before .before .before .args .s .now) (c .before .before .before .before .before .before .loop .p) (c .before .h .given .1) (c .before .before .before .quick-pack-head .ensures))
 
 pack-walk-returns-2 : (t : ℕ) → pack-walk-lts.Need-returns-2 (pack-claims t) (pack-walk-at t) pack-walk.Post pack-walk-Inv-loop pack-walk-μ-loop
 pack-walk-returns-2 t c = id-again (pack-here t (c .before .before .before)) (c .before .is-seen .ensures) (c .if1 .taken) refl
@@ -299,12 +300,12 @@ pack-walk-part-items-end : (t : ℕ) → pack-walk-lts.Need-part-items-end (pack
 pack-walk-part-items-end t c = omega (arith, pack-room t (c .before .before .before))
 
 pack-walk-run-requires : (t : ℕ) → pack-walk-lts.Need-run-requires (pack-claims t) (pack-walk-at t) pack-walk.Post pack-walk-Inv-loop pack-walk-μ-loop
-pack-walk-run-requires t c κs = (c .before .before .before .before .before .before .before .before .before .before .before .before .before .before .pre .1 .0, omega (arith, lent-long (pack-here t (c .before .before .before .before)) (c .before .before .is-seen .ensures) (c .before .if1 .left), pack-room t (c .before .before .before .before)))
+pack-walk-run-requires t c κs = (c .before .before .before .before .before .before .before .before .before .before .before .before .before .pre .1 .0, omega (arith, lent-long (pack-here t (c .before .before .before .before)) (c .before .before .is-seen .ensures) (c .before .if1 .left), pack-room t (c .before .before .before .before)))
 
 pack-walk-item-rest-requires : (t : ℕ) → pack-walk-lts.Need-item-rest-requires (pack-claims t) (pack-walk-at t) pack-walk.Post pack-walk-Inv-loop pack-walk-μ-loop
 pack-walk-item-rest-requires t c κs =
     let (a, b) = pack-walk-run-requires t (c .before) κs in
-    (omega (arith, c .before .before .before .before .before .before .before .before .before .before .before .before .before .before .before .pre .0), (a, b, c .run .ensures .0))
+    (omega (arith, c .before .before .before .before .before .before .before .before .before .before .before .before .before .before .pre .0), (a, b, c .run .ensures .0))
 
 pack-walk-enum-known-w : (t : ℕ) → pack-walk-lts.Need-enum-known-w (pack-claims t) (pack-walk-at t) pack-walk.Post pack-walk-Inv-loop pack-walk-μ-loop
 pack-walk-enum-known-w t c = search needs
@@ -322,10 +323,10 @@ pack-walk-either-requires : (t : ℕ) → pack-walk-lts.Need-either-requires (pa
 pack-walk-either-requires t c κs = search needs
 
 pack-walk-pack-sizes-requires : (t : ℕ) → pack-walk-lts.Need-pack-sizes-requires (pack-claims t) (pack-walk-at t) pack-walk.Post pack-walk-Inv-loop pack-walk-μ-loop
-pack-walk-pack-sizes-requires t c κs = (head-stood (pack-here t (c .before .before .before .before .before .before .before .before .before .before .before)) .id-few, items-small (pack-here t (c .before .before .before .before .before .before .before .before .before .before .before)) (c .before .before .before .before .before .before .before .before .before .is-seen .ensures) (c .before .before .before .before .before .before .before .before .if1 .left) (c .before .before .before .before .before .item-rest .ensures) (c .before .before .before .w .given .1) (either-is (c .before .before .before .before .before .before .before .before .before .before .before .before .before .before .before .before .before .before .before .before .before .args .alone) _ (c .before .either .ensures)))
+pack-walk-pack-sizes-requires t c κs = (head-stood (pack-here t (c .before .before .before .before .before .before .before .before .before .before .before)) .id-few, items-small (pack-here t (c .before .before .before .before .before .before .before .before .before .before .before)) (c .before .before .before .before .before .before .before .before .before .is-seen .ensures) (c .before .before .before .before .before .before .before .before .if1 .left) (c .before .before .before .before .before .item-rest .ensures) (c .before .before .before .w .given .1) (either-is (c .before .before .before .before .before .before .before .before .before .before .before .before .before .before .before .before .before .before .before .before .args .alone) _ (c .before .either .ensures)))
 
 pack-walk-plus-requires : (t : ℕ) → pack-walk-lts.Need-plus-requires (pack-claims t) (pack-walk-at t) pack-walk.Post pack-walk-Inv-loop pack-walk-μ-loop
-pack-walk-plus-requires t c κs = pack-small (pack-here t (c .before .before .before .before .before .before .before .before .before .before .before .before)) (c .before .before .before .before .before .before .before .before .before .before .is-seen .ensures) (c .before .before .before .before .before .before .before .before .before .if1 .left) (c .before .before .before .before .before .before .item-rest .ensures) (c .before .before .before .before .w .given .1) (either-is (c .before .before .before .before .before .before .before .before .before .before .before .before .before .before .before .before .before .before .before .before .before .before .args .alone) _ (c .before .before .either .ensures)) (c .pack-sizes .ensures)
+pack-walk-plus-requires t c κs = pack-small (pack-here t (c .before .before .before .before .before .before .before .before .before .before .before .before)) (c .before .before .before .before .before .before .before .before .before .before .is-seen .ensures) (c .before .before .before .before .before .before .before .before .before .if1 .left) (c .before .before .before .before .before .before .item-rest .ensures) (c .before .before .before .before .w .given .1) (either-is (c .before .before .before .before .before .before .before .before .before .before .before .before .before .before .before .before .before .before .before .before .before .args .alone) _ (c .before .before .either .ensures)) (c .pack-sizes .ensures)
 
 pack-walk-after-requires : (t : ℕ) → pack-walk-lts.Need-after-requires (pack-claims t) (pack-walk-at t) pack-walk.Post pack-walk-Inv-loop pack-walk-μ-loop
 pack-walk-after-requires t c κs = c .before .before .before .before .before .before .before .before .before .before .before .before .before .before .before .before .before .before .loop .inv .1
@@ -340,10 +341,10 @@ pack-walk-loop-less : (t : ℕ) → pack-walk-lts.Need-loop-less (pack-claims t)
 pack-walk-loop-less t c = omega (arith, head-stood (pack-here t (c .before .before .before .before .before .before .before .before .before .before .before .before .before .before .before .before)) .len, c .before .before .before .before .before .before .before .before .before .before .before .before .before .before .before .before .before .before .before .before .loop-test .taken)
 
 pack-walk-loop-again : (t : ℕ) → pack-walk-lts.Need-loop-again (pack-claims t) (pack-walk-at t) pack-walk.Post pack-walk-Inv-loop pack-walk-μ-loop
-pack-walk-loop-again t c = (pack-more (pack-here t (c .before .before .before .before .before .before .before .before .before .before .before .before .before .before .before .before)) (c .before .before .before .before .before .before .before .before .before .before .before .before .before .before .is-seen .ensures) (c .before .before .before .before .before .before .before .before .before .before .before .before .before .if1 .left) (c .before .before .before .before .before .before .before .before .before .before .item-rest .ensures) (c .before .before .before .before .before .before .before .before .w .given .1) (either-is (c .before .before .before .before .before .before .before .before .before .before .before .before .before .before .before .before .before .before .before .before .before .before .before .before .before .before .args .alone) _ (c .before .before .before .before .before .before .either .ensures)) (c .before .before .before .before .before .if2 .taken) (c .before .before .before .plus .ensures ∙ ap (plusSizes _) (c .before .before .before .before .pack-sizes .ensures)) (c .before .larger .ensures) (c .smaller .ensures), c .before .before .after .ensures)
+pack-walk-loop-again t c = (pack-more (pack-here t (c .before .before .before .before .before .before .before .before .before .before .before .before .before .before .before .before)) (c .before .before .before .before .before .before .before .before .before .before .before .before .before .before .is-seen .ensures) (c .before .before .before .before .before .before .before .before .before .before .before .before .before .if1 .left) (c .before .before .before .before .before .before .before .before .before .before .item-rest .ensures) (c .before .before .before .before .before .before .before .before .w .given .1) (either-is (c .before .before .before .before .before .before .before .before .before .before .before .before .before .before .before .before .before .before .before .before .before .before .before .before .before .args .alone) _ (c .before .before .before .before .before .before .either .ensures)) (c .before .before .before .before .before .if2 .taken) (c .before .before .before .plus .ensures ∙ ap (plusSizes _) (c .before .before .before .before .pack-sizes .ensures)) (c .before .larger .ensures) (c .smaller .ensures), c .before .before .after .ensures)
 
 pack-walk-returns-4 : (t : ℕ) → pack-walk-lts.Need-returns-4 (pack-claims t) (pack-walk-at t) pack-walk.Post pack-walk-Inv-loop pack-walk-μ-loop
-pack-walk-returns-4 t c = no-location (pack-here t (c .before .before .before .before .before .before .before .before .before .before .before)) (c .before .before .before .before .before .before .before .before .before .is-seen .ensures) (c .before .before .before .before .before .before .before .before .if1 .left) (c .before .before .before .before .before .item-rest .ensures) (c .before .before .before .w .given .1) (either-is (c .before .before .before .before .before .before .before .before .before .before .before .before .before .before .before .before .before .before .before .before .before .args .alone) _ (c .before .either .ensures)) (c .if2 .left) refl
+pack-walk-returns-4 t c = no-location (pack-here t (c .before .before .before .before .before .before .before .before .before .before .before)) (c .before .before .before .before .before .before .before .before .before .is-seen .ensures) (c .before .before .before .before .before .before .before .before .if1 .left) (c .before .before .before .before .before .item-rest .ensures) (c .before .before .before .w .given .1) (either-is (c .before .before .before .before .before .before .before .before .before .before .before .before .before .before .before .before .before .before .before .before .args .alone) _ (c .before .either .ensures)) (c .if2 .left) refl
 
 pack-walk-returns-5 : (t : ℕ) → pack-walk-lts.Need-returns-5 (pack-claims t) (pack-walk-at t) pack-walk.Post pack-walk-Inv-loop pack-walk-μ-loop
 pack-walk-returns-5 t c = turn-done (c .before .loop .inv .0) (c .loop-test .left)
@@ -354,13 +355,13 @@ pub +item-rest+pack-walk-spec : {M : Type 1} → statement M
     (λ t. item-rest-lts.spec (item-claims t) (item-rest-at t) item-rest.Post item-rest-Inv-loop item-rest-μ-loop
     (item-rest-onward-requires t) (item-rest-loop-holds t) (item-rest-item-at-requires t) (item-rest-enum-known-a t) (item-rest-enum-told t)
     (item-rest-stop-requires t) (item-rest-returns t) (item-rest-add-at t) (item-rest-add-next t)
-    (item-rest-is-series-requires t) (item-rest-sub-pack-walk t) (item-rest-part-pack-walk-start t) (item-rest-part-pack-walk-end t)
-    (item-rest-pack-walk-requires t) (item-rest-series-of-requires t) (item-rest-one-item-requires t) (item-rest-enum-known-w t)
+    (item-rest-is-series-requires t) (item-rest-sub-packs t) (item-rest-part-packs-start t) (item-rest-part-packs-end t)
+    (item-rest-packs-requires t) (item-rest-pack-walk-requires t) (item-rest-series-of-requires t) (item-rest-one-item-requires t) (item-rest-enum-known-w t)
     (item-rest-enum-told-2 t) (item-rest-later-requires t) (item-rest-returns-2 t) (item-rest-plus-requires t)
     (item-rest-either-requires t) (item-rest-after-requires t) (item-rest-larger-requires t) (item-rest-smaller-requires t) (item-rest-loop-less t)
     (item-rest-loop-again t) (item-rest-returns-3 t))
     (λ t. pack-walk-lts.spec (pack-claims t) (pack-walk-at t) pack-walk.Post pack-walk-Inv-loop pack-walk-μ-loop
-    (pack-walk-packs-requires t) (pack-walk-loop-holds t) (pack-walk-sub-quick-pack-head t) (pack-walk-part-quick-pack-head-start t)
+    (pack-walk-loop-holds t) (pack-walk-sub-quick-pack-head t) (pack-walk-part-quick-pack-head-start t)
     (pack-walk-part-quick-pack-head-end t) (pack-walk-quick-pack-head-requires t) (pack-walk-enum-known-h t) (pack-walk-enum-told t)
     (pack-walk-piece-fault-requires t) (pack-walk-stop-requires t) (pack-walk-returns t) (pack-walk-is-seen-requires t)
     (pack-walk-returns-2 t) (pack-walk-add-from t) (pack-walk-add-from-2 t) (pack-walk-add-next t)

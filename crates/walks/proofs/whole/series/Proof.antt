@@ -8,19 +8,19 @@ use Rattle.walks.proofs.Sets.{HeadAt, head-room, packs-long, series-sma
 use Rattle.walks.proofs.whole.series.Reads as reads
 use Rattle.walks.proofs.whole.series.Lts as lts
 use Rattle.heads.proofs.item_head.Reads as item-head-reads
-use Rattle.walks.proofs.quick.packs.Reads as packs-reads
 use Rattle.walks.proofs.quick.stands.Reads as stands-reads
 use Rattle.walks.proofs.smaller.Reads as smaller-reads
 use Rattle.walks.proofs.weights.plus.Reads as plus-reads
 use Rattle.walks.proofs.weights.series_sizes.Reads as series-sizes-reads
 use Rattle.walks.proofs.whole.is_at.Reads as is-at-reads
 use Rattle.walks.proofs.whole.is_series_next.Reads as is-series-next-reads
+use Rattle.walks.proofs.whole.series_walk.Reads as series-walk-reads
 use borrow.Author.Needs.{needs}
 use Rattle.walks.proofs.whole.series.Statement.{statement}
 use Rattle.walks.proofs.whole.series.Tie as tie
 
 abbrev Head-read : Type 0
-Head-read = lts.After-h (is-at-reads.Asked, is-at-reads.Learnt, item-head-reads.Asked, item-head-reads.Learnt, is-series-next-reads.Asked, is-series-next-reads.Learnt, packs-reads.Asked, packs-reads.Learnt, series-sizes-reads.Asked, series-sizes-reads.Learnt, plus-reads.Asked, plus-reads.Learnt, smaller-reads.Asked, smaller-reads.Learnt, stands-reads.Asked, stands-reads.Learnt) reads.Pre reads.Post
+Head-read = lts.After-h (is-at-reads.Asked, is-at-reads.Learnt, item-head-reads.Asked, item-head-reads.Learnt, is-series-next-reads.Asked, is-series-next-reads.Learnt, series-walk-reads.Asked, series-walk-reads.Learnt, series-sizes-reads.Asked, series-sizes-reads.Learnt, plus-reads.Asked, plus-reads.Learnt, smaller-reads.Asked, smaller-reads.Learnt, stands-reads.Asked, stands-reads.Learnt) reads.Pre reads.Post
 
 here : (a : Head-read) → HeadAt (formOf (a .before .before .before .before .before .before .before .before .args .alone)) (a .before .before .before .before .before .before .before .before .args .s .now) (a .before .before .before .before .before .before .before .before .args .q .at) (a .before .before .before .before .before .before .before .before .args .q .sizes) (a .before .before .before .before .before .before .before .before .args .q .mark) (a .before .before .before .before .before .before .before .before .args .q .top) (a .before .before .before .before .before .before .before .before .args .q .low) (a .h .given .0 .0) (a .h .given .0 .1 .0) (a .h .given .0 .1 .1 .0) (a .h .given .0 .1 .1 .1 .0)
 here a = record {
@@ -79,29 +79,32 @@ add-from-2 c = omega (arith, room (c .before .before .before))
 add-next : tie.Need-add-next
 add-next c = omega (arith, room (c .before .before .before))
 
-sub-t : tie.Need-sub-t
-sub-t c = omega (arith, room (c .before .before .before))
+sub-series-walk : tie.Need-sub-series-walk
+sub-series-walk c = omega (arith, room (c .before .before .before))
 
-part-t-start : tie.Need-part-t-start
-part-t-start c = omega (arith, room (c .before .before .before))
+part-series-walk-start : tie.Need-part-series-walk-start
+part-series-walk-start c = omega (arith, room (c .before .before .before))
 
-part-t-end : tie.Need-part-t-end
-part-t-end c = omega (arith, room (c .before .before .before))
+part-series-walk-end : tie.Need-part-series-walk-end
+part-series-walk-end c = omega (arith, room (c .before .before .before))
 
-packs-requires : tie.Need-packs-requires
-packs-requires c κs = (c .before .before .before .before .before .before .before .before .before .before .before .before .pre .0, omega (arith, packs-long (here (c .before .before .before .before)) (c .before .before .is-series-next .ensures (not-false _ (c .before .if2 .left))), room (c .before .before .before .before)))
+series-walk-requires : tie.Need-series-walk-requires
+series-walk-requires c κs = (c .before .before .before .before .before .before .before .before .before .before .before .before .pre .0, omega (arith, packs-long (here (c .before .before .before .before)) (c .before .before .is-series-next .ensures (not-false _ (c .before .if2 .left))), room (c .before .before .before .before)))
+
+enum-known-w : tie.Need-enum-known-w
+enum-known-w c = search needs
+
+enum-told-2 : tie.Need-enum-told-2
+enum-told-2 c = search needs
 
 returns-4 : tie.Need-returns-4
 returns-4 c = c .before .before .before .before .before .before .before .before .before .before .before .before .before .before .before .pre .2
 
-returns-5 : tie.Need-returns-5
-returns-5 c = c .before .before .before .before .before .before .before .before .before .before .before .before .before .before .before .before .before .pre .2
-
 series-sizes-requires : tie.Need-series-sizes-requires
-series-sizes-requires c κs = series-small (here (c .before .before .before .before .before .before .before .before .before)) (c .before .before .before .before .before .before .before .is-series-next .ensures (not-false _ (c .before .before .before .before .before .before .if2 .left))) (c .before .before .before .before .packs .ensures) (omega (arith, c .if4 .left)) (c .before .before .if3 .left)
+series-sizes-requires c κs = series-small (here (c .before .before .before .before .before .before .before .before)) (c .before .before .before .before .before .before .is-series-next .ensures (not-false _ (c .before .before .before .before .before .if2 .left))) (c .before .before .before .series-walk .ensures) (c .before .w .given .1)
 
 plus-requires : tie.Need-plus-requires
-plus-requires c κs = series-sums (here (c .before .before .before .before .before .before .before .before .before .before)) (c .before .before .before .before .before .before .before .before .is-series-next .ensures (not-false _ (c .before .before .before .before .before .before .before .if2 .left))) (c .before .before .before .before .before .packs .ensures) (omega (arith, c .before .if4 .left)) (c .before .before .before .if3 .left) (c .series-sizes .ensures)
+plus-requires c κs = series-sums (here (c .before .before .before .before .before .before .before .before .before)) (c .before .before .before .before .before .before .before .is-series-next .ensures (not-false _ (c .before .before .before .before .before .before .if2 .left))) (c .before .before .before .before .series-walk .ensures) (c .before .before .w .given .1) (c .series-sizes .ensures)
 
 smaller-requires : tie.Need-smaller-requires
 smaller-requires c κs = search needs
@@ -109,8 +112,8 @@ smaller-requires c κs = search needs
 stands-requires : tie.Need-stands-requires
 stands-requires c κs = search needs
 
-returns-6 : tie.Need-returns-6
-returns-6 c = rw (c .stands .ensures) (series-more (here (c .before .before .before .before .before .before .before .before .before .before .before .before .before)) (c .before .before .before .before .before .before .before .before .before .before .before .is-series-next .ensures (not-false _ (c .before .before .before .before .before .before .before .before .before .before .if2 .left))) (c .before .before .before .before .before .before .before .before .packs .ensures) (omega (arith, c .before .before .before .before .if4 .left)) (c .before .before .before .before .before .before .if3 .left) (c .before .before .before .series-sizes .ensures) (c .before .before .plus .ensures) (c .before .smaller .ensures))
+returns-5 : tie.Need-returns-5
+returns-5 c = rw (c .stands .ensures) (series-more (here (c .before .before .before .before .before .before .before .before .before .before .before .before)) (c .before .before .before .before .before .before .before .before .before .before .is-series-next .ensures (not-false _ (c .before .before .before .before .before .before .before .before .before .if2 .left))) (c .before .before .before .before .before .before .before .series-walk .ensures) (c .before .before .before .before .before .w .given .1) (c .before .before .before .series-sizes .ensures) (c .before .before .plus .ensures) (c .before .smaller .ensures))
 
 pub series-spec : {M : Type 1} → statement M
 series-spec =
@@ -130,14 +133,15 @@ series-spec =
     add-from
     add-from-2
     add-next
-    sub-t
-    part-t-start
-    part-t-end
-    packs-requires
+    sub-series-walk
+    part-series-walk-start
+    part-series-walk-end
+    series-walk-requires
+    enum-known-w
+    enum-told-2
     returns-4
-    returns-5
     series-sizes-requires
     plus-requires
     smaller-requires
     stands-requires
-    returns-6)
+    returns-5)

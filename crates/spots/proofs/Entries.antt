@@ -2,7 +2,6 @@
 use mathlib.Core.Path.{_≡_, refl, sym, ap, _∙_, subst}
 use Prim.Native.Nat.{ℕ, _+_, _-_, _≤_, _<_}
 use native.Mathlib.Omega.{arith}
-use native.Mathlib.Nat.{add-assoc}
 use mathlib.Core.Bool.{Bool, true, false, _&&_}
 use mathlib.Core.List.{List, [], _∷_, _++_, map}
 use lib.ListN.{length, take, drop, length-drop}
@@ -10,18 +9,19 @@ use lib.Seq.{drop-drop}
 use lib.Dec.{eqb}
 use borrow.Author.Tests.{eqb-true, eq-eqb, ne-eqb}
 use Rattle.format.specs.Answer.{ok, Got, got}
-use Rattle.format.specs.Coding.{Bytes}
+use Rattle.format.specs.Coding.{Bytes, oidBytes}
 use Rattle.format.specs.Lists.{flatAll}
 use Rattle.format.specs.Table.{Form, Level, set, pack, isSet}
 use Rattle.format.specs.Packet.{Item, Pack, Entry, plain, series, tagOfEntry, flatItem, flatEntry}
 use Rattle.format.specs.Run.{always}
-use Rattle.format.specs.Read.{headOf, entry}
+use Rattle.format.specs.Read.{headOf, item, entry}
 use Rattle.format.specs.Edit.{isSeries}
 use Rattle.format.proofs.words.Answers.{no-bool, bind-then, ok-inj, and-both}
-use Rattle.format.proofs.words.Bytes.{bytes-drop}
+use Rattle.format.proofs.words.Bytes.{took-length, bytes-drop}
+use Rattle.format.proofs.words.Keys.{all-map}
 use Rattle.format.proofs.coding.Oids.{oid-some}
 use Rattle.format.proofs.reading.Runs.{Faithful}
-use Rattle.format.proofs.reading.Items.{length-item, item-says}
+use Rattle.format.proofs.reading.Items.{itemAt, length-item, head-says, item-says}
 use Rattle.format.proofs.reading.Entries.{seriesItem, series-flat, plain-flat, entry-says}
 use Rattle.coding.proofs.Rooms.{tail-part}
 use Rattle.heads.specs.declared.Head.{Head}
@@ -31,9 +31,9 @@ use Rattle.walks.specs.Meet.{deepenAt, stepAt}
 use Rattle.walks.specs.Runs.{Ran, levelRun, seriesRun}
 use Rattle.walks.proofs.Steps.{EntryHere, entry-here, no-head-entry}
 use Rattle.spots.specs.declared.Spot.{Spot}
-use Rattle.spots.specs.Meet.{spot, spotIn, thingsOf, hasTag, entriesOf, entrySpot}
-use Rattle.spots.proofs.Splices.{all-map, Hit, Absent, spot-hits, spot-misses, spot-present, spot-absent, hit-spot, spot-room}
-use Rattle.spots.proofs.Seeks.{ran-ok, Stands, ReadAll, read-all, Seeking, seek-start, Next, next-here, seek-done, seek-found, seek-more, stands-hit}
+use Rattle.spots.specs.Meet.{spot, noSpot, spotIn, thingsOf, hasItem, hasTag, entriesOf, itemLead, entryLead, itemSpot, entrySpot}
+use Rattle.spots.proofs.Splices.{Missed, Hit, standing, hit-spot, spot-present, spot-absent, spot-room}
+use Rattle.spots.proofs.Seeks.{ran-ok, Stands, stands, ReadAll, read-all, Seeking, seek-start, Next, next-here, seek-done, seek-found, seek-more, part-at}
 
 -- ---- what a level's run read
 
@@ -62,13 +62,13 @@ unfolding flatAll flatEntry
 plain-flats [] = refl
 plain-flats (i ∷ is) = ap (λ r. flatItem i ++ r) (plain-flats is)
 
-plain-spot : (tag k : ℕ) (is : List Item) → spotIn (hasTag tag) flatEntry k (map plain is) ≡ spotIn (λ i. eqb (i .tag) tag) flatItem k is
+plain-spot : (tag k : ℕ) (is : List Item) → spotIn (hasTag tag) flatEntry entryLead entryLead k (map plain is) ≡ spotIn (hasItem tag) flatItem itemLead itemLead k is
 unfolding spotIn flatEntry
 plain-spot tag k [] = refl
 plain-spot tag k (i ∷ is) = go (plain-spot tag (k + length (flatItem i)) is) (eqb (i .tag) tag) refl
   where
-    go : spotIn (hasTag tag) flatEntry (k + length (flatItem i)) (map plain is) ≡ spotIn (λ i. eqb (i .tag) tag) flatItem (k + length (flatItem i)) is
-        → (b : Bool) → eqb (i .tag) tag ≡ b → spotIn (hasTag tag) flatEntry k (plain i ∷ map plain is) ≡ spotIn (λ i. eqb (i .tag) tag) flatItem k (i ∷ is)
+    go : spotIn (hasTag tag) flatEntry entryLead entryLead (k + length (flatItem i)) (map plain is) ≡ spotIn (hasItem tag) flatItem itemLead itemLead (k + length (flatItem i)) is
+        → (b : Bool) → eqb (i .tag) tag ≡ b → spotIn (hasTag tag) flatEntry entryLead entryLead k (plain i ∷ map plain is) ≡ spotIn (hasItem tag) flatItem itemLead itemLead k (i ∷ is)
     go ih true z = rw (z, spotIn)
     go ih false z = rw (z, spotIn) ih
 
@@ -79,20 +79,23 @@ module _ (f : Form) (s : List ℕ) (is : List Item) {es : Got (List Entry)} (e :
   pub items-flat : Bytes s → flatAll flatItem is ≡ s
   items-flat b = sym (plain-flats is) ∙ ap (flatAll flatEntry) (sym items-are) ∙ entries-flat pack f s b (ran-ok (levelRun pack f s) e)
 
-  pub items-spot : (tag : ℕ) → entrySpot pack f tag s ≡ spotIn (λ i. eqb (i .tag) tag) flatItem 0 is
-  items-spot tag = ap (spotIn (hasTag tag) flatEntry 0) items-are ∙ plain-spot tag 0 is
+  pub items-spot : (tag : ℕ) → entrySpot pack f tag s ≡ itemSpot tag is
+  items-spot tag = ap (spotIn (hasTag tag) flatEntry entryLead entryLead 0) items-are ∙ plain-spot tag 0 is
 
 -- ---- an entry that stands at a, and the head that the code read there
 
 abbrev EntryStands : Level → Form → List ℕ → ℕ → Entry → Type 0
 EntryStands l f s a x = Stands tagOfEntry (stepAt l f) flatEntry s a x
 
-here-tag : (l : Level) (f : Form) (u : List ℕ) (key used width size : ℕ) (r : Got Entry) → EntryHere l f u key used width size r → tagOfEntry (r .val) ≡ key
-here-tag l f u key used width size r k = go (isSet l && eqb key 101) refl
+-- its tag, and its bytes before its value
+here-keys : (l : Level) (f : Form) (u : List ℕ) (key used width size : ℕ) (r : Got Entry) → EntryHere l f u key used width size r → (tagOfEntry (r .val) ≡ key) × (entryLead (r .val) ≡ used + width)
+here-keys l f u key used width size r k = go (isSet l && eqb key 101) refl
   where
-    go : (z : Bool) → isSet l && eqb key 101 ≡ z → tagOfEntry (r .val) ≡ key
-    go true z = ap tagOfEntry (k .packs z .1) ∙ sym (eqb-true key 101 (and-both (isSet l) (eqb key 101) z .1))
-    go false z = ap tagOfEntry (k .one z)
+    go : (z : Bool) → isSet l && eqb key 101 ≡ z → (tagOfEntry (r .val) ≡ key) × (entryLead (r .val) ≡ used + width)
+    go true z =
+        let e : 101 ≡ key = sym (eqb-true key 101 (and-both (isSet l) (eqb key 101) z .1)) in
+        (ap tagOfEntry (k .packs z .1) ∙ e, ap entryLead (k .packs z .1) ∙ ap (λ n. length (oidBytes n) + width) e ∙ ap (λ n. n + width) (k .oid))
+    go false z = (ap tagOfEntry (k .one z), ap entryLead (k .one z) ∙ ap (λ n. n + width) (k .oid))
 
 module _ (l : Level) (f : Form) (s : List ℕ) (a : ℕ) (x : Entry) (w : EntryStands l f s a x) (h : Head) (eh : itemHeadOf h ≡ headOf l (take (length s - a) (drop a s))) where
   no-head : {X : Type 0} {n : ℕ} → h ≡ heads.Fault n → X
@@ -125,8 +128,8 @@ module _ {l : Level} {f : Form} {tag : ℕ} {s : List ℕ} {p : ℕ} (i : EntryT
   all-read : EntriesRead l f s
   all-read = entries-read l f s (i .bytes) (i .asked .1)
 
-  pub entry-done : length s ≤ p → spot p 0 ≡ entrySpot l f tag s
-  entry-done h = seek-done tagOfEntry (stepAt l f) flatEntry (hasTag tag) all-read (i .going) h
+  pub entry-done : length s ≤ p → noSpot p ≡ entrySpot l f tag s
+  entry-done h = seek-done tagOfEntry (stepAt l f) flatEntry (hasTag tag) all-read (i .going) entryLead entryLead h
 
 module _ {l : Level} {f : Form} {tag : ℕ} {s : List ℕ} {p : ℕ} {h : Head} (i : EntryAt l f tag s p h) where
   next : Next tagOfEntry (stepAt l f) flatEntry (hasTag tag) (all-read (i .turn)) (i .turn .going)
@@ -139,77 +142,115 @@ module _ {l : Level} {f : Form} {tag : ℕ} {s : List ℕ} {p : ℕ} {h : Head} 
     stood : EntryHere l f (drop p s) key used width size (got (next .it) (length (flatEntry (next .it))))
     stood = head-here l f s p (next .it) (next .here) h (i .reads) (i .turn .bytes) t
 
-    key-is : tagOfEntry (next .it) ≡ key
-    key-is = here-tag l f (drop p s) key used width size _ stood
+    keys : (tagOfEntry (next .it) ≡ key) × (entryLead (next .it) ≡ used + width)
+    keys = here-keys l f (drop p s) key used width size _ stood
 
-    pub entry-room : (p + (used + width + size) ≤ length s) × (0 < used) × (length s ≤ 8192)
+    pub entry-room : (p + used + width + size ≤ length s) × (0 < used) × (length s ≤ 8192)
     entry-room = (omega (arith, stood .room, length-drop p s, i .here), stood .head, i .turn .asked .0)
 
-    pub entry-found : key ≡ tag → spot p (used + width + size) ≡ entrySpot l f tag s
-    entry-found e = seek-found tagOfEntry (stepAt l f) flatEntry (hasTag tag) (all-read (i .turn)) (i .turn .going) next (eq-eqb _ _ (key-is ∙ e)) (sym (stood .used-is))
+    next-is : p + used + width + size ≡ p + length (flatEntry (next .it))
+    next-is = omega (arith, stood .used-is)
 
-    pub entry-more : (key ≡ tag → ⊥) → EntryTurn l f tag s (p + (used + width + size))
+    pub entry-found : key ≡ tag → spot p (p + used + width) (p + used + width) (p + used + width + size) ≡ entrySpot l f tag s
+    entry-found e =
+        let from : p + used + width ≡ p + entryLead (next .it) = omega (arith, keys .1) in
+        seek-found tagOfEntry (stepAt l f) flatEntry (hasTag tag) (all-read (i .turn)) (i .turn .going) entryLead entryLead next (eq-eqb _ _ (keys .0 ∙ e)) from from next-is
+
+    pub entry-more : (key ≡ tag → ⊥) → EntryTurn l f tag s (p + used + width + size)
     entry-more n = record {
-      going = seek-more tagOfEntry (stepAt l f) flatEntry (hasTag tag) (all-read (i .turn)) (i .turn .going) next (ne-eqb _ _ (λ e. n (sym key-is ∙ e))) (sym (stood .used-is));
+      going = seek-more tagOfEntry (stepAt l f) flatEntry (hasTag tag) (all-read (i .turn)) (i .turn .going) next (ne-eqb _ _ (λ e. n (sym (keys .0) ∙ e))) next-is;
       bytes = i .turn .bytes;
       asked = i .turn .asked;
     }
 
 -- ---- what stands at a tag's spot
 
-module _ (l : Level) (f : Form) (tag : ℕ) (s : List ℕ) (b : Bytes s) (r : Ran (levelRun l f s)) {a : Spot} (e : a ≡ entrySpot l f tag s) where
-  pub tag-within : a .at + a .size ≤ length s
-  tag-within = rw e (omega (arith, spot-room (hasTag tag) flatEntry (entriesOf l f s), ap length (entries-flat l f s b r)))
+module _ (l : Level) (f : Form) (tag : ℕ) (s : List ℕ) {a : Spot} (e : a ≡ entrySpot l f tag s) where
+  pub tag-within : Bytes s → Ran (levelRun l f s) → (a .at ≤ a .next) × (a .next ≤ length s)
+  tag-within b r =
+      let (p, q) = spot-room (hasTag tag) flatEntry entryLead entryLead (entriesOf l f s) in
+      rw e (p, omega (arith, q, ap length (entries-flat l f s b r)))
 
-  pub tag-absent : a .size ≡ 0 → Absent (hasTag tag) flatEntry (entriesOf l f s) × (a .at ≡ length s)
-  tag-absent z =
-      let k = spot-absent (hasTag tag) flatEntry entry-some (entriesOf l f s) (rw e at z) in
-      (k, ap (λ x. x .at) e ∙ k .at-is ∙ ap length (entries-flat l f s b r))
+  pub tag-absent : a .next ≤ a .at → Missed (hasTag tag) (entriesOf l f s)
+  tag-absent h = spot-absent (hasTag tag) flatEntry entryLead entryLead (entriesOf l f s) e entry-some h
 
--- the code found a, and read h there
-pub record TagFound (l : Level) (f : Form) (tag : ℕ) (s : List ℕ) (a : Spot) (h : Head) : Type 0 where
+-- the code found a
+pub record TagFound (l : Level) (f : Form) (tag : ℕ) (s : List ℕ) (a : Spot) : Type 0 where
   pub bytes : Bytes s
   pub ran : Ran (levelRun l f s)
   pub spot-is : a ≡ entrySpot l f tag s
-  pub some : 0 < a .size
-  pub reads : itemHeadOf h ≡ headOf l (take (length s - a .at) (drop (a .at) s))
+  pub some : a .at ≡ a .next → ⊥
 
-module _ {l : Level} {f : Form} {tag : ℕ} {s : List ℕ} {a : Spot} {h : Head} (i : TagFound l f tag s a h) where
-  pub tag-hit : Hit (hasTag tag) flatEntry (entriesOf l f s)
-  tag-hit = spot-present (hasTag tag) flatEntry entry-some (entriesOf l f s) (rw (i .spot-is) at (i .some))
+-- the head of what a step read
+record Headed (l : Level) (f : Form) (u : List ℕ) (r : Got Entry) : Type 0 where
+  key : ℕ
+  used : ℕ
+  width : ℕ
+  size : ℕ
+  here : EntryHere l f u key used width size r
 
-  tag-stands : EntryStands l f s (a .at) (tag-hit .it)
-  tag-stands = subst (λ x. EntryStands l f s (x .at) (tag-hit .it)) (sym (i .spot-is)) (stands-hit tagOfEntry (stepAt l f) flatEntry (hasTag tag) (entries-read l f s (i .bytes) (i .ran)) tag-hit)
+headed : (l : Level) (f : Form) (seen u : List ℕ) → Bytes u → (r : Got Entry) → stepAt l f seen u ≡ ok r → Headed l f u r
+unfolding stepAt item
+headed l f seen u b r e =
+    bind-then _ _ _ e λ i ei _.
+    bind-then _ _ _ ei λ h eh _.
+    let k = head-says l u h b eh in
+    let z : h .from - h .width + h .width ≡ h .from = omega (arith, took-length _ _ _ (k .took), length-item (itemAt u h), k .size-is) in
+    record {
+      key = h .tag;
+      used = h .from - h .width;
+      width = h .width;
+      size = h .size;
+      here = entry-here l f seen u b r e (heads.Whole (h .tag) (h .from - h .width) (h .width) (h .size)) (ap (λ n. ok (record { tag = h .tag; width = h .width; from = n; size = h .size })) z ∙ sym eh) refl;
+    }
 
-  pub tag-fault : {X : Type 0} {n : ℕ} → h ≡ heads.Fault n → X
-  tag-fault t = no-head l f s (a .at) (tag-hit .it) tag-stands h (i .reads) t
+module _ {l : Level} {f : Form} {tag : ℕ} {s : List ℕ} {a : Spot} (i : TagFound l f tag s a) where
+  pub tag-hit : Hit (hasTag tag) (entriesOf l f s)
+  tag-hit = spot-present (hasTag tag) flatEntry entryLead entryLead (entriesOf l f s) (i .spot-is) (i .some)
 
-  module _ {key used width size : ℕ} (t : h ≡ heads.Whole key used width size) where
-    pub tag-here : EntryHere l f (drop (a .at) s) key used width size (got (tag-hit .it) (length (flatEntry (tag-hit .it))))
-    tag-here = head-here l f s (a .at) (tag-hit .it) tag-stands h (i .reads) (i .bytes) t
+  stands-at : a ≡ standing (hasTag tag) flatEntry entryLead entryLead (length (flatAll flatEntry (tag-hit .before))) (tag-hit .it)
+  stands-at = i .spot-is ∙ hit-spot (hasTag tag) flatEntry entryLead entryLead tag-hit
 
-    pub tag-is : key ≡ tag
-    tag-is = sym (here-tag l f _ key used width size _ tag-here) ∙ eqb-true _ _ (tag-hit .hits)
+  pub tag-at : a .at ≡ length (flatAll flatEntry (tag-hit .before))
+  tag-at = ap (λ x. x .at) stands-at
 
-    pub tag-size : a .size ≡ used + width + size
-    tag-size = ap (λ x. x .size) (i .spot-is) ∙ tag-hit .size-is ∙ tag-here .used-is
+  pub tag-from : a .from ≡ a .at + entryLead (tag-hit .it)
+  tag-from = omega (arith, tag-at, ap (λ x. x .from) stands-at)
 
-    pub tag-room : a .at + (used + width + size) ≤ length s
-    tag-room = omega (arith, tag-stands .room, tag-here .used-is)
+  there : EntryStands l f s (a .at) (tag-hit .it)
+  there = subst (λ n. EntryStands l f s n (tag-hit .it)) (sym tag-at) (stands tagOfEntry (stepAt l f) flatEntry (entries-read l f s (i .bytes) (i .ran)) (tag-hit .before) (tag-hit .it) (tag-hit .later) (tag-hit .list-is))
 
-    value-at : take size (drop (used + width) (drop (a .at) s)) ≡ take size (drop (a .at + used + width) s)
-    value-at = rw (drop-drop (used + width) (a .at) s, ← add-assoc (a .at) used width)
+  under : Headed l f (drop (a .at) s) (got (tag-hit .it) (length (flatEntry (tag-hit .it))))
+  under = headed l f (there .seen) (drop (a .at) s) (bytes-drop (a .at) s (i .bytes)) _ (there .read)
 
-    -- an item
-    pub tag-one : isSet l && eqb tag 101 ≡ false → tag-hit .it ≡ plain (record { tag = tag; width = width; value = take size (drop (a .at + used + width) s) })
-    tag-one z =
-        tag-here .one (rw tag-is z)
-        ∙ ap (λ v. plain (record { tag = key; width = width; value = v })) value-at
-        ∙ ap (λ k. plain (record { tag = k; width = width; value = take size (drop (a .at + used + width) s) })) tag-is
+  keys-at : (tagOfEntry (tag-hit .it) ≡ under .key) × (entryLead (tag-hit .it) ≡ under .used + under .width)
+  keys-at = here-keys l f _ (under .key) (under .used) (under .width) (under .size) _ (under .here)
 
-    -- the series
-    pub tag-series : isSet l && eqb tag 101 ≡ true → (ps : Got (List Pack)) × (tag-hit .it ≡ series width (ps .val)) × (seriesRun f (take size (drop (a .at + used + width) s)) ≡ ok ps)
-    tag-series z = let (ps, e, r) = tag-here .packs (rw tag-is z) in (ps, e, ap (seriesRun f) (sym value-at) ∙ r)
+  tag-is : under .key ≡ tag
+  tag-is = sym (keys-at .0) ∙ eqb-true _ _ (tag-hit .hits)
+
+  next-at : a .next ≡ a .from + under .size
+  next-at = omega (arith, ap (λ x. x .next) stands-at, tag-at, tag-from, keys-at .1, under .here .used-is)
+
+  pub tag-room : (a .from ≤ a .next) × (a .next ≤ length s)
+  tag-room = (omega (arith, next-at), omega (arith, there .room, ap (λ x. x .next) stands-at, tag-at))
+
+  -- its value, as it is lent
+  value-at : take (under .size) (drop (under .used + under .width) (drop (a .at) s)) ≡ take (a .next - a .from) (drop (a .from) s)
+  value-at = sym (part-at s (a .at) (under .used + under .width) (under .size) (tag-from ∙ ap (λ n. a .at + n) (keys-at .1)) next-at)
+
+  -- an item
+  pub tag-one : isSet l && eqb tag 101 ≡ false → (w : ℕ) × (tag-hit .it ≡ plain (record { tag = tag; width = w; value = take (a .next - a .from) (drop (a .from) s) }))
+  tag-one z = (
+    under .width,
+    under .here .one (rw tag-is z)
+        ∙ ap (λ v. plain (record { tag = under .key; width = under .width; value = v })) value-at
+        ∙ ap (λ k. plain (record { tag = k; width = under .width; value = take (a .next - a .from) (drop (a .from) s) })) tag-is,
+  )
+
+  -- the series
+  pub tag-series : isSet l && eqb tag 101 ≡ true → (w : ℕ) × (ps : Got (List Pack)) × (tag-hit .it ≡ series w (ps .val)) × (seriesRun f (take (a .next - a .from) (drop (a .from) s)) ≡ ok ps)
+  tag-series z = let (ps, e, r) = under .here .packs (rw tag-is z) in (under .width, ps, e, ap (seriesRun f) (sym value-at) ∙ r)
 
 -- ---- the series by its kind and by its tag
 
@@ -217,17 +258,18 @@ pub other-kind : (e : Entry) → hasTag 101 e ≡ false → isSeries e ≡ false
 other-kind (plain i) z = refl
 other-kind (series w ps) z = no-bool (sym z)
 
-module _ {f : Form} {s : List ℕ} {a : Spot} {h : Head} (i : TagFound set f 101 s a h) {key used width size : ℕ} (t : h ≡ heads.Whole key used width size) where
-  -- its `it` is that of `tag-hit`
-  abbrev pub series-hit : Hit isSeries flatEntry (entriesOf set f s)
-  series-hit =
-      let k = tag-hit i in
-      spot-hits isSeries flatEntry (entriesOf set f s) (k .before) (k .it) (k .later) (k .list-is) (all-map (λ e. hasTag 101 e ≡ false) (λ e. isSeries e ≡ false) other-kind (k .before) (k .missed)) (ap isSeries (tag-series i t refl .1))
+-- its `before`, `it` and `later` are those of `tag-hit`
+abbrev pub series-hit : {f : Form} {s : List ℕ} {a : Spot} → TagFound set f 101 s a → Hit isSeries (entriesOf set f s)
+series-hit i =
+    let k = tag-hit i in
+    record {
+      before = k .before;
+      it = k .it;
+      later = k .later;
+      list-is = k .list-is;
+      missed = all-map (λ e. hasTag 101 e ≡ false) (λ e. isSeries e ≡ false) other-kind (k .before) (k .missed);
+      hits = ap isSeries (tag-series i refl .2);
+    }
 
-  pub series-spot : spotIn isSeries flatEntry 0 (entriesOf set f s) ≡ a
-  series-spot = hit-spot isSeries flatEntry series-hit ∙ sym (i .spot-is ∙ hit-spot (hasTag 101) flatEntry (tag-hit i))
-
-pub no-series : (f : Form) (s : List ℕ) → entrySpot set f 101 s .size ≡ 0 → Absent isSeries flatEntry (entriesOf set f s)
-no-series f s e =
-    let k = spot-absent (hasTag 101) flatEntry entry-some (entriesOf set f s) e in
-    spot-misses isSeries flatEntry (entriesOf set f s) (all-map (λ e. hasTag 101 e ≡ false) (λ e. isSeries e ≡ false) other-kind (entriesOf set f s) (k .missed))
+pub no-series : (f : Form) (s : List ℕ) {a : Spot} → a ≡ entrySpot set f 101 s → a .next ≤ a .at → Missed isSeries (entriesOf set f s)
+no-series f s e h = all-map (λ e. hasTag 101 e ≡ false) (λ e. isSeries e ≡ false) other-kind (entriesOf set f s) (tag-absent set f 101 s e h)

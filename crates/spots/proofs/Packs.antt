@@ -2,17 +2,18 @@
 use mathlib.Core.Path.{_≡_, refl, sym, ap, _∙_, subst}
 use Prim.Native.Nat.{ℕ, _+_, _-_, _≤_, _<_}
 use native.Mathlib.Omega.{arith}
-use native.Mathlib.Nat.{add-assoc}
 use mathlib.Core.List.{List, map}
 use lib.ListN.{length, take, drop, length-append, length-drop}
 use lib.Seq.{drop-drop}
 use borrow.Author.Tests.{eqb-true, eq-eqb, ne-eqb}
 use Rattle.format.specs.Answer.{ok, Got, got}
-use Rattle.format.specs.Coding.{Bytes}
+use Rattle.format.specs.Coding.{Bytes, oidBytes}
 use Rattle.format.specs.Lists.{flatAll}
 use Rattle.format.specs.Table.{Form, pack}
 use Rattle.format.specs.Packet.{Item, Pack, Entry, plain, idOfPack, packBody, flatPack}
 use Rattle.format.specs.Read.{packHead, onePack}
+use Rattle.format.specs.Read as Read
+use Rattle.format.proofs.words.Answers.{bind-then}
 use Rattle.format.proofs.words.Bytes.{bytes-drop}
 use Rattle.format.proofs.coding.Oids.{oid-some}
 use Rattle.format.proofs.reading.Packs.{length-pack, pack-faithful}
@@ -24,9 +25,9 @@ use Rattle.walks.specs.Runs.{Ran, levelRun, seriesRun}
 use Rattle.walks.proofs.PackTurns.{drop-take}
 use Rattle.walks.proofs.Steps.{PackHere, pack-here, no-head-pack}
 use Rattle.spots.specs.declared.Spot.{Spot}
-use Rattle.spots.specs.Meet.{spot, hasId, packsOf, packSpot}
-use Rattle.spots.proofs.Splices.{Hit, Absent, spot-present, spot-absent, spot-room}
-use Rattle.spots.proofs.Seeks.{Stands, ReadAll, read-all, Seeking, seek-start, Next, next-here, seek-done, seek-found, seek-more, stands-hit}
+use Rattle.spots.specs.Meet.{spot, noSpot, hasId, packsOf, packLead, packSpot}
+use Rattle.spots.proofs.Splices.{Missed, Hit, standing, hit-spot, spot-present, spot-absent}
+use Rattle.spots.proofs.Seeks.{Stands, stands, ReadAll, read-all, Seeking, seek-start, Next, next-here, seek-done, seek-found, seek-more, part-at}
 
 -- ---- what a series' run read
 
@@ -80,8 +81,8 @@ module _ {f : Form} {id : ℕ} {s : List ℕ} {p : ℕ} (i : PackTurn f id s p) 
   all-read : PacksRead f s
   all-read = packs-read f s (i .bytes) (i .asked .1)
 
-  pub pack-done : length s ≤ p → spot p 0 ≡ packSpot f id s
-  pack-done h = seek-done idOfPack (onePack f) flatPack (hasId id) all-read (i .going) h
+  pub pack-done : length s ≤ p → noSpot p ≡ packSpot f id s
+  pack-done h = seek-done idOfPack (onePack f) flatPack (hasId id) all-read (i .going) (λ q. q .width) packLead h
 
 module _ {f : Form} {id : ℕ} {s : List ℕ} {p : ℕ} {h : Head} (i : PackAt f id s p h) where
   next : Next idOfPack (onePack f) flatPack (hasId id) (all-read (i .turn)) (i .turn .going)
@@ -97,69 +98,95 @@ module _ {f : Form} {id : ℕ} {s : List ℕ} {p : ℕ} {h : Head} (i : PackAt f
     key-is : idOfPack (next .it) ≡ key
     key-is = ap idOfPack (stood .it-is)
 
-    pub pack-room : (p + (width + size) ≤ length s) × (0 < width) × (length s ≤ 8192)
-    pack-room = (omega (arith, stood .room, length-drop p s, i .here), stood .len, i .turn .asked .0)
+    pub pack-room : (p + width + size ≤ length s) × (used ≤ size) × (0 < width) × (length s ≤ 8192)
+    pack-room = (omega (arith, stood .room, length-drop p s, i .here), stood .body, stood .len, i .turn .asked .0)
 
-    pub pack-found : key ≡ id → spot p (width + size) ≡ packSpot f id s
-    pack-found e = seek-found idOfPack (onePack f) flatPack (hasId id) (all-read (i .turn)) (i .turn .going) next (eq-eqb _ _ (key-is ∙ e)) (sym (stood .used-is))
+    next-is : p + width + size ≡ p + length (flatPack (next .it))
+    next-is = omega (arith, stood .used-is)
 
-    pub pack-more : (key ≡ id → ⊥) → PackTurn f id s (p + (width + size))
+    pub pack-found : key ≡ id → spot p (p + width) (p + width + used) (p + width + size) ≡ packSpot f id s
+    pack-found e =
+        let w : next .it .width ≡ width = ap (λ q. q .width) (stood .it-is) in
+        let oid : length (oidBytes (next .it .id)) ≡ used = ap (λ n. length (oidBytes n)) key-is ∙ stood .oid in
+        seek-found idOfPack (onePack f) flatPack (hasId id) (all-read (i .turn)) (i .turn .going) (λ q. q .width) packLead next (eq-eqb _ _ (key-is ∙ e)) (omega (arith, w)) (omega (arith, w, oid)) next-is
+
+    pub pack-more : (key ≡ id → ⊥) → PackTurn f id s (p + width + size)
     pack-more n = record {
-      going = seek-more idOfPack (onePack f) flatPack (hasId id) (all-read (i .turn)) (i .turn .going) next (ne-eqb _ _ (λ e. n (sym key-is ∙ e))) (sym (stood .used-is));
+      going = seek-more idOfPack (onePack f) flatPack (hasId id) (all-read (i .turn)) (i .turn .going) next (ne-eqb _ _ (λ e. n (sym key-is ∙ e))) next-is;
       bytes = i .turn .bytes;
       asked = i .turn .asked;
     }
 
 -- ---- what stands at an id's spot
 
-module _ (f : Form) (id : ℕ) (s : List ℕ) (b : Bytes s) (r : Ran (seriesRun f s)) {a : Spot} (e : a ≡ packSpot f id s) where
-  pub id-within : a .at + a .size ≤ length s
-  id-within = rw e (omega (arith, spot-room (hasId id) flatPack (packsOf f s), ap length (packs-flat f s b r)))
+pub id-absent : (f : Form) (id : ℕ) (s : List ℕ) {a : Spot} → a ≡ packSpot f id s → a .next ≤ a .at → Missed (hasId id) (packsOf f s)
+id-absent f id s e h = spot-absent (hasId id) flatPack (λ q. q .width) packLead (packsOf f s) e pack-some h
 
-  pub id-absent : a .size ≡ 0 → Absent (hasId id) flatPack (packsOf f s) × (a .at ≡ length s)
-  id-absent z =
-      let k = spot-absent (hasId id) flatPack pack-some (packsOf f s) (rw e at z) in
-      (k, ap (λ x. x .at) e ∙ k .at-is ∙ ap length (packs-flat f s b r))
-
--- the code found a, and read h there
-pub record IdFound (f : Form) (id : ℕ) (s : List ℕ) (a : Spot) (h : Head) : Type 0 where
+-- the code found a
+pub record IdFound (f : Form) (id : ℕ) (s : List ℕ) (a : Spot) : Type 0 where
   pub bytes : Bytes s
   pub ran : Ran (seriesRun f s)
   pub spot-is : a ≡ packSpot f id s
-  pub some : 0 < a .size
-  pub reads : packHeadOf h ≡ packHead (take (length s - a .at) (drop (a .at) s))
+  pub some : a .at ≡ a .next → ⊥
 
-module _ {f : Form} {id : ℕ} {s : List ℕ} {a : Spot} {h : Head} (i : IdFound f id s a h) where
-  pub id-hit : Hit (hasId id) flatPack (packsOf f s)
-  id-hit = spot-present (hasId id) flatPack pack-some (packsOf f s) (rw (i .spot-is) at (i .some))
+-- the head of what a step read
+headed : (f : Form) (seen u : List ℕ) → Bytes u → (r : Got Pack) → onePack f seen u ≡ ok r → (h : Read.PackHead) × PackHere f u (h .id) (h .used) (h .width) (h .size) r
+unfolding onePack
+headed f seen u b r e = bind-then _ _ _ e λ h eh _. (h, pack-here f seen u b r e (heads.Whole (h .id) (h .used) (h .width) (h .size)) (sym eh) refl)
 
-  id-stands : PackStands f s (a .at) (id-hit .it)
-  id-stands = subst (λ x. PackStands f s (x .at) (id-hit .it)) (sym (i .spot-is)) (stands-hit idOfPack (onePack f) flatPack (hasId id) (packs-read f s (i .bytes) (i .ran)) id-hit)
+module _ {f : Form} {id : ℕ} {s : List ℕ} {a : Spot} (i : IdFound f id s a) where
+  pub id-hit : Hit (hasId id) (packsOf f s)
+  id-hit = spot-present (hasId id) flatPack (λ q. q .width) packLead (packsOf f s) (i .spot-is) (i .some)
 
-  pub id-fault : {X : Type 0} {n : ℕ} → h ≡ heads.Fault n → X
-  id-fault t = no-head f s (a .at) (id-hit .it) id-stands h (i .reads) t
+  stands-at : a ≡ standing (hasId id) flatPack (λ q. q .width) packLead (length (flatAll flatPack (id-hit .before))) (id-hit .it)
+  stands-at = i .spot-is ∙ hit-spot (hasId id) flatPack (λ q. q .width) packLead id-hit
 
-  module _ {key used width size : ℕ} (t : h ≡ heads.Whole key used width size) where
-    pub id-here : PackHere f (drop (a .at) s) key used width size (got (id-hit .it) (length (flatPack (id-hit .it))))
-    id-here = head-here f s (a .at) (id-hit .it) id-stands h (i .reads) (i .bytes) t
+  pub id-at : a .at ≡ length (flatAll flatPack (id-hit .before))
+  id-at = ap (λ x. x .at) stands-at
 
-    pub id-is : key ≡ id
-    id-is = sym (ap idOfPack (id-here .it-is)) ∙ eqb-true _ _ (id-hit .hits)
+  there : PackStands f s (a .at) (id-hit .it)
+  there = subst (λ n. PackStands f s n (id-hit .it)) (sym id-at) (stands idOfPack (onePack f) flatPack (packs-read f s (i .bytes) (i .ran)) (id-hit .before) (id-hit .it) (id-hit .later) (id-hit .list-is))
 
-    pub id-size : a .size ≡ width + size
-    id-size = ap (λ x. x .size) (i .spot-is) ∙ id-hit .size-is ∙ id-here .used-is
+  abbrev head : Read.PackHead
+  head = headed f (there .seen) (drop (a .at) s) (bytes-drop (a .at) s (i .bytes)) _ (there .read) .0
 
-    pub id-room : (a .at + (width + size) ≤ length s) × (used ≤ size)
-    id-room = (omega (arith, id-stands .room, id-here .used-is), id-here .body)
+  under : PackHere f (drop (a .at) s) (head .id) (head .used) (head .width) (head .size) (got (id-hit .it) (length (flatPack (id-hit .it))))
+  under = headed f (there .seen) (drop (a .at) s) (bytes-drop (a .at) s (i .bytes)) _ (there .read) .1
 
-    -- its items, as they are lent
-    pub id-items : take (a .at + width + size - (a .at + width + used)) (drop (a .at + width + used) s) ≡ drop used (take size (drop width (drop (a .at) s)))
-    id-items =
-        let z : a .at + width + size - (a .at + width + used) ≡ size - used = omega (arith, id-room) in
-        rw (z, drop-take used size (drop width (drop (a .at) s)), drop-drop used width (drop (a .at) s), drop-drop (width + used) (a .at) s, ← add-assoc (a .at) width used)
+  id-is : head .id ≡ id
+  id-is = sym (ap idOfPack (under .it-is)) ∙ eqb-true _ _ (id-hit .hits)
 
-    pub id-pack : (is : List Item) × (id-hit .it ≡ record { width = width; id = id; items = is })
-        × (es : Got (List Entry)) × (es .val ≡ map plain is) × (levelRun pack f (drop used (take size (drop width (drop (a .at) s)))) ≡ ok es)
-    id-pack =
-        let k = id-here in
-        (k .items, k .it-is ∙ ap (λ n. record { width = width; id = n; items = k .items }) id-is, k .entries, k .entries-are, k .runs)
+  -- the pack, where its id and its items begin, and what its items are, as they are lent
+  pub record PackIs : Type 0 where
+    pub width : ℕ
+    pub items : List Item
+    pub it-is : id-hit .it ≡ record { width = width; id = id; items = items }
+    pub body-at : a .body ≡ a .at + width
+    pub from-at : a .from ≡ a .body + length (oidBytes id)
+    pub room : (a .from ≤ a .next) × (a .next ≤ length s)
+    pub entries : Got (List Entry)
+    pub entries-are : entries .val ≡ map plain items
+    pub runs : levelRun pack f (take (a .next - a .from) (drop (a .from) s)) ≡ ok entries
+
+  pub id-pack : PackIs
+  id-pack =
+      let k = under in
+      let it : id-hit .it ≡ record { width = head .width; id = id; items = k .items } = k .it-is ∙ ap (λ n. record { width = head .width; id = n; items = k .items }) id-is in
+      let body : a .body ≡ a .at + head .width = omega (arith, ap (λ x. x .body) stands-at, id-at, ap (λ q. q .width) it) in
+      let from : a .from ≡ a .body + length (oidBytes id) = omega (arith, ap (λ x. x .from) stands-at, id-at, body, ap packLead it) in
+      let used : length (oidBytes id) ≡ head .used = ap (λ n. length (oidBytes n)) (sym id-is) ∙ k .oid in
+      let next : a .next ≡ a .from + (head .size - head .used) = omega (arith, ap (λ x. x .next) stands-at, id-at, from, body, used, k .used-is, k .body) in
+      let lent : take (a .next - a .from) (drop (a .from) s) ≡ drop (head .used) (take (head .size) (drop (head .width) (drop (a .at) s)))
+      = part-at s (a .at) (head .width + head .used) (head .size - head .used) (omega (arith, from, body, used)) next
+      ∙ rw (drop-take (head .used) (head .size) (drop (head .width) (drop (a .at) s)), drop-drop (head .used) (head .width) (drop (a .at) s)) in
+      record {
+        width = head .width;
+        items = k .items;
+        it-is = it;
+        body-at = body;
+        from-at = from;
+        room = (omega (arith, next), omega (arith, there .room, ap (λ x. x .next) stands-at, id-at));
+        entries = k .entries;
+        entries-are = k .entries-are;
+        runs = ap (levelRun pack f) lent ∙ k .runs;
+      }

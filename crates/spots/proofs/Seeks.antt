@@ -1,11 +1,11 @@
 -- What stands at a place of bytes that a run read to their end; and a loop over it that looks for the first hit.
 use mathlib.Core.Path.{_≡_, refl, sym, ap, _∙_}
-use Prim.Native.Nat.{ℕ, _+_, _≤_, _<_}
+use Prim.Native.Nat.{ℕ, _+_, _-_, _≤_, _<_}
 use native.Mathlib.Omega.{arith}
 use mathlib.Core.Bool.{Bool, true, false}
 use mathlib.Core.List.{List, [], _∷_, _++_, append-assoc, append-nil}
-use lib.ListN.{length, drop, length-append}
-use lib.Seq.{drop-append-seam}
+use lib.ListN.{length, take, drop, length-append}
+use lib.Seq.{drop-append-seam, drop-drop}
 use Rattle.format.specs.Answer.{Ans, ok, refused, Got, got}
 use Rattle.format.specs.Coding.{Bytes}
 use Rattle.format.specs.Lists.{flatAll}
@@ -13,12 +13,16 @@ use Rattle.format.specs.Run.{Step, always, run}
 use Rattle.format.proofs.words.Flats.{flat-append, flat-snoc}
 use Rattle.format.proofs.reading.Runs.{Along, Faithful, ReadsAt, RanAll, all-says}
 use Rattle.walks.specs.Runs.{Ran}
-use Rattle.spots.specs.Meet.{spot, spotIn, thingsOf}
+use Rattle.spots.specs.Meet.{spot, noSpot, spotIn, thingsOf}
 use Rattle.spots.proofs.Splices.{all-snoc, Missed, Hit, spot-past, spot-hit}
 
 -- a run that came to its end
 pub ran-ok : {X : Type 0} (m : Ans (Got (List X))) {rs : Got (List X)} → m ≡ ok rs → Ran m
 ran-ok m e = rw e tt
+
+-- n bytes, m after a place, as they are lent
+pub part-at : (s : List ℕ) (at m n : ℕ) {from next : ℕ} → from ≡ at + m → next ≡ from + n → take (next - from) (drop from s) ≡ take n (drop m (drop at s))
+part-at s at m n {from = from} {next = next} ef en = let z : next - from ≡ n = omega arith in rw (z, ef, drop-drop m at s)
 
 module _ {X : Type 0} (key : X → ℕ) (step : Step X) (flat : X → List ℕ) where
   -- ---- what stands at a place
@@ -65,7 +69,7 @@ module _ {X : Type 0} (key : X → ℕ) (step : Step X) (flat : X → List ℕ) 
       pub before : List X
       pub rest : List X
       pub list-is : xs ≡ before ++ rest
-      pub missed : Missed hit flat before
+      pub missed : Missed hit before
       pub p-is : p ≡ length (flatAll flat before)
 
     pub seek-start : (xs : List X) → Seeking xs 0
@@ -75,9 +79,6 @@ module _ {X : Type 0} (key : X → ℕ) (step : Step X) (flat : X → List ℕ) 
     module _ {s : List ℕ} {xs : List X} (k : ReadAll s xs) {p : ℕ} (g : Seeking xs p) where
       long : length s ≡ p + length (flatAll flat (g .rest))
       long = ap length (k .bytes ∙ ap (flatAll flat) (g .list-is) ∙ flat-append flat (g .before) (g .rest)) ∙ length-append (flatAll flat (g .before)) (flatAll flat (g .rest)) ∙ omega (arith, g .p-is)
-
-      spot-is : spotIn hit flat 0 xs ≡ spotIn hit flat p (g .rest)
-      spot-is = ap (spotIn hit flat 0) (g .list-is) ∙ spot-past hit flat 0 (g .before) (g .rest) (g .missed) ∙ ap (λ n. spotIn hit flat n (g .rest)) (omega (arith, g .p-is))
 
       -- what stands at p
       pub record Next : Type 0 where
@@ -99,29 +100,32 @@ module _ {X : Type 0} (key : X → ℕ) (step : Step X) (flat : X → List ℕ) 
             here = rw (g .p-is) (stands k (g .before) y ys (g .list-is ∙ ap (λ z. g .before ++ z) e));
           }
 
-      pub seek-done : length s ≤ p → spot p 0 ≡ spotIn hit flat 0 xs
-      unfolding spotIn flatAll
-      seek-done h = go (g .rest) refl
-        where
-          go : (ys : List X) → g .rest ≡ ys → spot p 0 ≡ spotIn hit flat 0 xs
-          go [] e = sym (spot-is ∙ ap (spotIn hit flat p) e)
-          go (y ∷ ys) e =
-              let z = stands k (g .before) y ys (g .list-is ∙ ap (λ z. g .before ++ z) e) in
-              absurd (omega (arith, h, z .some, z .room, g .p-is))
+      module _ (body from : X → ℕ) where
+        spot-is : spotIn hit flat body from 0 xs ≡ spotIn hit flat body from p (g .rest)
+        spot-is =
+            ap (spotIn hit flat body from 0) (g .list-is)
+            ∙ spot-past hit flat body from 0 (g .before) (g .rest) (g .missed)
+            ∙ ap (λ n. spotIn hit flat body from n (g .rest)) (omega (arith, g .p-is))
 
-      module _ (n : Next) where
-        pub seek-found : hit (n .it) ≡ true → {m : ℕ} → m ≡ length (flat (n .it)) → spot p m ≡ spotIn hit flat 0 xs
-        seek-found z e = ap (spot p) e ∙ sym (spot-is ∙ ap (spotIn hit flat p) (n .rest-is) ∙ spot-hit hit flat p (n .it) (n .later) z)
+        pub seek-done : length s ≤ p → noSpot p ≡ spotIn hit flat body from 0 xs
+        unfolding spotIn flatAll
+        seek-done h = go (g .rest) refl
+          where
+            go : (ys : List X) → g .rest ≡ ys → noSpot p ≡ spotIn hit flat body from 0 xs
+            go [] e = sym (spot-is ∙ ap (spotIn hit flat body from p) e)
+            go (y ∷ ys) e =
+                let z = stands k (g .before) y ys (g .list-is ∙ ap (λ z. g .before ++ z) e) in
+                absurd (omega (arith, h, z .some, z .room, g .p-is))
 
-        pub seek-more : hit (n .it) ≡ false → {m : ℕ} → m ≡ length (flat (n .it)) → Seeking xs (p + m)
-        seek-more z {m = m} e = record {
-          before = g .before ++ (n .it ∷ []);
-          rest = n .later;
-          list-is = g .list-is ∙ ap (λ r. g .before ++ r) (n .rest-is) ∙ sym (append-assoc (g .before) (n .it ∷ []) (n .later));
-          missed = all-snoc (λ x. hit x ≡ false) (g .before) (n .it) (g .missed) z;
-          p-is = omega (arith, e, g .p-is, ap length (flat-snoc flat (g .before) (n .it)), length-append (flatAll flat (g .before)) (flat (n .it)));
-        }
+        pub seek-found : (n : Next) → hit (n .it) ≡ true → {b f m : ℕ} → b ≡ p + body (n .it) → f ≡ p + from (n .it) → m ≡ p + length (flat (n .it)) → spot p b f m ≡ spotIn hit flat body from 0 xs
+        seek-found n z eb ef em =
+            rw (eb, ef, em) (sym (spot-is ∙ ap (spotIn hit flat body from p) (n .rest-is) ∙ spot-hit hit flat body from p (n .it) (n .later) z))
 
-    -- what stands at a spot
-    pub stands-hit : {s : List ℕ} {xs : List X} → ReadAll s xs → (a : Hit hit flat xs) → Stands s (spotIn hit flat 0 xs .at) (a .it)
-    stands-hit k a = rw (a .at-is) (stands k (a .before) (a .it) (a .later) (a .list-is))
+      pub seek-more : (n : Next) → hit (n .it) ≡ false → {m : ℕ} → m ≡ p + length (flat (n .it)) → Seeking xs m
+      seek-more n z e = record {
+        before = g .before ++ (n .it ∷ []);
+        rest = n .later;
+        list-is = g .list-is ∙ ap (λ r. g .before ++ r) (n .rest-is) ∙ sym (append-assoc (g .before) (n .it ∷ []) (n .later));
+        missed = all-snoc (λ x. hit x ≡ false) (g .before) (n .it) (g .missed) z;
+        p-is = omega (arith, e, g .p-is, ap length (flat-snoc flat (g .before) (n .it)), length-append (flatAll flat (g .before)) (flat (n .it)));
+      }

@@ -4,13 +4,28 @@ ghost use Prim.Native.Nat.{_≤_};
 ghost use lib.ListN.{length};
 ghost use Rattle.items.specs.Meet.{formOf, levelOf};
 ghost use Rattle.walks.specs.Runs.{Ran, levelRun, seriesRun};
-ghost use Rattle.spots.specs.Meet.{entrySpot, packSpot};
+ghost use Rattle.spots.specs.Meet.{noSpot, entrySpot, packSpot};
 use heads::Head;
 
-// Where something stands: at which byte it begins, and how many it takes, 0 where it is not there; then it begins at the end.
+// Where something stands: where it begins, where what its length counts begins (an item's value, a pack's id), where its value or
+// its items begin, and what follows it. Where it is not there, all four are the end.
 pub struct Spot {
     pub at: usize,
-    pub size: usize,
+    pub body: usize,
+    pub from: usize,
+    pub next: usize,
+}
+
+// Nothing there, and the end at `at`.
+fn no_spot(at: usize) -> Spot
+    ensures { λ r. ⌜ r ≡ noSpot at ⌝ }
+{
+    Spot {
+        at,
+        body: at,
+        from: at,
+        next: at,
+    }
 }
 
 // The item with this tag in a level: the set, or a pack's items.
@@ -28,16 +43,21 @@ pub fn item_spot(s: &[u8], set: bool, alone: bool, tag: u64) -> Spot
             size,
         } = h
         else {
-            return Spot { at: p, size: 0 };
+            return no_spot(p);
         };
-        let whole = used + width + size;
-        let next = p + whole;
+        let from = p + used + width;
+        let next = from + size;
         if key == tag {
-            return Spot { at: p, size: whole };
+            return Spot {
+                at: p,
+                body: from,
+                from,
+                next,
+            };
         }
         p = next;
     }
-    Spot { at: p, size: 0 }
+    no_spot(p)
 }
 
 // The pack with this id in a series.
@@ -47,22 +67,28 @@ pub fn pack_spot(s: &[u8], alone: bool, id: u64) -> Spot
 {
     let mut p: usize = 0;
     while p < s.len() {
-        let h = heads::pack_head(&s[p..]);
+        let h = heads::quick_pack_head(&s[p..]);
         let Head::Whole {
             key,
-            used: _,
+            used,
             width,
-            size: body,
+            size,
         } = h
         else {
-            return Spot { at: p, size: 0 };
+            return no_spot(p);
         };
-        let size = width + body;
-        let next = p + size;
+        let body = p + width;
+        let next = body + size;
         if key == id {
-            return Spot { at: p, size };
+            let from = body + used;
+            return Spot {
+                at: p,
+                body,
+                from,
+                next,
+            };
         }
         p = next;
     }
-    Spot { at: p, size: 0 }
+    no_spot(p)
 }

@@ -1,10 +1,12 @@
 -- `spots::item_spot` meets its contract: each turn passes one entry that is not the one sought.
+use mathlib.Core.Path.{_∙_}
 use Prim.Native.Nat.{_-_}
 use native.Mathlib.Omega.{arith}
 use lib.ListN.{length}
 use borrow.Author.Needs.{needs}
 use Rattle.items.specs.Meet.{formOf, levelOf}
 use Rattle.heads.proofs.item_head.Reads as item-head-reads
+use Rattle.spots.proofs.no_spot.Reads as no-spot-reads
 use Rattle.spots.proofs.Entries.{EntryTurn, entry-start, EntryAt, entry-done, entry-fault, entry-room, entry-found, entry-more}
 use Rattle.spots.proofs.item_spot.Statement.{statement}
 use Rattle.spots.proofs.item_spot.Reads as reads
@@ -18,7 +20,7 @@ abbrev μ-loop : tie.MeasureT-loop
 μ-loop s set alone tag p₀ p = length s - p
 
 -- the loop at the head that was read
-here : (a : lts.After-item-head (item-head-reads.Asked, item-head-reads.Learnt) reads.Pre reads.Post Inv-loop μ-loop)
+here : (a : lts.After-item-head (item-head-reads.Asked, item-head-reads.Learnt, no-spot-reads.Asked, no-spot-reads.Learnt) reads.Pre reads.Post Inv-loop μ-loop)
     → EntryAt (levelOf (a .before .before .before .before .before .args .set)) (formOf (a .before .before .before .before .before .args .alone)) (a .before .before .before .before .before .args .tag) (a .before .before .before .before .before .args .s .now) (a .before .before .before .loop .p) (a .item-head .result)
 here a = record { turn = a .before .before .before .loop .inv; here = a .before .before .loop-test .taken; reads = a .item-head .ensures }
 
@@ -43,14 +45,17 @@ enum-known-h c = search needs
 enum-told : tie.Need-enum-told Inv-loop μ-loop
 enum-told c = search needs
 
+no-spot-requires : tie.Need-no-spot-requires Inv-loop μ-loop
+no-spot-requires c κs = search needs
+
 returns : tie.Need-returns Inv-loop μ-loop
-returns c = entry-fault (here (c .before .before)) (c .enum-told .given .1)
+returns c = entry-fault (here (c .before .before .before)) (c .before .enum-told .given .1)
 
-add-whole : tie.Need-add-whole Inv-loop μ-loop
-add-whole c = omega (arith, entry-room (here (c .before .before .before)) (c .before .h .given .1))
+add-from : tie.Need-add-from Inv-loop μ-loop
+add-from c = omega (arith, entry-room (here (c .before .before .before)) (c .before .h .given .1))
 
-add-whole-2 : tie.Need-add-whole-2 Inv-loop μ-loop
-add-whole-2 c = omega (arith, entry-room (here (c .before .before .before)) (c .before .h .given .1))
+add-from-2 : tie.Need-add-from-2 Inv-loop μ-loop
+add-from-2 c = omega (arith, entry-room (here (c .before .before .before)) (c .before .h .given .1))
 
 add-next : tie.Need-add-next Inv-loop μ-loop
 add-next c = omega (arith, entry-room (here (c .before .before .before)) (c .before .h .given .1))
@@ -64,8 +69,11 @@ loop-less c = omega (arith, entry-room (here (c .before .before .before .before)
 loop-again : tie.Need-loop-again Inv-loop μ-loop
 loop-again c = entry-more (here (c .before .before .before .before)) (c .before .before .h .given .1) (c .if1 .left)
 
+no-spot-requires-2 : tie.Need-no-spot-requires-2 Inv-loop μ-loop
+no-spot-requires-2 c κs = search needs
+
 returns-3 : tie.Need-returns-3 Inv-loop μ-loop
-returns-3 c = entry-done (c .before .loop .inv) (c .loop-test .left)
+returns-3 c = c .no-spot2 .ensures ∙ entry-done (c .before .before .loop .inv) (c .before .loop-test .left)
 
 pub item-spot-spec : {M : Type 1} → statement M
 item-spot-spec =
@@ -80,11 +88,13 @@ item-spot-spec =
     item-head-requires
     enum-known-h
     enum-told
+    no-spot-requires
     returns
-    add-whole
-    add-whole-2
+    add-from
+    add-from-2
     add-next
     returns-2
     loop-less
     loop-again
+    no-spot-requires-2
     returns-3)

@@ -1,10 +1,12 @@
 -- `spots::pack_spot` meets its contract: each turn passes one pack that is not the one sought.
+use mathlib.Core.Path.{_∙_}
 use Prim.Native.Nat.{_-_}
 use native.Mathlib.Omega.{arith}
 use lib.ListN.{length}
 use borrow.Author.Needs.{needs}
 use Rattle.items.specs.Meet.{formOf}
-use Rattle.heads.proofs.pack_head.Reads as pack-head-reads
+use Rattle.heads.proofs.quick_pack_head.Reads as quick-pack-head-reads
+use Rattle.spots.proofs.no_spot.Reads as no-spot-reads
 use Rattle.spots.proofs.Packs.{PackTurn, pack-start, PackAt, pack-done, pack-fault, pack-room, pack-found, pack-more}
 use Rattle.spots.proofs.pack_spot.Statement.{statement}
 use Rattle.spots.proofs.pack_spot.Reads as reads
@@ -18,24 +20,24 @@ abbrev μ-loop : tie.MeasureT-loop
 μ-loop s alone id p₀ p = length s - p
 
 -- the loop at the head that was read
-here : (a : lts.After-pack-head (pack-head-reads.Asked, pack-head-reads.Learnt) reads.Pre reads.Post Inv-loop μ-loop)
-    → PackAt (formOf (a .before .before .before .before .before .args .alone)) (a .before .before .before .before .before .args .id) (a .before .before .before .before .before .args .s .now) (a .before .before .before .loop .p) (a .pack-head .result)
-here a = record { turn = a .before .before .before .loop .inv; here = a .before .before .loop-test .taken; reads = a .pack-head .ensures }
+here : (a : lts.After-quick-pack-head (quick-pack-head-reads.Asked, quick-pack-head-reads.Learnt, no-spot-reads.Asked, no-spot-reads.Learnt) reads.Pre reads.Post Inv-loop μ-loop)
+    → PackAt (formOf (a .before .before .before .before .before .args .alone)) (a .before .before .before .before .before .args .id) (a .before .before .before .before .before .args .s .now) (a .before .before .before .loop .p) (a .quick-pack-head .result)
+here a = record { turn = a .before .before .before .loop .inv; here = a .before .before .loop-test .taken; reads = a .quick-pack-head .ensures }
 
 loop-holds : tie.Need-loop-holds Inv-loop μ-loop
 loop-holds c = pack-start (formOf (c .before .args .alone)) _ _ (λ i. c .shared-slice-known .given i .fits) (c .before .pre)
 
-sub-pack-head : tie.Need-sub-pack-head Inv-loop μ-loop
-sub-pack-head c = search needs
+sub-quick-pack-head : tie.Need-sub-quick-pack-head Inv-loop μ-loop
+sub-quick-pack-head c = search needs
 
-part-pack-head-start : tie.Need-part-pack-head-start Inv-loop μ-loop
-part-pack-head-start c = search needs
+part-quick-pack-head-start : tie.Need-part-quick-pack-head-start Inv-loop μ-loop
+part-quick-pack-head-start c = search needs
 
-part-pack-head-end : tie.Need-part-pack-head-end Inv-loop μ-loop
-part-pack-head-end c = search needs
+part-quick-pack-head-end : tie.Need-part-quick-pack-head-end Inv-loop μ-loop
+part-quick-pack-head-end c = search needs
 
-pack-head-requires : tie.Need-pack-head-requires Inv-loop μ-loop
-pack-head-requires c κs = search needs
+quick-pack-head-requires : tie.Need-quick-pack-head-requires Inv-loop μ-loop
+quick-pack-head-requires c κs = search needs
 
 enum-known-h : tie.Need-enum-known-h Inv-loop μ-loop
 enum-known-h c = search needs
@@ -43,14 +45,20 @@ enum-known-h c = search needs
 enum-told : tie.Need-enum-told Inv-loop μ-loop
 enum-told c = search needs
 
-returns : tie.Need-returns Inv-loop μ-loop
-returns c = pack-fault (here (c .before .before)) (c .enum-told .given .1)
+no-spot-requires : tie.Need-no-spot-requires Inv-loop μ-loop
+no-spot-requires c κs = search needs
 
-add-size : tie.Need-add-size Inv-loop μ-loop
-add-size c = omega (arith, pack-room (here (c .before .before .before)) (c .before .h .given .1))
+returns : tie.Need-returns Inv-loop μ-loop
+returns c = pack-fault (here (c .before .before .before)) (c .before .enum-told .given .1)
+
+add-body : tie.Need-add-body Inv-loop μ-loop
+add-body c = omega (arith, pack-room (here (c .before .before .before)) (c .before .h .given .1))
 
 add-next : tie.Need-add-next Inv-loop μ-loop
 add-next c = omega (arith, pack-room (here (c .before .before .before)) (c .before .h .given .1))
+
+add-from : tie.Need-add-from Inv-loop μ-loop
+add-from c = omega (arith, pack-room (here (c .before .before .before .before)) (c .before .before .h .given .1))
 
 returns-2 : tie.Need-returns-2 Inv-loop μ-loop
 returns-2 c = pack-found (here (c .before .before .before .before)) (c .before .before .h .given .1) (c .if1 .taken)
@@ -61,8 +69,11 @@ loop-less c = omega (arith, pack-room (here (c .before .before .before .before))
 loop-again : tie.Need-loop-again Inv-loop μ-loop
 loop-again c = pack-more (here (c .before .before .before .before)) (c .before .before .h .given .1) (c .if1 .left)
 
+no-spot-requires-2 : tie.Need-no-spot-requires-2 Inv-loop μ-loop
+no-spot-requires-2 c κs = search needs
+
 returns-3 : tie.Need-returns-3 Inv-loop μ-loop
-returns-3 c = pack-done (c .before .loop .inv) (c .loop-test .left)
+returns-3 c = c .no-spot2 .ensures ∙ pack-done (c .before .before .loop .inv) (c .before .loop-test .left)
 
 pub pack-spot-spec : {M : Type 1} → statement M
 pack-spot-spec =
@@ -71,16 +82,19 @@ pack-spot-spec =
     Inv-loop
     μ-loop
     loop-holds
-    sub-pack-head
-    part-pack-head-start
-    part-pack-head-end
-    pack-head-requires
+    sub-quick-pack-head
+    part-quick-pack-head-start
+    part-quick-pack-head-end
+    quick-pack-head-requires
     enum-known-h
     enum-told
+    no-spot-requires
     returns
-    add-size
+    add-body
     add-next
+    add-from
     returns-2
     loop-less
     loop-again
+    no-spot-requires-2
     returns-3)

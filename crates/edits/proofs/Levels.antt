@@ -15,7 +15,7 @@ use Rattle.format.specs.Valid.{All}
 use Rattle.format.specs.Edit.{Change, put, remove, applied}
 use Rattle.format.proofs.words.Answers.{never, ok-inj}
 use Rattle.spots.specs.Meet.{spotIn, splice}
-use Rattle.spots.proofs.Splices.{Missed, Hit, Absent, place, spot-hits, spot-misses, hit-spot, spot-room, ask-hit, ask-absent, splice-put, splice-out, has-hit, has-absent}
+use Rattle.spots.proofs.Splices.{Missed, Hit, place, hit-spot, missed-spot, spot-room, ask-hit, ask-absent, splice-put, splice-out, has-hit, has-absent}
 use Rattle.edits.specs.Meet.{part}
 
 -- ---- a list that ends with what does not hit
@@ -28,32 +28,38 @@ all-left : {X : Type 0} (P : X → Type 0) (xs ys : List X) → All P (xs ++ ys)
 all-left P [] ys h = tt
 all-left P (x ∷ xs) ys h = (h .0, all-left P xs ys (h .1))
 
-module _ {X : Type 0} (hit : X → Bool) (flat : X → List ℕ) {xs : List X} (ys rest : List X) (e : xs ≡ ys ++ rest) (m : Missed hit flat rest) where
-  abbrev grown : Hit hit flat ys → Hit hit flat xs
-  grown k =
-      spot-hits hit flat xs (k .before) (k .it) (k .later ++ rest) (e ∙ ap (λ r. r ++ rest) (k .list-is) ∙ append-assoc (k .before) (k .it ∷ k .later) rest) (k .missed) (k .hits)
+module _ {X : Type 0} (hit : X → Bool) {xs : List X} (ys rest : List X) (e : xs ≡ ys ++ rest) where
+  pub absent-too : Missed hit xs → Missed hit ys
+  absent-too a = all-left (λ x. hit x ≡ false) ys rest (rw e at a)
+
+  abbrev grown : Hit hit ys → Hit hit xs
+  grown k = record {
+    before = k .before;
+    it = k .it;
+    later = k .later ++ rest;
+    list-is = e ∙ ap (λ r. r ++ rest) (k .list-is) ∙ append-assoc (k .before) (k .it ∷ k .later) rest;
+    missed = k .missed;
+    hits = k .hits;
+  }
 
   -- the first hit is among the others
-  pub narrowed : (a : Hit hit flat xs) → (k : Hit hit flat ys) × (k .it ≡ a .it) × (spotIn hit flat 0 ys ≡ spotIn hit flat 0 xs)
-  narrowed a = go (place hit flat ys)
-    where
-      go : Hit hit flat ys ⊎ Absent hit flat ys → (k : Hit hit flat ys) × (k .it ≡ a .it) × (spotIn hit flat 0 ys ≡ spotIn hit flat 0 xs)
-      go (inl k) = (k, ok-inj _ _ (sym (ask-hit hit flat (grown k) (λ x. ok x)) ∙ ask-hit hit flat a (λ x. ok x)), hit-spot hit flat k ∙ sym (hit-spot hit flat (grown k)))
-      go (inr k) =
-          let none = spot-misses hit flat xs (rw e (all-both (λ x. hit x ≡ false) ys rest (k .missed) m)) in
-          never 18 0 (a .it) (sym (ask-absent hit flat none (λ x. ok x)) ∙ ask-hit hit flat a (λ x. ok x))
-
-  pub absent-too : Absent hit flat xs → Absent hit flat ys
-  absent-too a = spot-misses hit flat ys (all-left (λ x. hit x ≡ false) ys rest (rw e at (a .missed)))
+  module _ (m : Missed hit rest) (flat : X → List ℕ) (body from : X → ℕ) where
+    pub narrowed : (a : Hit hit xs) → (k : Hit hit ys) × (k .it ≡ a .it) × (spotIn hit flat body from 0 ys ≡ spotIn hit flat body from 0 xs)
+    narrowed a = go (place hit ys)
+      where
+        go : Hit hit ys ⊎ Missed hit ys → (k : Hit hit ys) × (k .it ≡ a .it) × (spotIn hit flat body from 0 ys ≡ spotIn hit flat body from 0 xs)
+        go (inl k) = (k, ok-inj _ _ (sym (ask-hit hit (grown k) (λ x. ok x)) ∙ ask-hit hit a (λ x. ok x)), hit-spot hit flat body from k ∙ sym (hit-spot hit flat body from (grown k)))
+        go (inr none) = never 18 0 (a .it) (sym (ask-absent hit xs (rw e (all-both (λ x. hit x ≡ false) ys rest none m)) (λ x. ok x)) ∙ ask-hit hit a (λ x. ok x))
 
 -- something with the tag stands, where its spot has bytes
-pub has-spot : {X : Type 0} (key : X → ℕ) (tag : ℕ) (flat : X → List ℕ) → ((x : X) → 0 < length (flat x)) → (xs : List X) (a : ℕ) {b : ℕ} → b ≡ a + spotIn (λ x. eqb (key x) tag) flat 0 xs .size
+pub has-spot : {X : Type 0} (key : X → ℕ) (tag : ℕ) (flat : X → List ℕ) (body from : X → ℕ) → ((x : X) → 0 < length (flat x)) → (xs : List X) (k a b : ℕ)
+    → a ≡ k + spotIn (λ x. eqb (key x) tag) flat body from 0 xs .at → b ≡ k + spotIn (λ x. eqb (key x) tag) flat body from 0 xs .next
     → has tag (map key xs) ≡ ltb a b
-has-spot key tag flat some xs a {b = b} e = go (place (λ x. eqb (key x) tag) flat xs)
+has-spot key tag flat body from some xs k a b ea eb = go (place (λ x. eqb (key x) tag) xs)
   where
-    go : Hit (λ x. eqb (key x) tag) flat xs ⊎ Absent (λ x. eqb (key x) tag) flat xs → has tag (map key xs) ≡ ltb a b
-    go (inl k) = has-hit key tag flat k ∙ sym (lt-ltb a b (omega (arith, e, k .size-is, some (k .it))))
-    go (inr k) = has-absent key tag flat k ∙ sym (le-ltb a b (omega (arith, e, k .size-is)))
+    go : Hit (λ x. eqb (key x) tag) xs ⊎ Missed (λ x. eqb (key x) tag) xs → has tag (map key xs) ≡ ltb a b
+    go (inl h) = let z = hit-spot (λ x. eqb (key x) tag) flat body from h in has-hit key tag h ∙ sym (lt-ltb a b (omega (arith, ea, eb, ap (λ x. x .at) z, ap (λ x. x .next) z, some (h .it))))
+    go (inr m) = let z = missed-spot (λ x. eqb (key x) tag) flat body from xs m in has-absent key tag xs m ∙ sym (le-ltb a b (omega (arith, ea, eb, ap (λ x. x .at) z, ap (λ x. x .next) z)))
 
 -- ---- the bytes between two places
 
@@ -64,36 +70,41 @@ piece s a b p r e h =
 
 -- ---- one change to a level
 
--- size bytes at `at` exchanged
-pub record Cut (old new : List ℕ) (at size : ℕ) (item : List ℕ) : Type 0 where
+-- the bytes from `at` to `next` exchanged
+pub record Cut (old new : List ℕ) (at next : ℕ) (item : List ℕ) : Type 0 where
   pub front : List ℕ
   pub gone : List ℕ
   pub back : List ℕ
   pub was : old ≡ front ++ (gone ++ back)
   pub is : new ≡ front ++ (item ++ back)
   pub at-is : at ≡ length front
-  pub size-is : size ≡ length gone
+  pub next-is : next ≡ at + length gone
 
-cut-splice : (b : List ℕ) (at size : ℕ) (item : List ℕ) → at + size ≤ length b → {new : List ℕ} → new ≡ splice b at size item → Cut b new at size item
+cut-splice : (b : List ℕ) (at next : ℕ) (item : List ℕ) → (at ≤ next) × (next ≤ length b) → {new : List ℕ} → new ≡ splice b at next item → Cut b new at next item
 unfolding splice
-cut-splice b at size item h e = record {
-  front = take at b;
-  gone = take size (drop at b);
-  back = drop (at + size) b;
-  was = sym (take-append-drop at b) ∙ ap (λ r. take at b ++ r) (sym (take-append-drop size (drop at b)) ∙ ap (λ r. take size (drop at b) ++ r) (drop-drop size at b));
-  is = e;
-  at-is = sym (length-take-le at b (omega arith));
-  size-is = sym (length-take-le size (drop at b) (rw length-drop (omega arith)));
-}
+cut-splice b at next item h e =
+    let z : at + (next - at) ≡ next = omega arith in
+    record {
+      front = take at b;
+      gone = take (next - at) (drop at b);
+      back = drop next b;
+      was = sym (take-append-drop at b)
+          ∙ ap (λ r. take at b ++ r) (sym (take-append-drop (next - at) (drop at b)) ∙ ap (λ r. take (next - at) (drop at b) ++ r) (drop-drop (next - at) at b ∙ ap (λ n. drop n b) z));
+      is = e;
+      at-is = sym (length-take-le at b (omega arith));
+      next-is = omega (arith, length-take-le (next - at) (drop at b) (rw length-drop (omega arith)));
+    }
 
 -- the bytes that a change puts
 abbrev pub madeBytes : {X : Type 0} → (X → List ℕ) → (List ℕ → X) → Change → List ℕ
 madeBytes flat make (put v) = flat (make v)
 madeBytes flat make remove = []
 
-pub changed : {X : Type 0} (flat : X → List ℕ) (key : X → ℕ) (make : List ℕ → X) (tag : ℕ) (c : Change) (xs : List X)
-    → Cut (flatAll flat xs) (flatAll flat (applied key make tag c xs)) (spotIn (λ x. eqb (key x) tag) flat 0 xs .at) (spotIn (λ x. eqb (key x) tag) flat 0 xs .size) (madeBytes flat make c)
-unfolding applied
-changed flat key make tag (put v) xs =
-    cut-splice _ _ _ (flat (make v)) (spot-room (λ x. eqb (key x) tag) flat xs) (splice-put (λ x. eqb (key x) tag) flat (make v) xs)
-changed flat key make tag remove xs = cut-splice _ _ _ [] (spot-room (λ x. eqb (key x) tag) flat xs) (splice-out (λ x. eqb (key x) tag) flat xs)
+module _ {X : Type 0} (flat : X → List ℕ) (body from : X → ℕ) (key : X → ℕ) (make : List ℕ → X) (tag : ℕ) where
+  abbrev hit : X → Bool
+  hit x = eqb (key x) tag
+
+  pub changed : (c : Change) (xs : List X) → Cut (flatAll flat xs) (flatAll flat (applied key make tag c xs)) (spotIn hit flat body from 0 xs .at) (spotIn hit flat body from 0 xs .next) (madeBytes flat make c)
+  unfolding applied
+  changed (put v) xs = cut-splice _ _ _ (flat (make v)) (spot-room hit flat body from xs) (splice-put hit flat body from (make v) xs)
+  changed remove xs = cut-splice _ _ _ [] (spot-room hit flat body from xs) (splice-out hit flat body from xs)

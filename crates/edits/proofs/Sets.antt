@@ -17,16 +17,16 @@ use Rattle.format.specs.Calls.{itemOf}
 use Rattle.format.specs.Edit.{Change, put, remove, theSet, valWith, tagsAt, isSeries, editEntries}
 use Rattle.format.specs.Valid.{All}
 use Rattle.format.proofs.words.Flats.{flat-append}
-use Rattle.format.proofs.words.Keys.{flip}
+use Rattle.format.proofs.words.Keys.{flip, all-map}
 use Rattle.format.proofs.words.Together.{map-keys}
 use Rattle.format.proofs.table.Tags.{nameable-set}
 use Rattle.format.proofs.reading.Items.{length-item}
 use Rattle.format.proofs.reading.Entries.{plain-flat}
 use Rattle.format.proofs.sheets.Content.{part-tag}
 use Rattle.spots.specs.declared.Spot.{Spot}
-use Rattle.spots.specs.Meet.{spotIn, hasTag, entriesOf, entrySpot}
-use Rattle.spots.proofs.Splices.{Missed, all-map, spot-present, spot-absent, spot-room}
-use Rattle.spots.proofs.Entries.{entry-some, entries-flat}
+use Rattle.spots.specs.Meet.{spotIn, hasTag, entriesOf, entryLead, entrySpot}
+use Rattle.spots.proofs.Splices.{Missed, missed-spot, spot-present, spot-room}
+use Rattle.spots.proofs.Entries.{entry-some, entries-flat, tag-absent}
 use Rattle.edits.specs.declared.Place.{Place}
 use Rattle.edits.specs.Meet.{sealSize, SetOf, keptOf, editedOf, itemBytes, frontOf, runsOf, Placed}
 use Rattle.edits.proofs.Levels.{narrowed, absent-too, has-spot, piece, madeBytes, changed}
@@ -78,59 +78,62 @@ module _ (f : Form) (s : List ℕ) (b : Bytes s) (k : SetOf f s) where
   made-entry tag remove = refl
 
   module _ (tag : ℕ) (n : nameable set tag ≡ true) {a : Spot} (ea : a ≡ entrySpot set f tag s) where
-    other-tag : Missed (hasTag tag) flatEntry theRest
+    other-tag : Missed (hasTag tag) theRest
     other-tag = all-map Seal (λ e. hasTag tag e ≡ false) (λ e h. ap (λ t. eqb t tag) (h .0) ∙ flip tag 1 (nameable-set tag n .0)) theRest (rest-of f s k .seals)
 
-    abbrev pub SpotIs : ℕ → Type 0
-    SpotIs at = (at ≡ spotIn (hasTag tag) flatEntry 0 (keptOf f s) .at) × (a .size ≡ spotIn (hasTag tag) flatEntry 0 (keptOf f s) .size)
+    abbrev kept : Spot
+    kept = spotIn (hasTag tag) flatEntry entryLead entryLead 0 (keptOf f s)
+
+    abbrev pub SpotIs : ℕ → ℕ → Type 0
+    SpotIs at next = (at ≡ kept .at) × (next ≡ kept .next)
 
     -- where it stands, or would be added
-    pub spot-there : 0 < a .size → SpotIs (a .at)
+    pub spot-there : a .at < a .next → SpotIs (a .at) (a .next)
     spot-there h =
-        let (_, _, z) = narrowed (hasTag tag) flatEntry (keptOf f s) theRest (rest-of f s k .is) other-tag (spot-present (hasTag tag) flatEntry entry-some (entriesOf set f s) (rw ea at h)) in
-        (ap (λ x. x .at) (ea ∙ sym z), ap (λ x. x .size) (ea ∙ sym z))
+        let h₁ = spot-present (hasTag tag) flatEntry entryLead entryLead (entriesOf set f s) ea (λ e. omega arith) in
+        let (_, _, z) = narrowed (hasTag tag) (keptOf f s) theRest (rest-of f s k .is) other-tag flatEntry entryLead entryLead h₁ in
+        (ap (λ x. x .at) (ea ∙ sym z), ap (λ x. x .next) (ea ∙ sym z))
 
-    pub spot-added : {at : ℕ} → at ≡ length (flatAll flatEntry (keptOf f s)) → a .size ≤ 0 → SpotIs at
+    pub spot-added : {stop : ℕ} → stop ≡ length (flatAll flatEntry (keptOf f s)) → a .next ≤ a .at → SpotIs stop stop
     spot-added e h =
-        let z = absent-too (hasTag tag) flatEntry (keptOf f s) theRest (rest-of f s k .is) other-tag (spot-absent (hasTag tag) flatEntry entry-some (entriesOf set f s) (omega (arith, h, ap (λ x. x .size) ea))) in
-        (e ∙ sym (z .at-is), omega (arith, h, z .size-is))
+        let z = missed-spot (hasTag tag) flatEntry entryLead entryLead (keptOf f s) (absent-too (hasTag tag) (keptOf f s) theRest (rest-of f s k .is) (tag-absent set f tag s ea h)) in
+        (e ∙ sym (ap (λ x. x .at) z), e ∙ sym (ap (λ x. x .next) z))
 
-    module _ {at stop : ℕ} (es : stop ≡ length (flatAll flatEntry (keptOf f s))) (e : SpotIs at) where
-      pub set-room : at + a .size ≤ stop
-      set-room = omega (arith, es, e .0, e .1, spot-room (hasTag tag) flatEntry (keptOf f s))
-
+    module _ {at next stop : ℕ} (es : stop ≡ length (flatAll flatEntry (keptOf f s))) (e : SpotIs at next) where
       abbrev thePlace : Place
-      thePlace = record { series = 0; packs = 0; pack = 0; body = 0; at = at; next = at + a .size; last = stop; tail = stop; stop = stop }
+      thePlace = record { series = 0; packs = 0; pack = 0; body = 0; at = at; next = next; last = stop; tail = stop; stop = stop }
 
       set-runs : (c : Change) → editedOf f theSet tag c s ≡ runsOf set s thePlace (itemBytes set tag c)
       unfolding editEntries runsOf frontOf
       set-runs c =
           let u : List ℕ = flatAll flatEntry (keptOf f s) in
           let t : List ℕ = flatAll flatEntry theRest in
-          let x = changed flatEntry tagOfEntry (λ v. plain (itemOf (valWith set tag v))) tag c (keptOf f s) in
+          let x = changed flatEntry entryLead entryLead tagOfEntry (λ v. plain (itemOf (valWith set tag v))) tag c (keptOf f s) in
           let b₀ : s ≡ x .front ++ (x .gone ++ (x .back ++ t)) = set-bytes ∙ ap (λ r. r ++ t) (x .was) ∙ simp append-assoc in
           let lu : length u ≡ length (x .front) + (length (x .gone) + length (x .back)) = ap length (x .was) ∙ simp length-append in
           let (p₁, d₁) = piece s 0 at (x .front) _ b₀ (omega (arith, e .0, x .at-is)) in
-          let (_, d₂) = piece s at (at + a .size) (x .gone) _ d₁ (ap (λ n. at + n) (e .1 ∙ x .size-is)) in
-          let (p₃, _) = piece s (at + a .size) stop (x .back) t d₂ (omega (arith, es, lu, e .0, e .1, x .at-is, x .size-is)) in
+          let (_, d₂) = piece s at next (x .gone) _ d₁ (omega (arith, e .0, e .1, x .next-is)) in
+          let (p₃, _) = piece s next stop (x .back) t d₂ (omega (arith, es, lu, e .1, x .at-is, x .next-is)) in
           x .is ∙ rw (p₁, p₃, made-entry tag c)
 
       pub set-placed : Placed f theSet tag s thePlace
       unfolding tagsAt
-      set-placed = record {
-        ordered = record {
-          to-packs = omega arith;
-          to-pack = omega arith;
-          to-body = omega arith;
-          to-at = omega arith;
-          to-next = omega arith;
-          to-last = set-room;
-          to-tail = omega arith;
-          to-stop = omega arith;
-          to-end = omega (arith, es, set-long);
-        };
-        tags = map tagOfEntry (keptOf f s);
-        tags-are = ap ok (map-keys partOf tagOfEntry tagOfPart part-tag (keptOf f s));
-        stands = has-spot tagOfEntry tag flatEntry entry-some (keptOf f s) at (ap (λ n. at + n) (e .1));
-        runs = set-runs;
-      }
+      set-placed =
+          let room = spot-room (hasTag tag) flatEntry entryLead entryLead (keptOf f s) in
+          record {
+            ordered = record {
+              to-packs = omega arith;
+              to-pack = omega arith;
+              to-body = omega arith;
+              to-at = omega arith;
+              to-next = omega (arith, e .0, e .1, room);
+              to-last = omega (arith, es, e .1, room);
+              to-tail = omega arith;
+              to-stop = omega arith;
+              to-end = omega (arith, es, set-long);
+            };
+            tags = map tagOfEntry (keptOf f s);
+            tags-are = ap ok (map-keys partOf tagOfEntry tagOfPart part-tag (keptOf f s));
+            stands = has-spot tagOfEntry tag flatEntry entryLead entryLead entry-some (keptOf f s) 0 at next (omega (arith, e .0)) (omega (arith, e .1));
+            runs = set-runs;
+          }

@@ -22,21 +22,21 @@ use Rattle.format.proofs.coding.Oids.{oid-some}
 use Rattle.format.proofs.reading.Items.{length-item}
 use Rattle.format.proofs.sheets.Content.{val-tag, target-id}
 use Rattle.format.proofs.edits.Results.{part-series}
-use Rattle.spots.specs.Meet.{spotIn, hasId}
+use Rattle.spots.specs.Meet.{hasId, itemSpot, hasItem, itemLead}
 use Rattle.spots.proofs.Splices.{Hit, hit-flat, on-hit, ask-hit, spot-room}
 use Rattle.normals.specs.Meet.{seriesFront}
 use Rattle.edits.specs.declared.Place.{Place}
-use Rattle.edits.specs.Meet.{SetOf, keptOf, editedOf, itemBytes, bodySize, packsSize, frontOf, runsOf, hasItem, Ordered, Placed}
+use Rattle.edits.specs.Meet.{SetOf, keptOf, editedOf, itemBytes, bodySize, packsSize, frontOf, runsOf, Ordered, Placed}
 use Rattle.edits.proofs.Levels.{has-spot, piece, Cut, madeBytes, changed}
 use Rattle.edits.proofs.Sets.{theRest, set-bytes, set-long}
 
 -- how the numbers of a place come about
 pub record TargetAt (f : Form) (id tag : ℕ) (s : List ℕ) (p : Place) : Type 0 where
-  pub hit : Hit isSeries flatEntry (keptOf f s)
+  pub hit : Hit isSeries (keptOf f s)
   pub width : ℕ
   pub ps : List Pack
   pub it-is : hit .it ≡ series width ps
-  pub pack-hit : Hit (hasId id) flatPack ps
+  pub pack-hit : Hit (hasId id) ps
   pub pack-width : ℕ
   pub items : List Item
   pub pack-is : pack-hit .it ≡ record { width = pack-width; id = id; items = items }
@@ -44,18 +44,18 @@ pub record TargetAt (f : Form) (id tag : ℕ) (s : List ℕ) (p : Place) : Type 
   pub packs-at : p .packs ≡ p .series + (length (oidBytes 101) + width)
   pub pack-at : p .pack ≡ p .packs + length (flatAll flatPack (pack-hit .before))
   pub body-at : p .body ≡ p .pack + pack-width
-  pub item-at : p .at ≡ p .body + (length (oidBytes id) + spotIn (hasItem tag) flatItem 0 items .at)
-  pub next-at : p .next ≡ p .at + spotIn (hasItem tag) flatItem 0 items .size
+  pub item-at : p .at ≡ p .body + (length (oidBytes id) + itemSpot tag items .at)
+  pub next-at : p .next ≡ p .body + (length (oidBytes id) + itemSpot tag items .next)
   pub last-at : p .last ≡ p .body + (length (oidBytes id) + length (flatAll flatItem items))
   pub tail-at : p .tail ≡ p .packs + length (flatAll flatPack ps)
   pub stop-at : p .stop ≡ length (flatAll flatEntry (keptOf f s))
 
 -- ---- the bytes of what is changed in its place
 
-on-flat : {X : Type 0} (hit : X → Bool) (flat : X → List ℕ) (f : X → X) {xs : List X} (a : Hit hit flat xs)
+on-flat : {X : Type 0} (hit : X → Bool) (flat : X → List ℕ) (f : X → X) {xs : List X} (a : Hit hit xs)
     → flatAll flat (onHit hit f xs) ≡ flatAll flat (a .before) ++ (flat (f (a .it)) ++ flatAll flat (a .later))
 unfolding flatAll
-on-flat hit flat f a = ap (flatAll flat) (on-hit hit flat a f) ∙ flat-append flat (a .before) (f (a .it) ∷ a .later)
+on-flat hit flat f a = ap (flatAll flat) (on-hit hit a f) ∙ flat-append flat (a .before) (f (a .it) ∷ a .later)
 
 abbrev lenOf : ℕ → List ℕ
 lenOf n = lenBytes (lenWidth n) n
@@ -135,13 +135,13 @@ module _ (f : Form) (s : List ℕ) (b : Bytes s) (k : SetOf f s) {id tag : ℕ} 
 
   pub target-ordered : Ordered (length s) p
   target-ordered =
-      let room = spot-room (hasItem tag) flatItem (t .items) in
+      let room = spot-room (hasItem tag) flatItem itemLead itemLead (t .items) in
       record {
         to-packs = omega (arith, t .packs-at);
         to-pack = omega (arith, t .pack-at);
         to-body = omega (arith, t .body-at);
         to-at = omega (arith, t .item-at);
-        to-next = omega (arith, t .next-at);
+        to-next = omega (arith, t .item-at, t .next-at, room);
         to-last = omega (arith, t .next-at, t .item-at, t .last-at, room);
         to-tail = omega (arith, t .last-at, t .tail-at, t .body-at, t .pack-at, packs-long);
         to-stop = omega (arith, t .tail-at, t .packs-at, t .series-at, t .stop-at, entries-long);
@@ -154,18 +154,18 @@ module _ (f : Form) (s : List ℕ) (b : Bytes s) (k : SetOf f s) {id tag : ℕ} 
   unfolding tagsAt targetTags partOf targetOf
   target-tags =
       map-ask partOf isSeries isTargets part-series (targetTags id) (keptOf f s)
-      ∙ ask-hit isSeries flatEntry (t .hit) (λ e. targetTags id (partOf e))
+      ∙ ask-hit isSeries (t .hit) (λ e. targetTags id (partOf e))
       ∙ ap (λ e. targetTags id (partOf e)) (t .it-is)
       ∙ map-ask targetOf (hasId id) (λ g. eqb (g .id) id) (λ q. ap (λ n. eqb n id) (target-id q)) (λ g. ok (map tagOfVal (g .vals))) (t .ps)
-      ∙ ask-hit (hasId id) flatPack (t .pack-hit) (λ q. ok (map tagOfVal (targetOf q .vals)))
+      ∙ ask-hit (hasId id) (t .pack-hit) (λ q. ok (map tagOfVal (targetOf q .vals)))
       ∙ ap (λ q. ok (map tagOfVal (targetOf q .vals))) (t .pack-is)
       ∙ ap ok (map-keys (valOf pack) tagOfItem tagOfVal (val-tag pack) (t .items))
 
   -- ---- the runs
 
   module _ (c : Change) where
-    x : Cut itemsBytes (changedItems tag c (t .items)) (spotIn (hasItem tag) flatItem 0 (t .items) .at) (spotIn (hasItem tag) flatItem 0 (t .items) .size) (madeBytes flatItem (λ v. itemOf (valWith pack tag v)) c)
-    x = changed flatItem tagOfItem (λ v. itemOf (valWith pack tag v)) tag c (t .items)
+    x : Cut itemsBytes (changedItems tag c (t .items)) (itemSpot tag (t .items) .at) (itemSpot tag (t .items) .next) (madeBytes flatItem (λ v. itemOf (valWith pack tag v)) c)
+    x = changed flatItem itemLead itemLead tagOfItem (λ v. itemOf (valWith pack tag v)) tag c (t .items)
 
     abbrev item : List ℕ
     item = itemBytes pack tag c
@@ -180,7 +180,7 @@ module _ (f : Form) (s : List ℕ) (b : Bytes s) (k : SetOf f s) {id tag : ℕ} 
     bodyNow = oidBytes id ++ (x .front ++ (item ++ x .back))
 
     body-long : length bodyNow ≡ bodySize p (length item)
-    body-long = simp length-append (omega (arith, t .item-at, t .next-at, t .last-at, items-long, x .at-is, x .size-is))
+    body-long = simp length-append (omega (arith, t .item-at, t .next-at, t .last-at, items-long, x .at-is, x .next-is))
 
     abbrev packsNow : List ℕ
     packsNow = packsBefore ++ ((lenOf (bodySize p (length item)) ++ bodyNow) ++ packsLater)
@@ -223,8 +223,8 @@ module _ (f : Form) (s : List ℕ) (b : Bytes s) (k : SetOf f s) {id tag : ℕ} 
         let (p₃, d₃) = piece s (p .packs) (p .pack) packsBefore _ d₂ (t .pack-at) in
         let (_, d₄) = piece s (p .pack) (p .body) packLen _ d₃ (simp length-len (t .body-at)) in
         let (p₅, d₅) = piece s (p .body) (p .at) (oidBytes id ++ x .front) _ d₄ (simp length-append (omega (arith, t .item-at, x .at-is))) in
-        let (_, d₆) = piece s (p .at) (p .next) (x .gone) _ d₅ (omega (arith, t .next-at, x .size-is)) in
-        let (p₇, _) = piece s (p .next) (p .stop) (x .back ++ (packsLater ++ later)) _ d₆ (simp length-append (omega (arith, t .next-at, t .item-at, t .body-at, t .pack-at, t .packs-at, t .series-at, t .stop-at, entries-long, packs-long, items-long, x .at-is, x .size-is))) in
+        let (_, d₆) = piece s (p .at) (p .next) (x .gone) _ d₅ (omega (arith, t .item-at, t .next-at, x .next-is)) in
+        let (p₇, _) = piece s (p .next) (p .stop) (x .back ++ (packsLater ++ later)) _ d₆ (simp length-append (omega (arith, t .next-at, t .item-at, t .body-at, t .pack-at, t .packs-at, t .series-at, t .stop-at, entries-long, packs-long, items-long, x .at-is, x .next-is))) in
         entries-now
         ∙ now-runs before (oidBytes 101) (lenOf (packsSize p (length item))) packsBefore (lenOf (bodySize p (length item))) (oidBytes id) (x .front) item (x .back) packsLater later
         ∙ rw (p₁, p₃, p₅, p₇)
@@ -234,6 +234,6 @@ module _ (f : Form) (s : List ℕ) (b : Bytes s) (k : SetOf f s) {id tag : ℕ} 
     ordered = target-ordered;
     tags = map tagOfItem (t .items);
     tags-are = target-tags;
-    stands = has-spot tagOfItem tag flatItem item-some (t .items) (p .at) (t .next-at);
+    stands = has-spot tagOfItem tag flatItem itemLead itemLead item-some (t .items) (p .body + length (oidBytes id)) (p .at) (p .next) (omega (arith, t .item-at)) (omega (arith, t .next-at));
     runs = target-runs;
   }

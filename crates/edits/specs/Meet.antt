@@ -4,7 +4,7 @@ use Prim.Native.Nat.{ℕ, _+_, _-_, _≤_, _<_}
 use mathlib.Core.Bool.{Bool, true, false}
 use mathlib.Core.List.{List, [], _∷_, _++_, map}
 use lib.ListN.{length, take, drop}
-use lib.Dec.{ltb, eqb}
+use lib.Dec.{ltb}
 use Rattle.format.specs.Answer.{Ans, ok, refused}
 use Rattle.format.specs.Coding.{lenWidth, lenBytes, oidBytes}
 use Rattle.format.specs.Lists.{has, flatAll}
@@ -17,7 +17,7 @@ use Rattle.format.specs.Rows.{sealItem}
 use Rattle.format.specs.Edit.{Holder, theSet, target, Change, put, remove, levelOf, valWith, tagsAt, editRules, editEntries}
 use Rattle.format.specs.Valid.{All}
 use Rattle.walks.specs.Runs.{Ran, levelRun}
-use Rattle.spots.specs.Meet.{spotIn, entriesOf, packsOf, hasId}
+use Rattle.spots.specs.Meet.{entriesOf, packsOf, hasId, itemSpot}
 use Rattle.normals.specs.Meet.{seriesFront}
 use Rattle.edits.specs.declared.Place.{Place}
 use Rattle.edits.specs.declared.Found.{Found}
@@ -92,9 +92,6 @@ runsSize pack p n = p .series + 1 + lenWidth (packsSize p n) + packsSize p n + (
 
 -- ---- a place
 
-abbrev pub hasItem : ℕ → Item → Bool
-hasItem tag i = eqb (i .tag) tag
-
 -- in order, within n bytes
 pub record Ordered (n : ℕ) (p : Place) : Type 0 where
   pub to-packs : p .series ≤ p .packs
@@ -125,8 +122,8 @@ pub record InPacks (f : Form) (id tag : ℕ) (s : List ℕ) (p : Place) : Type 0
   pub missed : All (λ q. hasId id q ≡ false) before
   pub pack-at : p .pack ≡ length (flatAll flatPack before)
   pub body-at : p .body ≡ p .pack + width
-  pub item-at : p .at ≡ p .body + (length (oidBytes id) + spotIn (hasItem tag) flatItem 0 items .at)
-  pub next-at : p .next ≡ p .at + spotIn (hasItem tag) flatItem 0 items .size
+  pub item-at : p .at ≡ p .body + (length (oidBytes id) + itemSpot tag items .at)
+  pub next-at : p .next ≡ p .body + (length (oidBytes id) + itemSpot tag items .next)
   pub last-at : p .last ≡ p .body + (length (oidBytes id) + length (flatAll flatItem items))
   pub inside : p .last ≤ length s
 

@@ -11,7 +11,6 @@ ghost use Rattle.format.specs.Edit.{theSet, target, mustStay, changeRules};
 ghost use Rattle.items.specs.Meet.{formOf, levelOf, itemTable, answerOf};
 ghost use Rattle.walks.specs.Runs.{Ran, seriesRun};
 ghost use Rattle.edits.specs.Meet.{holderOf, changeOf, sealSize, SetOf, Placed, shiftedOf, FoundInPacks, FoundIs, Judged};
-use heads::Head;
 
 // Where an item stands in the bytes of a packet's set. For a target's item: where the series begins, its packs, the pack, the pack's id,
 // the item, what follows it, where the pack ends, the series, and the entries, before the checksum. Where there is no such item, it would
@@ -53,8 +52,10 @@ fn set_place(s: &[u8], alone: bool, tag: u64) -> Place
     let stop = stop_of(s, alone);
     let a = spots::item_spot(s, true, alone, tag);
     let mut at = stop;
-    if 0 < a.size {
+    let mut next = stop;
+    if a.at < a.next {
         at = a.at;
+        next = a.next;
     }
     Place {
         series: 0,
@@ -62,7 +63,7 @@ fn set_place(s: &[u8], alone: bool, tag: u64) -> Place
         pack: 0,
         body: 0,
         at,
-        next: at + a.size,
+        next,
         last: stop,
         tail: stop,
         stop,
@@ -75,32 +76,19 @@ fn pack_place(s: &[u8], alone: bool, id: u64, tag: u64) -> Found
     ensures { λ r. ⌜ FoundInPacks (formOf alone) id tag (now (s .entry)) r ⌝ }
 {
     let a = spots::pack_spot(s, alone, id);
-    let pack = a.at;
-    if a.size == 0 {
+    if a.at == a.next {
         return Found::Not(18);
     }
-    let h = heads::pack_head(&s[pack..]);
-    let Head::Whole {
-        key: _,
-        used,
-        width,
-        size,
-    } = h
-    else {
-        return Found::Not(18);
-    };
-    let body = pack + width;
-    let from = body + used;
-    let last = body + size;
+    let from = a.from;
+    let last = a.next;
     let b = spots::item_spot(&s[from..last], false, alone, tag);
-    let at = from + b.at;
     let place = Place {
         series: 0,
         packs: 0,
-        pack,
-        body,
-        at,
-        next: at + b.size,
+        pack: a.at,
+        body: a.body,
+        at: from + b.at,
+        next: from + b.next,
         last,
         tail: last,
         stop: last,
@@ -132,28 +120,17 @@ fn target_place(s: &[u8], alone: bool, id: u64, tag: u64) -> Found
     ensures { λ r. ⌜ FoundIs (formOf alone) (target id) tag (now (s .entry)) r ⌝ }
 {
     let a = spots::item_spot(s, true, alone, 101);
-    let series = a.at;
-    if a.size == 0 {
+    if a.at == a.next {
         return Found::Not(18);
     }
-    let h = heads::item_head(&s[series..], true);
-    let Head::Whole {
-        key: _,
-        used,
-        width,
-        size,
-    } = h
-    else {
-        return Found::Not(18);
-    };
-    let packs = series + used + width;
-    let tail = packs + size;
+    let packs = a.from;
+    let tail = a.next;
     let f = pack_place(&s[packs..tail], alone, id, tag);
     let Found::There(p) = f else {
         return f;
     };
     let stop = stop_of(s, alone);
-    Found::There(shifted(p, series, packs, tail, stop))
+    Found::There(shifted(p, a.at, packs, tail, stop))
 }
 
 // The place of an item that may be named; or 18, where there is no such target.

@@ -14,7 +14,7 @@ use super::Place;
 // ---- the item
 
 // The bytes of the item that is put; none for a removal.
-fn item_size(table: &[u32], set: bool, tag: u64, removal: bool, v: &[u8]) -> usize
+pub fn item_size(table: &[u64], set: bool, tag: u64, removal: bool, v: &[u8]) -> usize
     requires { ⌜ (now table ≡ itemTable) × (tag ≤ 16383) × Puttable (changeOf removal (now v)) ⌝ }
     ensures { λ r. ⌜ r ≡ length (itemBytes (levelOf set) tag (changeOf removal (now (v .entry)))) ⌝ }
 {
@@ -77,9 +77,8 @@ fn runs_size(set: bool, p: Place, n: usize) -> usize
     p.series + 1 + coding::widths::len_width(packs) + packs + (p.stop - p.tail)
 }
 
-// How many bytes the edited entries take.
+// How many bytes the edited entries take, with an item of n.
 pub fn edited_size(
-    table: &[u32],
     s: &[u8],
     alone: bool,
     set: bool,
@@ -88,11 +87,11 @@ pub fn edited_size(
     removal: bool,
     v: &[u8],
     p: Place,
+    n: usize,
 ) -> usize
-    requires { ⌜ (now table ≡ itemTable) × Editing (formOf alone) (holderOf set id) tag (changeOf removal (now v)) (now s) p ⌝ }
+    requires { ⌜ Editing (formOf alone) (holderOf set id) tag (changeOf removal (now v)) (now s) p × (n ≡ length (itemBytes (levelOf set) tag (changeOf removal (now v)))) ⌝ }
     ensures { λ r. ⌜ r ≡ length (editedOf (formOf alone) (holderOf set id) tag (changeOf removal (now (v .entry))) (now (s .entry))) ⌝ }
 {
-    let n = item_size(table, set, tag, removal, v);
     runs_size(set, p, n)
 }
 
@@ -118,7 +117,7 @@ fn put_front(s: &[u8], set: bool, p: Place, n: usize, out: &mut [u8]) -> usize
     stores::copy_run(out, d, &s[body..at])
 }
 
-// The edited entries, at the start of out; how many bytes.
+// The edited entries, with an item of n bytes, at the start of out; how many bytes.
 pub fn put_edited(
     table: &[u32],
     s: &[u8],
@@ -129,12 +128,12 @@ pub fn put_edited(
     removal: bool,
     v: &[u8],
     p: Place,
+    n: usize,
     out: &mut [u8],
 ) -> usize
-    requires { ⌜ (now table ≡ itemTable) × Editing (formOf alone) (holderOf set id) tag (changeOf removal (now v)) (now s) p × (length (editedOf (formOf alone) (holderOf set id) tag (changeOf removal (now v)) (now s)) ≤ length (now out)) ⌝ }
+    requires { ⌜ (now table ≡ itemTable) × Editing (formOf alone) (holderOf set id) tag (changeOf removal (now v)) (now s) p × (length (editedOf (formOf alone) (holderOf set id) tag (changeOf removal (now v)) (now s)) ≤ length (now out)) × (n ≡ length (itemBytes (levelOf set) tag (changeOf removal (now v)))) ⌝ }
     ensures { λ r. ⌜ (r ≡ length (editedOf (formOf alone) (holderOf set id) tag (changeOf removal (now (v .entry))) (now (s .entry)))) × (now (out .exit) ≡ sets (now (out .entry)) 0 (editedOf (formOf alone) (holderOf set id) tag (changeOf removal (now (v .entry))) (now (s .entry)))) ⌝ }
 {
-    let n = item_size(table, set, tag, removal, v);
     let a = put_front(s, set, p, n, out);
     let b = put_item(table, out, a, set, tag, removal, v);
     let next = p.next;

@@ -6,30 +6,19 @@ use Rattle.edits.proofs.Storing.{tag-high, tag-other, puttable, item-fi
 use Rattle.edits.proofs.puts.put_edited.Statement.{statement}
 use Rattle.edits.proofs.puts.put_edited.Tie as tie
 
-item-size-requires : tie.Need-item-size-requires
-item-size-requires c κs =
-    let i = c .before .before .before .before .args in
-    let e = c .before .before .before .before .pre .1 in
-    (c .before .before .before .before .pre .0, tag-high (formOf (i .alone)) (i .set) (i .id) (i .tag) _ (i .s .now) (i .p) e, puttable (formOf (i .alone)) (i .set) (i .id) (i .tag) _ (i .s .now) (i .p) e)
-
 put-front-requires : tie.Need-put-front-requires
 put-front-requires c κs =
-    let i = c .before .before .before .before .before .before .args in
-    let e = c .before .before .before .before .before .before .pre .1 in
+    let i = c .before .before .before .before .before .args in
+    let (t, e, room, en) = c .before .before .before .before .before .pre in
     let x = changeOf (i .removal) (i .v .now) in
-    (e .short, e .placed .ordered, item-fits (formOf (i .alone)) (i .set) (i .id) (i .tag) x (i .s .now) (i .p) e (c .before .item-size .ensures), front-room (formOf (i .alone)) (i .set) (i .id) (i .tag) x (i .s .now) (i .p) e (i .out .now) (c .before .before .before .before .before .before .pre .2) (c .before .item-size .ensures))
+    (e .short, e .placed .ordered, item-fits (formOf (i .alone)) (i .set) (i .id) (i .tag) x (i .s .now) (i .p) e en, front-room (formOf (i .alone)) (i .set) (i .id) (i .tag) x (i .s .now) (i .p) e (i .out .now) room en)
 
 put-item-requires : tie.Need-put-item-requires
 put-item-requires c κs =
-    let i = c .before .before .before .before .before .before .before .before .before .before .args in
-    let e = c .before .before .before .before .before .before .before .before .before .before .pre .1 in
-    let x = changeOf (i .removal) (i .v .now) in (
-      c .before .before .before .before .before .before .before .before .before .before .pre .0,
-      tag-high (formOf (i .alone)) (i .set) (i .id) (i .tag) x (i .s .now) (i .p) e,
-      tag-other (formOf (i .alone)) (i .set) (i .id) (i .tag) x (i .s .now) (i .p) e,
-      puttable (formOf (i .alone)) (i .set) (i .id) (i .tag) x (i .s .now) (i .p) e,
-      item-behind (formOf (i .alone)) (i .set) (i .id) (i .tag) x (i .s .now) (i .p) e (i .out .now) (c .before .before .before .before .before .before .before .before .before .before .pre .2) (c .before .before .before .before .before .item-size .ensures) (c .before .before .before .put-front .ensures),
-    )
+    let i = c .before .before .before .before .before .before .before .before .before .args in
+    let (t, e, room, en) = c .before .before .before .before .before .before .before .before .before .pre in
+    let x = changeOf (i .removal) (i .v .now) in
+    (t, tag-high (formOf (i .alone)) (i .set) (i .id) (i .tag) x (i .s .now) (i .p) e, tag-other (formOf (i .alone)) (i .set) (i .id) (i .tag) x (i .s .now) (i .p) e, puttable (formOf (i .alone)) (i .set) (i .id) (i .tag) x (i .s .now) (i .p) e, item-behind (formOf (i .alone)) (i .set) (i .id) (i .tag) x (i .s .now) (i .p) e (i .out .now) room en (c .before .before .before .put-front .ensures))
 
 sub-copy-run : tie.Need-sub-copy-run
 sub-copy-run c = search needs
@@ -42,22 +31,25 @@ part-copy-run-end c = search needs
 
 copy-run-requires : tie.Need-copy-run-requires
 copy-run-requires c κs =
-    let i = c .before .before .before .before .before .before .before .before .before .before .before .before .before .before .before .args in
-    rest-behind (formOf (i .alone)) (i .set) (i .id) (i .tag) (changeOf (i .removal) (i .v .now)) (i .s .now) (i .p) (c .before .before .before .before .before .before .before .before .before .before .before .before .before .before .before .pre .1) (i .out .now) (c .before .before .before .before .before .before .before .before .before .before .before .before .before .before .before .pre .2) (c .before .before .before .before .before .before .before .before .before .before .item-size .ensures) (c .before .before .before .before .before .before .before .before .put-front .ensures) (c .before .before .before .before .put-item .ensures)
+    let i = c .before .before .before .before .before .before .before .before .before .before .before .before .before .before .args in
+    let (t, e, room, en) = c .before .before .before .before .before .before .before .before .before .before .before .before .before .before .pre in
+    let x = changeOf (i .removal) (i .v .now) in
+    rest-behind (formOf (i .alone)) (i .set) (i .id) (i .tag) x (i .s .now) (i .p) e (i .out .now) room en (c .before .before .before .before .before .before .before .before .put-front .ensures) (c .before .before .before .before .put-item .ensures)
 
 same-length : tie.Need-same-length
 same-length c = search needs
 
 returns : tie.Need-returns
 returns c =
-    let i = c .before .before .before .before .before .before .before .before .before .before .before .before .before .before .before .before .before .before .args in
-    edited-stored (formOf (i .alone)) (i .set) (i .id) (i .tag) (changeOf (i .removal) (i .v .now)) (i .s .now) (i .p) (c .before .before .before .before .before .before .before .before .before .before .before .before .before .before .before .before .before .before .pre .1) (i .out .now) (c .before .before .before .before .before .before .before .before .before .before .before .before .before .before .before .before .before .before .pre .2) (c .before .before .before .before .before .before .before .before .before .before .before .before .before .item-size .ensures) (c .before .before .before .before .before .before .before .before .before .before .before .put-front .ensures) (c .before .before .before .before .before .before .before .put-item .ensures) (c .before .before .copy-run .ensures)
+    let i = c .before .before .before .before .before .before .before .before .before .before .before .before .before .before .before .before .before .args in
+    let (t, e, room, en) = c .before .before .before .before .before .before .before .before .before .before .before .before .before .before .before .before .before .pre in
+    let x = changeOf (i .removal) (i .v .now) in
+    edited-stored (formOf (i .alone)) (i .set) (i .id) (i .tag) x (i .s .now) (i .p) e (i .out .now) room en (c .before .before .before .before .before .before .before .before .before .before .before .put-front .ensures) (c .before .before .before .before .before .before .before .put-item .ensures) (c .before .before .copy-run .ensures)
 
 pub put-edited-spec : {M : Type 1} → statement M
 put-edited-spec =
     tie.close
     (tie.spec
-    item-size-requires
     put-front-requires
     put-item-requires
     sub-copy-run

@@ -21,7 +21,7 @@ use Rattle.format.proofs.words.Keys.{all-map}
 use Rattle.format.proofs.rows.Find.{OneSeries}
 use Rattle.items.proofs.Tests.{bind-so, bind-not}
 use Rattle.spots.specs.Meet.{hasId}
-use Rattle.spots.proofs.Splices.{Missed, Hit, Absent, spot-hits, place, ask-hit}
+use Rattle.spots.proofs.Splices.{Missed, Hit, place, ask-hit}
 use Rattle.shows.specs.Meet.{valueOf, rowFor, rowIn, packRowIn}
 
 module _ (k tag : ℕ) where
@@ -128,24 +128,24 @@ same-items k tag at (i ∷ is) = go (same-items k tag (at + length (flatItem i))
 
 -- ---- in packs
 
-number-past : (id n : ℕ) (before later : List Pack) → Missed (hasId id) flatPack before → numberIn id n (before ++ later) ≡ numberIn id (n + length before) later
+number-past : (id n : ℕ) (before later : List Pack) → Missed (hasId id) before → numberIn id n (before ++ later) ≡ numberIn id (n + length before) later
 unfolding numberIn
 number-past id n [] later m = ap (λ x. numberIn id x later) (omega arith)
 number-past id n (p ∷ ps) later m = rw (m .0, numberIn) (number-past id (suc n) ps later (m .1) ∙ ap (λ x. numberIn id x later) (omega arith))
 
-number-hit : (id : ℕ) (before later : List Pack) (p : Pack) → Missed (hasId id) flatPack before → hasId id p ≡ true → numberIn id 1 (before ++ p ∷ later) ≡ ok (1 + length before)
+number-hit : (id : ℕ) (before later : List Pack) (p : Pack) → Missed (hasId id) before → hasId id p ≡ true → numberIn id 1 (before ++ p ∷ later) ≡ ok (1 + length before)
 unfolding numberIn
 number-hit id before later p m h = number-past id 1 before (p ∷ later) m ∙ rw (h, numberIn)
 
-number-none : (id : ℕ) (ps : List Pack) → Missed (hasId id) flatPack ps → numberIn id 1 ps ≡ refused 18 0
+number-none : (id : ℕ) (ps : List Pack) → Missed (hasId id) ps → numberIn id 1 ps ≡ refused 18 0
 unfolding numberIn
 number-none id ps m = ap (numberIn id 1) (sym (append-nil ps)) ∙ number-past id 1 ps [] m
 
-pub pack-none : (id tag at : ℕ) (ps : List Pack) → Missed (hasId id) flatPack ps → packRowIn id tag at ps ≡ refused 18 0
+pub pack-none : (id tag at : ℕ) (ps : List Pack) → Missed (hasId id) ps → packRowIn id tag at ps ≡ refused 18 0
 pack-none id tag at ps m = bind-not (numberIn id 1 ps) _ 18 0 (number-none id ps m)
 
 -- the pack with the id: its items, and no other pack's
-pub pack-row : (id tag at : ℕ) (before later : List Pack) (p : Pack) → 0 < tag → Missed (hasId id) flatPack before → hasId id p ≡ true
+pub pack-row : (id tag at : ℕ) (before later : List Pack) (p : Pack) → 0 < tag → Missed (hasId id) before → hasId id p ≡ true
     → valueOf (packRowIn id tag at (before ++ p ∷ later)) ≡ valueOf (rowFor 0 tag (entryRows (at + length (flatAll flatPack before) + p .width + length (oidBytes (p .id))) (map plain (p .items))))
 unfolding packRows
 pack-row id tag at before later p pos m h =
@@ -177,7 +177,7 @@ module _ (id tag at : ℕ) (before : List Entry) (w : ℕ) (ps : List Pack) (lat
 
   number-is : numberOf (target id) all ≡ numberIn id 1 ps
   unfolding numberOf seriesNumber
-  number-is = ask-hit isSeries flatEntry (spot-hits isSeries flatEntry all before (series w ps) later refl m refl) (seriesNumber id)
+  number-is = ask-hit isSeries (record { before = before; it = series w ps; later = later; list-is = refl; missed = m; hits = refl }) (seriesNumber id)
 
   -- entries of the set's own are passed
   passes : (k : ℕ) → 0 < k → (e : Entry) → isSeries e ≡ false → Passed k tag e
@@ -198,11 +198,11 @@ module _ (id tag at : ℕ) (before : List Entry) (w : ℕ) (ps : List Pack) (lat
       ∙ front k tag (packRows 1 (from + 1 + w) ps) (entryRows after later) none
 
   pub target-row : rowIn (target id) tag at all ≡ packRowIn id tag (from + 1 + w) ps
-  target-row = go (place (hasId id) flatPack ps)
+  target-row = go (place (hasId id) ps)
     where
-      go : Hit (hasId id) flatPack ps ⊎ Absent (hasId id) flatPack ps → rowIn (target id) tag at all ≡ packRowIn id tag (from + 1 + w) ps
+      go : Hit (hasId id) ps ⊎ Missed (hasId id) ps → rowIn (target id) tag at all ≡ packRowIn id tag (from + 1 + w) ps
       go (inl a) =
           let k : ℕ = 1 + length (a .before) in
           let e : numberIn id 1 ps ≡ ok k = ap (numberIn id 1) (a .list-is) ∙ number-hit id (a .before) (a .later) (a .it) (a .missed) (a .hits) in
           bind-so (numberOf (target id) all) _ k (number-is ∙ e) ∙ rows-are k (omega arith) ∙ sym (bind-so (numberIn id 1 ps) _ k e)
-      go (inr a) = bind-not (numberOf (target id) all) _ 18 0 (number-is ∙ number-none id ps (a .missed)) ∙ sym (pack-none id tag (from + 1 + w) ps (a .missed))
+      go (inr none) = bind-not (numberOf (target id) all) _ 18 0 (number-is ∙ number-none id ps none) ∙ sym (pack-none id tag (from + 1 + w) ps none)

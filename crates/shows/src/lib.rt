@@ -15,7 +15,6 @@ ghost use Rattle.walks.specs.Runs.{Ran, levelRun, seriesRun};
 ghost use Rattle.spots.specs.Meet.{entriesOf, packsOf};
 ghost use Rattle.edits.specs.Meet.{holderOf, SetOf};
 ghost use Rattle.shows.specs.Meet.{valueOf, rowFor, rowIn, packRowIn};
-use heads::Head;
 
 // Where a value stands: whether it is there, its offset from the packet's start, and its length.
 pub struct Value {
@@ -41,25 +40,13 @@ fn item_value(s: &[u8], at: usize, set: bool, alone: bool, tag: u64) -> Value
         × (r .offset + r .size ≤ at + length (now (s .entry))) ⌝ }
 {
     let a = spots::item_spot(s, set, alone, tag);
-    let p = a.at;
-    if a.size == 0 {
+    if a.at == a.next {
         return absent();
     }
-    let h = heads::item_head(&s[p..], set);
-    let Head::Whole {
-        key: _,
-        used,
-        width,
-        size,
-    } = h
-    else {
-        return absent();
-    };
-    let from = at + p + used + width;
     Value {
         there: true,
-        offset: from,
-        size,
+        offset: at + a.from,
+        size: a.next - a.from,
     }
 }
 
@@ -69,24 +56,12 @@ fn pack_value(s: &[u8], at: usize, alone: bool, id: u64, tag: u64) -> Value
     ensures { λ r. ⌜ (r ≡ valueOf (packRowIn id tag at (packsOf (formOf alone) (now (s .entry))))) × (r .offset + r .size ≤ at + length (now (s .entry))) ⌝ }
 {
     let a = spots::pack_spot(s, alone, id);
-    let p = a.at;
-    if a.size == 0 {
+    if a.at == a.next {
         return absent();
     }
-    let h = heads::pack_head(&s[p..]);
-    let Head::Whole {
-        key: _,
-        used,
-        width,
-        size,
-    } = h
-    else {
-        return absent();
-    };
-    let body = p + width;
-    let from = body + used;
-    let last = body + size;
-    item_value(&s[from..last], at + from, false, alone, tag)
+    let from = a.from;
+    let next = a.next;
+    item_value(&s[from..next], at + from, false, alone, tag)
 }
 
 // An item of a target, in the set.
@@ -95,23 +70,12 @@ fn target_value(s: &[u8], at: usize, alone: bool, id: u64, tag: u64) -> Value
     ensures { λ r. ⌜ (r ≡ valueOf (rowIn (target id) tag at (entriesOf Table.set (formOf alone) (now (s .entry))))) × (r .offset + r .size ≤ at + length (now (s .entry))) ⌝ }
 {
     let a = spots::item_spot(s, true, alone, 101);
-    let p = a.at;
-    if a.size == 0 {
+    if a.at == a.next {
         return absent();
     }
-    let h = heads::item_head(&s[p..], true);
-    let Head::Whole {
-        key: _,
-        used,
-        width,
-        size,
-    } = h
-    else {
-        return absent();
-    };
-    let packs = p + used + width;
-    let tail = packs + size;
-    pack_value(&s[packs..tail], at + packs, alone, id, tag)
+    let from = a.from;
+    let next = a.next;
+    pack_value(&s[from..next], at + from, alone, id, tag)
 }
 
 // An item that may be shown, in a set whose bytes begin at the offset `at`.

@@ -179,7 +179,8 @@ pub fn edit(
     if over_long(removal, value) {
         return answer_of(1, 0);
     }
-    let n = edits::puts::edited_size(&table, s, alone, set, id, tag, removal, value, p);
+    let size = edits::puts::item_size(&table, set, tag, removal, value);
+    let n = edits::puts::edited_size(s, alone, set, id, tag, removal, value, p, size);
     let total = frames::frame_size(alone, n);
     if 8192 < total {
         return answer_of(1, 0);
@@ -198,6 +199,7 @@ pub fn edit(
         removal,
         value,
         p,
+        size,
         &mut out[a..],
     );
     frames::close(out, alone, a + k);

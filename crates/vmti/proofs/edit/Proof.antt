@@ -6,6 +6,7 @@ use mathlib.Core.Path.{refl, sym}
 use native.Mathlib.Omega.{arith}
 use borrow.Author.Needs.{needs}
 use Rattle.items.proofs.Rows.{table-long}
+use Rattle.edits.proofs.Storing.{tag-high, puttable}
 use Rattle.edits.proofs.Callers.{edited-small}
 use Rattle.vmti.proofs.Opened.{opened, set-room}
 use Rattle.vmti.proofs.Framed.{open-asked, rest-from, rest-room, entries-end, close-asked, all-written}
@@ -91,25 +92,35 @@ returns-3 c =
     let a = k .before in
     edit-over _ _ _ _ _ (a .before .before .check .ensures) (λ i. a .before .before .before .before .before .before .before .shared-slice-known .given i .fits) (a .enum-told .given .1) (k .set-start .ensures) (j .judge .ensures) (f .f .given .1) (a .before .before .before .before .before .before .before .before .args .removal) (a .before .before .before .before .before .before .before .before .args .value .now) refl (c .before .before .over-long .ensures) (c .before .if1 .taken) _ (c .answer-of .ensures)
 
-slice-aggregate-edited-size : tie.Need-slice-aggregate-edited-size
-slice-aggregate-edited-size c = search needs
+slice-aggregate-item-size : tie.Need-slice-aggregate-item-size
+slice-aggregate-item-size c = search needs
 
-edited-size-requires : tie.Need-edited-size-requires
-edited-size-requires c κs =
+item-size-requires : tie.Need-item-size-requires
+item-size-requires c κs =
     let f = c .before .before .before .before in
     let j = f .before .before in
     let k = j .before .before .before in
     let a = k .before in
-    (a .before .before .before .before .table .ensures, editing _ _ _ _ _ (a .before .before .check .ensures) (λ i. a .before .before .before .before .before .before .before .shared-slice-known .given i .fits) (a .enum-told .given .1) (k .set-start .ensures) (j .judge .ensures) (f .f .given .1) (not-long (a .before .before .before .before .before .before .before .before .args .removal) (a .before .before .before .before .before .before .before .before .args .value .now) (c .before .before .over-long .ensures) (c .before .if1 .left)))
+    let i = a .before .before .before .before .before .before .before .before .args in
+    let e = editing _ _ _ _ _ (a .before .before .check .ensures) (λ i. a .before .before .before .before .before .before .before .shared-slice-known .given i .fits) (a .enum-told .given .1) (k .set-start .ensures) (j .judge .ensures) (f .f .given .1) (not-long (a .before .before .before .before .before .before .before .before .args .removal) (a .before .before .before .before .before .before .before .before .args .value .now) (c .before .before .over-long .ensures) (c .before .if1 .left)) in
+    (a .before .before .before .before .table .ensures, tag-high _ (i .set) (i .id) (i .tag) _ _ _ e, puttable _ (i .set) (i .id) (i .tag) _ _ _ e)
+
+edited-size-requires : tie.Need-edited-size-requires
+edited-size-requires c κs =
+    let f = c .before .before .before .before .before in
+    let j = f .before .before in
+    let k = j .before .before .before in
+    let a = k .before in
+    (editing _ _ _ _ _ (a .before .before .check .ensures) (λ i. a .before .before .before .before .before .before .before .shared-slice-known .given i .fits) (a .enum-told .given .1) (k .set-start .ensures) (j .judge .ensures) (f .f .given .1) (not-long (a .before .before .before .before .before .before .before .before .args .removal) (a .before .before .before .before .before .before .before .before .args .value .now) (c .before .before .before .over-long .ensures) (c .before .before .if1 .left)), c .item-size .ensures)
 
 frame-size-requires : tie.Need-frame-size-requires
 frame-size-requires c κs =
     let m = c in
-    let f = m .before .before .before .before .before in
-    let j = m .before .before .before .before .before .before .before in
-    let k = m .before .before .before .before .before .before .before .before .before .before in
+    let f = m .before .before .before .before .before .before in
+    let j = m .before .before .before .before .before .before .before .before in
+    let k = m .before .before .before .before .before .before .before .before .before .before .before in
     let a = k .before in
-    omega (arith, m .edited-size .ensures, edited-small _ (a .before .before .before .before .before .before .before .before .args .set) (a .before .before .before .before .before .before .before .before .args .id) _ _ _ _ (editing _ _ _ _ _ (a .before .before .check .ensures) (λ i. a .before .before .before .before .before .before .before .shared-slice-known .given i .fits) (a .enum-told .given .1) (k .set-start .ensures) (j .judge .ensures) (f .f .given .1) (not-long (a .before .before .before .before .before .before .before .before .args .removal) (a .before .before .before .before .before .before .before .before .args .value .now) (m .before .before .before .over-long .ensures) (m .before .before .if1 .left))))
+    omega (arith, m .edited-size .ensures, edited-small _ (a .before .before .before .before .before .before .before .before .args .set) (a .before .before .before .before .before .before .before .before .args .id) _ _ _ _ (editing _ _ _ _ _ (a .before .before .check .ensures) (λ i. a .before .before .before .before .before .before .before .shared-slice-known .given i .fits) (a .enum-told .given .1) (k .set-start .ensures) (j .judge .ensures) (f .f .given .1) (not-long (a .before .before .before .before .before .before .before .before .args .removal) (a .before .before .before .before .before .before .before .before .args .value .now) (m .before .before .before .before .over-long .ensures) (m .before .before .before .if1 .left))))
 
 answer-of-requires-2 : tie.Need-answer-of-requires-2
 answer-of-requires-2 c κs = search needs
@@ -118,9 +129,9 @@ returns-4 : tie.Need-returns-4
 returns-4 c =
     let z = c .before .before in
     let m = z .before in
-    let f = m .before .before .before .before .before in
-    let j = m .before .before .before .before .before .before .before in
-    let k = m .before .before .before .before .before .before .before .before .before .before in
+    let f = m .before .before .before .before .before .before in
+    let j = m .before .before .before .before .before .before .before .before in
+    let k = m .before .before .before .before .before .before .before .before .before .before .before in
     let a = k .before in
     packs-long (edit-packs _ _ _ _ _ (a .before .before .check .ensures) (λ i. a .before .before .before .before .before .before .before .shared-slice-known .given i .fits) (a .enum-told .given .1) (k .set-start .ensures) (j .judge .ensures) (f .f .given .1) (m .edited-size .ensures) (z .frame-size .ensures)) _ (c .before .if2 .taken) (c .answer-of2 .ensures)
 
@@ -132,9 +143,9 @@ returns-5 c =
     let g = c .before in
     let z = g .before .before in
     let m = z .before in
-    let f = m .before .before .before .before .before in
-    let j = m .before .before .before .before .before .before .before in
-    let k = m .before .before .before .before .before .before .before .before .before .before in
+    let f = m .before .before .before .before .before .before in
+    let j = m .before .before .before .before .before .before .before .before in
+    let k = m .before .before .before .before .before .before .before .before .before .before .before in
     let a = k .before in
     packs-short (edit-packs _ _ _ _ _ (a .before .before .check .ensures) (λ i. a .before .before .before .before .before .before .before .shared-slice-known .given i .fits) (a .enum-told .given .1) (k .set-start .ensures) (j .judge .ensures) (f .f .given .1) (m .edited-size .ensures) (z .frame-size .ensures)) _ (g .before .if2 .left) (g .if3 .taken) (c .answer-of3 .ensures)
 
@@ -143,14 +154,14 @@ open-requires c κs =
     let g = c .before in
     let z = g .before .before in
     let m = z .before in
-    let f = m .before .before .before .before .before in
-    let j = m .before .before .before .before .before .before .before in
-    let k = m .before .before .before .before .before .before .before .before .before .before in
+    let f = m .before .before .before .before .before .before in
+    let j = m .before .before .before .before .before .before .before .before in
+    let k = m .before .before .before .before .before .before .before .before .before .before .before in
     let a = k .before in
     open-asked (packs-fit (edit-packs _ _ _ _ _ (a .before .before .check .ensures) (λ i. a .before .before .before .before .before .before .before .shared-slice-known .given i .fits) (a .enum-told .given .1) (k .set-start .ensures) (j .judge .ensures) (f .f .given .1) (m .edited-size .ensures) (z .frame-size .ensures)) (a .before .before .before .before .before .before .before .before .args .out .now) (g .before .if2 .left) (g .if3 .left))
 
 slice-aggregate-put-edited : tie.Need-slice-aggregate-put-edited
-slice-aggregate-put-edited c = sym (table-long _ (c .before .before .before .before .before .before .before .before .before .before .before .before .before .before .before .before .before .before .before .before .before .before .before .table .ensures))
+slice-aggregate-put-edited c = sym (table-long _ (c .before .before .before .before .before .before .before .before .before .before .before .before .before .before .before .before .before .before .before .before .before .before .before .before .table .ensures))
 
 sub-put-edited : tie.Need-sub-put-edited
 sub-put-edited c =
@@ -158,9 +169,9 @@ sub-put-edited c =
     let g = o .before .before in
     let z = g .before .before in
     let m = z .before in
-    let f = m .before .before .before .before .before in
-    let j = m .before .before .before .before .before .before .before in
-    let k = m .before .before .before .before .before .before .before .before .before .before in
+    let f = m .before .before .before .before .before .before in
+    let j = m .before .before .before .before .before .before .before .before in
+    let k = m .before .before .before .before .before .before .before .before .before .before .before in
     let a = k .before in
     rest-from (packs-fit (edit-packs _ _ _ _ _ (a .before .before .check .ensures) (λ i. a .before .before .before .before .before .before .before .shared-slice-known .given i .fits) (a .enum-told .given .1) (k .set-start .ensures) (j .judge .ensures) (f .f .given .1) (m .edited-size .ensures) (z .frame-size .ensures)) (a .before .before .before .before .before .before .before .before .args .out .now) (g .before .if2 .left) (g .if3 .left)) (o .«open» .ensures)
 
@@ -176,11 +187,11 @@ put-edited-requires c κs =
     let g = o .before .before in
     let z = g .before .before in
     let m = z .before in
-    let f = m .before .before .before .before .before in
-    let j = m .before .before .before .before .before .before .before in
-    let k = m .before .before .before .before .before .before .before .before .before .before in
+    let f = m .before .before .before .before .before .before in
+    let j = m .before .before .before .before .before .before .before .before in
+    let k = m .before .before .before .before .before .before .before .before .before .before .before in
     let a = k .before in
-    (a .before .before .before .before .table .ensures, (editing _ _ _ _ _ (a .before .before .check .ensures) (λ i. a .before .before .before .before .before .before .before .shared-slice-known .given i .fits) (a .enum-told .given .1) (k .set-start .ensures) (j .judge .ensures) (f .f .given .1) (not-long (a .before .before .before .before .before .before .before .before .args .removal) (a .before .before .before .before .before .before .before .before .args .value .now) (m .before .before .before .over-long .ensures) (m .before .before .if1 .left))), rest-room (packs-fit (edit-packs _ _ _ _ _ (a .before .before .check .ensures) (λ i. a .before .before .before .before .before .before .before .shared-slice-known .given i .fits) (a .enum-told .given .1) (k .set-start .ensures) (j .judge .ensures) (f .f .given .1) (m .edited-size .ensures) (z .frame-size .ensures)) (a .before .before .before .before .before .before .before .before .args .out .now) (g .before .if2 .left) (g .if3 .left)) (o .«open» .ensures) refl)
+    (a .before .before .before .before .table .ensures, (editing _ _ _ _ _ (a .before .before .check .ensures) (λ i. a .before .before .before .before .before .before .before .shared-slice-known .given i .fits) (a .enum-told .given .1) (k .set-start .ensures) (j .judge .ensures) (f .f .given .1) (not-long (a .before .before .before .before .before .before .before .before .args .removal) (a .before .before .before .before .before .before .before .before .args .value .now) (m .before .before .before .before .over-long .ensures) (m .before .before .before .if1 .left))), rest-room (packs-fit (edit-packs _ _ _ _ _ (a .before .before .check .ensures) (λ i. a .before .before .before .before .before .before .before .shared-slice-known .given i .fits) (a .enum-told .given .1) (k .set-start .ensures) (j .judge .ensures) (f .f .given .1) (m .edited-size .ensures) (z .frame-size .ensures)) (a .before .before .before .before .before .before .before .before .args .out .now) (g .before .if2 .left) (g .if3 .left)) (o .«open» .ensures) refl, m .before .item-size .ensures)
 
 add-close : tie.Need-add-close
 add-close c =
@@ -189,9 +200,9 @@ add-close c =
     let g = o .before .before in
     let z = g .before .before in
     let m = z .before in
-    let f = m .before .before .before .before .before in
-    let j = m .before .before .before .before .before .before .before in
-    let k = m .before .before .before .before .before .before .before .before .before .before in
+    let f = m .before .before .before .before .before .before in
+    let j = m .before .before .before .before .before .before .before .before in
+    let k = m .before .before .before .before .before .before .before .before .before .before .before in
     let a = k .before in
     omega (arith, entries-end (packs-fit (edit-packs _ _ _ _ _ (a .before .before .check .ensures) (λ i. a .before .before .before .before .before .before .before .shared-slice-known .given i .fits) (a .enum-told .given .1) (k .set-start .ensures) (j .judge .ensures) (f .f .given .1) (m .edited-size .ensures) (z .frame-size .ensures)) (a .before .before .before .before .before .before .before .before .args .out .now) (g .before .if2 .left) (g .if3 .left)) (o .«open» .ensures) refl (n .put-edited .ensures))
 
@@ -202,9 +213,9 @@ close-requires c κs =
     let g = o .before .before in
     let z = g .before .before in
     let m = z .before in
-    let f = m .before .before .before .before .before in
-    let j = m .before .before .before .before .before .before .before in
-    let k = m .before .before .before .before .before .before .before .before .before .before in
+    let f = m .before .before .before .before .before .before in
+    let j = m .before .before .before .before .before .before .before .before in
+    let k = m .before .before .before .before .before .before .before .before .before .before .before in
     let a = k .before in
     close-asked (packs-fit (edit-packs _ _ _ _ _ (a .before .before .check .ensures) (λ i. a .before .before .before .before .before .before .before .shared-slice-known .given i .fits) (a .enum-told .given .1) (k .set-start .ensures) (j .judge .ensures) (f .f .given .1) (m .edited-size .ensures) (z .frame-size .ensures)) (a .before .before .before .before .before .before .before .before .args .out .now) (g .before .if2 .left) (g .if3 .left)) (o .«open» .ensures) refl (n .put-edited .ensures)
 
@@ -221,9 +232,9 @@ returns-6 c =
     let g = o .before .before in
     let z = g .before .before in
     let m = z .before in
-    let f = m .before .before .before .before .before in
-    let j = m .before .before .before .before .before .before .before in
-    let k = m .before .before .before .before .before .before .before .before .before .before in
+    let f = m .before .before .before .before .before .before in
+    let j = m .before .before .before .before .before .before .before .before in
+    let k = m .before .before .before .before .before .before .before .before .before .before .before in
     let a = k .before in
     packs-done (edit-packs _ _ _ _ _ (a .before .before .check .ensures) (λ i. a .before .before .before .before .before .before .before .shared-slice-known .given i .fits) (a .enum-told .given .1) (k .set-start .ensures) (j .judge .ensures) (f .f .given .1) (m .edited-size .ensures) (z .frame-size .ensures)) _ (g .before .if2 .left) (g .if3 .left)
     (all-written (packs-fit (edit-packs _ _ _ _ _ (a .before .before .check .ensures) (λ i. a .before .before .before .before .before .before .before .shared-slice-known .given i .fits) (a .enum-told .given .1) (k .set-start .ensures) (j .judge .ensures) (f .f .given .1) (m .edited-size .ensures) (z .frame-size .ensures)) (a .before .before .before .before .before .before .before .before .args .out .now) (g .before .if2 .left) (g .if3 .left)) (o .«open» .ensures) refl (n .put-edited .ensures) (c .before .before .before .close .ensures)) (c .answer-of4 .ensures)
@@ -252,7 +263,8 @@ edit-spec =
     over-long-requires
     answer-of-requires
     returns-3
-    slice-aggregate-edited-size
+    slice-aggregate-item-size
+    item-size-requires
     edited-size-requires
     frame-size-requires
     answer-of-requires-2

@@ -57,9 +57,6 @@ module _ (f : Form) (s : List ℕ) (p : Packet) (k : Parsed f s p) where
           bind-then _ _ _ e₁ λ _ _ e₂.
           (c, omega (arith, n, l, ap length (ok-inj _ _ e₂), length-drop (length s - 2) s), z)
 
-  pub kept-are : keptOf f setAt ≡ p .entries
-  kept-are = ap unsealed entries-are ∙ sym (ap (λ q. q .entries) (k .packet-is))
-
   pub sheet-are : sheetOf f setAt ≡ content p
   unfolding content
   sheet-are = ap (sheetFrom f) entries-are ∙ sym (ap content (k .packet-is))

@@ -9,10 +9,10 @@ use lib.Seq.{length-take-le}
 use lib.Dec.{eqb}
 use borrow.Author.Tests.{eq-eqb}
 use Rattle.format.specs.Answer.{ok, refused}
-use Rattle.format.specs.Coding.{Bytes, oidBytes}
+use Rattle.format.specs.Coding.{Bytes}
 use Rattle.format.specs.Lists.{flatAll}
 use Rattle.format.specs.Table.{Form, set, pack}
-use Rattle.format.specs.Packet.{series, flatItem, flatPack, flatEntry}
+use Rattle.format.specs.Packet.{series, flatItem, flatEntry}
 use Rattle.format.specs.Sheet.{tagOfVal, targetOf, partOf}
 use Rattle.format.specs.Edit.{target, isTargets, targetTags, tagsAt, isSeries}
 use Rattle.format.specs.Valid.{All}

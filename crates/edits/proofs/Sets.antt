@@ -84,7 +84,7 @@ module _ (f : Form) (s : List ℕ) (b : Bytes s) (k : SetOf f s) where
     abbrev kept : Spot
     kept = spotIn (hasTag tag) flatEntry entryLead entryLead 0 (keptOf f s)
 
-    abbrev pub SpotIs : ℕ → ℕ → Type 0
+    abbrev SpotIs : ℕ → ℕ → Type 0
     SpotIs at next = (at ≡ kept .at) × (next ≡ kept .next)
 
     -- where it stands, or would be added

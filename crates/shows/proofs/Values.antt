@@ -23,7 +23,7 @@ use Rattle.format.proofs.reading.Packets.{set-says, set-once}
 use Rattle.format.proofs.rows.Find.{OneSeries, one-series}
 use Rattle.items.proofs.Tests.{bind-not}
 use Rattle.walks.specs.Meet.{stepAt, deepenAt}
-use Rattle.walks.specs.Runs.{Ran, levelRun, seriesRun}
+use Rattle.walks.specs.Runs.{Ran, levelRun}
 use Rattle.spots.specs.declared.Spot.{Spot}
 use Rattle.spots.specs.Meet.{thingsOf, hasTag, entriesOf, packsOf, entryLead}
 use Rattle.spots.proofs.Splices.{Missed, ask-absent}

@@ -14,7 +14,7 @@ use Rattle.format.proofs.words.Flats.{flat-append, flat-snoc}
 use Rattle.format.proofs.reading.Runs.{Along, Faithful, ReadsAt, RanAll, all-says}
 use Rattle.walks.specs.Runs.{Ran}
 use Rattle.spots.specs.Meet.{spot, noSpot, spotIn, thingsOf}
-use Rattle.spots.proofs.Splices.{all-snoc, Missed, Hit, spot-past, spot-hit}
+use Rattle.spots.proofs.Splices.{all-snoc, Missed, spot-past, spot-hit}
 
 -- a run that came to its end
 pub ran-ok : {X : Type 0} (m : Ans (Got (List X))) {rs : Got (List X)} → m ≡ ok rs → Ran m

@@ -1,5 +1,5 @@
 -- The entries of a level that was checked: they lie flat as its bytes; the loop that looks for a tag; and what stands at a tag's spot.
-use mathlib.Core.Path.{_≡_, refl, sym, ap, _∙_, subst}
+use mathlib.Core.Path.{_≡_, refl, sym, ap, _∙_}
 use Prim.Native.Nat.{ℕ, _+_, _-_, _≤_, _<_}
 use native.Mathlib.Omega.{arith}
 use mathlib.Core.Bool.{Bool, true, false, _&&_}
@@ -31,8 +31,8 @@ use Rattle.walks.specs.Runs.{Ran, levelRun, seriesRun}
 use Rattle.walks.proofs.Steps.{EntryHere, entry-here, no-head-entry}
 use Rattle.spots.specs.declared.Spot.{Spot}
 use Rattle.spots.specs.Meet.{spot, noSpot, spotIn, thingsOf, hasItem, hasTag, entriesOf, itemLead, entryLead, itemSpot, entrySpot}
-use Rattle.spots.proofs.Splices.{Missed, Hit, standing, hit-spot, spot-present, spot-absent, spot-room}
-use Rattle.spots.proofs.Seeks.{ran-ok, Stands, stands, ReadAll, read-all, Seeking, seek-start, Next, next-here, seek-done, seek-found, seek-more, part-at}
+use Rattle.spots.proofs.Splices.{Missed, Hit, spot-present, spot-absent, spot-room}
+use Rattle.spots.proofs.Seeks.{ran-ok, Stands, ReadAll, read-all, Seeking, seek-start, Next, next-here, seek-done, seek-found, seek-more, Standing, standing, part-at}
 
 -- ---- what a level's run read
 
@@ -207,20 +207,17 @@ module _ {l : Level} {f : Form} {tag : ℕ} {s : List ℕ} {a : Spot} (i : TagFo
   pub tag-hit : Hit (hasTag tag) (entriesOf l f s)
   tag-hit = spot-present (hasTag tag) flatEntry entryLead entryLead (entriesOf l f s) (i .spot-is) (i .some)
 
-  stands-at : a ≡ standing (hasTag tag) flatEntry entryLead entryLead (length (flatAll flatEntry (tag-hit .before))) (tag-hit .it)
-  stands-at = i .spot-is ∙ hit-spot (hasTag tag) flatEntry entryLead entryLead tag-hit
+  there : Standing tagOfEntry (stepAt l f) flatEntry (hasTag tag) entryLead entryLead s tag-hit a
+  there = standing tagOfEntry (stepAt l f) flatEntry (hasTag tag) entryLead entryLead (entries-read l f s (i .bytes) (i .ran)) tag-hit (i .spot-is)
 
   pub tag-at : a .at ≡ length (flatAll flatEntry (tag-hit .before))
-  tag-at = ap (λ x. x .at) stands-at
+  tag-at = there .at-is
 
   pub tag-from : a .from ≡ a .at + entryLead (tag-hit .it)
-  tag-from = omega (arith, tag-at, ap (λ x. x .from) stands-at)
-
-  there : EntryStands l f s (a .at) (tag-hit .it)
-  there = subst (λ n. EntryStands l f s n (tag-hit .it)) (sym tag-at) (stands tagOfEntry (stepAt l f) flatEntry (entries-read l f s (i .bytes) (i .ran)) (tag-hit .before) (tag-hit .it) (tag-hit .later) (tag-hit .list-is))
+  tag-from = there .from-is
 
   under : Headed l f (drop (a .at) s) (got (tag-hit .it) (length (flatEntry (tag-hit .it))))
-  under = headed l f (there .seen) (drop (a .at) s) (bytes-drop (a .at) s (i .bytes)) _ (there .read)
+  under = headed l f (there .here .seen) (drop (a .at) s) (bytes-drop (a .at) s (i .bytes)) _ (there .here .read)
 
   keys-at : (tagOfEntry (tag-hit .it) ≡ under .key) × (entryLead (tag-hit .it) ≡ under .used + under .width)
   keys-at = here-keys l f _ (under .key) (under .used) (under .width) (under .size) _ (under .here)
@@ -229,10 +226,10 @@ module _ {l : Level} {f : Form} {tag : ℕ} {s : List ℕ} {a : Spot} (i : TagFo
   tag-is = sym (keys-at .0) ∙ eqb-true _ _ (tag-hit .hits)
 
   next-at : a .next ≡ a .from + under .size
-  next-at = omega (arith, ap (λ x. x .next) stands-at, tag-at, tag-from, keys-at .1, under .here .used-is)
+  next-at = omega (arith, there .next-is, tag-from, keys-at .1, under .here .used-is)
 
   pub tag-room : (a .from ≤ a .next) × (a .next ≤ length s)
-  tag-room = (omega (arith, next-at), omega (arith, there .room, ap (λ x. x .next) stands-at, tag-at))
+  tag-room = (omega (arith, next-at), omega (arith, there .here .room, there .next-is))
 
   -- its value, as it is lent
   value-at : take (under .size) (drop (under .used + under .width) (drop (a .at) s)) ≡ take (a .next - a .from) (drop (a .from) s)

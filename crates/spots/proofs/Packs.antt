@@ -1,5 +1,5 @@
 -- The packs of a series that was checked: they lie flat as its bytes; the loop that looks for an id; and what stands at an id's spot.
-use mathlib.Core.Path.{_≡_, refl, sym, ap, _∙_, subst}
+use mathlib.Core.Path.{_≡_, refl, sym, ap, _∙_}
 use Prim.Native.Nat.{ℕ, _+_, _-_, _≤_, _<_}
 use native.Mathlib.Omega.{arith}
 use mathlib.Core.List.{List, map}
@@ -26,8 +26,8 @@ use Rattle.walks.proofs.PackTurns.{drop-take}
 use Rattle.walks.proofs.Steps.{PackHere, pack-here, no-head-pack}
 use Rattle.spots.specs.declared.Spot.{Spot}
 use Rattle.spots.specs.Meet.{spot, noSpot, hasId, packsOf, packLead, packSpot}
-use Rattle.spots.proofs.Splices.{Missed, Hit, standing, hit-spot, spot-present, spot-absent}
-use Rattle.spots.proofs.Seeks.{Stands, stands, ReadAll, read-all, Seeking, seek-start, Next, next-here, seek-done, seek-found, seek-more, part-at}
+use Rattle.spots.proofs.Splices.{Missed, Hit, spot-present, spot-absent}
+use Rattle.spots.proofs.Seeks.{Stands, ReadAll, read-all, Seeking, seek-start, Next, next-here, seek-done, seek-found, seek-more, Standing, standing, part-at}
 
 -- ---- what a series' run read
 
@@ -138,20 +138,17 @@ module _ {f : Form} {id : ℕ} {s : List ℕ} {a : Spot} (i : IdFound f id s a) 
   pub id-hit : Hit (hasId id) (packsOf f s)
   id-hit = spot-present (hasId id) flatPack (λ q. q .width) packLead (packsOf f s) (i .spot-is) (i .some)
 
-  stands-at : a ≡ standing (hasId id) flatPack (λ q. q .width) packLead (length (flatAll flatPack (id-hit .before))) (id-hit .it)
-  stands-at = i .spot-is ∙ hit-spot (hasId id) flatPack (λ q. q .width) packLead id-hit
+  there : Standing idOfPack (onePack f) flatPack (hasId id) (λ q. q .width) packLead s id-hit a
+  there = standing idOfPack (onePack f) flatPack (hasId id) (λ q. q .width) packLead (packs-read f s (i .bytes) (i .ran)) id-hit (i .spot-is)
 
   pub id-at : a .at ≡ length (flatAll flatPack (id-hit .before))
-  id-at = ap (λ x. x .at) stands-at
-
-  there : PackStands f s (a .at) (id-hit .it)
-  there = subst (λ n. PackStands f s n (id-hit .it)) (sym id-at) (stands idOfPack (onePack f) flatPack (packs-read f s (i .bytes) (i .ran)) (id-hit .before) (id-hit .it) (id-hit .later) (id-hit .list-is))
+  id-at = there .at-is
 
   abbrev head : Read.PackHead
-  head = headed f (there .seen) (drop (a .at) s) (bytes-drop (a .at) s (i .bytes)) _ (there .read) .0
+  head = headed f (there .here .seen) (drop (a .at) s) (bytes-drop (a .at) s (i .bytes)) _ (there .here .read) .0
 
   under : PackHere f (drop (a .at) s) (head .id) (head .used) (head .width) (head .size) (got (id-hit .it) (length (flatPack (id-hit .it))))
-  under = headed f (there .seen) (drop (a .at) s) (bytes-drop (a .at) s (i .bytes)) _ (there .read) .1
+  under = headed f (there .here .seen) (drop (a .at) s) (bytes-drop (a .at) s (i .bytes)) _ (there .here .read) .1
 
   id-is : head .id ≡ id
   id-is = sym (ap idOfPack (under .it-is)) ∙ eqb-true _ _ (id-hit .hits)
@@ -172,10 +169,10 @@ module _ {f : Form} {id : ℕ} {s : List ℕ} {a : Spot} (i : IdFound f id s a) 
   id-pack =
       let k = under in
       let it : id-hit .it ≡ record { width = head .width; id = id; items = k .items } = k .it-is ∙ ap (λ n. record { width = head .width; id = n; items = k .items }) id-is in
-      let body : a .body ≡ a .at + head .width = omega (arith, ap (λ x. x .body) stands-at, id-at, ap (λ q. q .width) it) in
-      let from : a .from ≡ a .body + length (oidBytes id) = omega (arith, ap (λ x. x .from) stands-at, id-at, body, ap packLead it) in
+      let body : a .body ≡ a .at + head .width = omega (arith, there .body-is, ap (λ q. q .width) it) in
+      let from : a .from ≡ a .body + length (oidBytes id) = omega (arith, there .from-is, body, ap packLead it) in
       let used : length (oidBytes id) ≡ head .used = ap (λ n. length (oidBytes n)) (sym id-is) ∙ k .oid in
-      let next : a .next ≡ a .from + (head .size - head .used) = omega (arith, ap (λ x. x .next) stands-at, id-at, from, body, used, k .used-is, k .body) in
+      let next : a .next ≡ a .from + (head .size - head .used) = omega (arith, there .next-is, from, body, used, k .used-is, k .body) in
       let lent : take (a .next - a .from) (drop (a .from) s) ≡ drop (head .used) (take (head .size) (drop (head .width) (drop (a .at) s)))
       = part-at s (a .at) (head .width + head .used) (head .size - head .used) (omega (arith, from, body, used)) next
       ∙ rw (drop-take (head .used) (head .size) (drop (head .width) (drop (a .at) s)), drop-drop (head .used) (head .width) (drop (a .at) s)) in
@@ -185,7 +182,7 @@ module _ {f : Form} {id : ℕ} {s : List ℕ} {a : Spot} (i : IdFound f id s a) 
         it-is = it;
         body-at = body;
         from-at = from;
-        room = (omega (arith, next), omega (arith, there .room, ap (λ x. x .next) stands-at, id-at));
+        room = (omega (arith, next), omega (arith, there .here .room, there .next-is));
         entries = k .entries;
         entries-are = k .entries-are;
         runs = ap (levelRun pack f) lent ∙ k .runs;

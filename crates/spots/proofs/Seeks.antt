@@ -13,8 +13,9 @@ use Rattle.format.specs.Run.{Step, always, run}
 use Rattle.format.proofs.words.Flats.{flat-append, flat-snoc}
 use Rattle.format.proofs.reading.Runs.{Along, Faithful, ReadsAt, RanAll, all-says}
 use Rattle.walks.specs.Runs.{Ran}
+use Rattle.spots.specs.declared.Spot.{Spot}
 use Rattle.spots.specs.Meet.{spot, noSpot, spotIn, thingsOf}
-use Rattle.spots.proofs.Splices.{all-snoc, Missed, spot-past, spot-hit}
+use Rattle.spots.proofs.Splices.{all-snoc, Missed, Hit, spot-past, spot-hit, hit-spot}
 
 -- a run that came to its end
 pub ran-ok : {X : Type 0} (m : Ans (Got (List X))) {rs : Got (List X)} → m ≡ ok rs → Ran m
@@ -47,7 +48,7 @@ module _ {X : Type 0} (key : X → ℕ) (step : Step X) (flat : X → List ℕ) 
   along-at P seen [] x later t h = (seen, h .0)
   along-at P seen (y ∷ ys) x later t h = along-at P (key y ∷ seen) ys x later t (h .1)
 
-  pub stands : {s : List ℕ} {xs : List X} → ReadAll s xs → (before : List X) (x : X) (later : List X) → xs ≡ before ++ x ∷ later → Stands s (length (flatAll flat before)) x
+  stands : {s : List ℕ} {xs : List X} → ReadAll s xs → (before : List X) (x : X) (later : List X) → xs ≡ before ++ x ∷ later → Stands s (length (flatAll flat before)) x
   unfolding flatAll
   stands {s = s} {xs = xs} k before x later e =
       let b : s ≡ flatAll flat before ++ (flat x ++ flatAll flat later) = k .bytes ∙ ap (flatAll flat) e ∙ flat-append flat before (x ∷ later) in
@@ -129,3 +130,17 @@ module _ {X : Type 0} (key : X → ℕ) (step : Step X) (flat : X → List ℕ) 
         missed = all-snoc (λ x. hit x ≡ false) (g .before) (n .it) (g .missed) z;
         p-is = omega (arith, e, g .p-is, ap length (flat-snoc flat (g .before) (n .it)), length-append (flatAll flat (g .before)) (flat (n .it)));
       }
+
+    -- ---- what stands at a spot
+
+    module _ (body from : X → ℕ) where
+      pub record Standing (s : List ℕ) {xs : List X} (h : Hit hit xs) (a : Spot) : Type 0 where
+        pub at-is : a .at ≡ length (flatAll flat (h .before))
+        pub body-is : a .body ≡ a .at + body (h .it)
+        pub from-is : a .from ≡ a .at + from (h .it)
+        pub next-is : a .next ≡ a .at + length (flat (h .it))
+        pub here : Stands s (a .at) (h .it)
+
+      pub standing : {s : List ℕ} {xs : List X} → ReadAll s xs → (h : Hit hit xs) {a : Spot} → a ≡ spotIn hit flat body from 0 xs → Standing s h a
+      standing {s = s} k h e =
+          rw (e ∙ hit-spot hit flat body from h) (record { at-is = refl; body-is = refl; from-is = refl; next-is = refl; here = stands k (h .before) (h .it) (h .later) (h .list-is) })

@@ -125,7 +125,7 @@ module _ {X : Type 0} (hit : X → Bool) (flat : X → List ℕ) where
         rw (m .0, spotIn) (spot-past (k + length (flat x)) xs ys (m .1) ∙ ap (λ n. spotIn hit flat body from n ys) (simp length-append (omega arith)))
 
     -- x stands at k
-    abbrev pub standing : ℕ → X → Spot
+    abbrev standing : ℕ → X → Spot
     standing k x = spot k (k + body x) (k + from x) (k + length (flat x))
 
     pub spot-hit : (k : ℕ) (x : X) (xs : List X) → hit x ≡ true → spotIn hit flat body from k (x ∷ xs) ≡ standing k x

@@ -4,8 +4,7 @@ use Prim.Native.Nat.{ℕ, zero, suc, _+_, _-_, _≤_, _<_}
 use native.Mathlib.Omega.{arith}
 use mathlib.Core.Bool.{false}
 use mathlib.Core.List.{List, _∷_, _++_, map}
-use lib.ListN.{length, take, drop, length-drop}
-use lib.Seq.{length-take-le}
+use lib.ListN.{length}
 use lib.Dec.{eqb}
 use borrow.Author.Tests.{eq-eqb}
 use Rattle.format.specs.Answer.{ok, refused}
@@ -16,7 +15,6 @@ use Rattle.format.specs.Packet.{series, flatItem, flatEntry}
 use Rattle.format.specs.Sheet.{tagOfVal, targetOf, partOf}
 use Rattle.format.specs.Edit.{target, isTargets, targetTags, tagsAt, isSeries}
 use Rattle.format.specs.Valid.{All}
-use Rattle.format.proofs.words.Bytes.{bytes-take, bytes-drop}
 use Rattle.format.proofs.words.Changes.{map-ask}
 use Rattle.format.proofs.words.Keys.{all-map}
 use Rattle.format.proofs.sheets.Content.{target-id}
@@ -25,7 +23,7 @@ use Rattle.walks.specs.Runs.{Ran, levelRun, seriesRun}
 use Rattle.spots.specs.declared.Spot.{Spot}
 use Rattle.spots.specs.Meet.{thingsOf, hasItem, hasId, packsOf, itemLead, entryLead, entrySpot}
 use Rattle.spots.proofs.Splices.{Missed, Hit, hit-spot, spot-room, ask-hit, ask-absent}
-use Rattle.spots.proofs.Seeks.{ran-ok}
+use Rattle.spots.proofs.Seeks.{ran-ok, inside, inside-long, inside-bytes}
 use Rattle.spots.proofs.Entries.{items-flat, items-spot, tag-within, TagFound, tag-hit, tag-at, tag-from, tag-room, tag-series, series-hit, no-series}
 use Rattle.spots.proofs.Packs.{packs-flat, IdFound, id-hit, id-at, id-pack}
 use Rattle.edits.specs.declared.Place.{Place}
@@ -44,27 +42,20 @@ some-of (suc n) h = omega arith
 -- ---- in a series' packs
 
 module _ {f : Form} {id : ℕ} {s : List ℕ} {a : Spot} (i : IdFound f id s a) (most : length s ≤ 8192) where
-  -- the pack's items, as they are lent
-  abbrev itemsAt : List ℕ
-  itemsAt = take (a .next - a .from) (drop (a .from) s)
+  items-long : length (inside s a) ≡ a .next - a .from
+  items-long = inside-long s a (id-pack i .room)
 
-  items-long : length itemsAt ≡ a .next - a .from
-  items-long = length-take-le (a .next - a .from) (drop (a .from) s) (rw length-drop (omega (arith, id-pack i .room)))
+  pub items-asked : (length (inside s a) ≤ 8192) × Ran (levelRun pack f (inside s a))
+  items-asked = (omega (arith, items-long, id-pack i .room), ran-ok (levelRun pack f (inside s a)) (id-pack i .runs))
 
-  items-bytes : Bytes itemsAt
-  items-bytes = bytes-take (a .next - a .from) (drop (a .from) s) (bytes-drop (a .from) s (i .bytes))
-
-  pub items-asked : (length itemsAt ≤ 8192) × Ran (levelRun pack f itemsAt)
-  items-asked = (omega (arith, items-long, id-pack i .room), ran-ok (levelRun pack f itemsAt) (id-pack i .runs))
-
-  module _ (tag : ℕ) {b : Spot} (eb : b ≡ entrySpot pack f tag itemsAt) where
+  module _ (tag : ℕ) {b : Spot} (eb : b ≡ entrySpot pack f tag (inside s a)) where
     pub item-inside : (b .at ≤ b .next) × (a .from + b .next ≤ a .next) × (a .next ≤ length s)
-    item-inside = let (p, q) = tag-within pack f tag itemsAt eb items-bytes (items-asked .1) in (p, omega (arith, q, items-long, id-pack i .room), id-pack i .room .1)
+    item-inside = let (p, q) = tag-within pack f tag (inside s a) eb (inside-bytes s a (i .bytes)) (items-asked .1) in (p, omega (arith, q, items-long, id-pack i .room), id-pack i .room .1)
 
     pub in-packs : InPacks f id tag s (record { series = 0; packs = 0; pack = a .at; body = a .body; at = a .from + b .at; next = a .from + b .next; last = a .next; tail = a .next; stop = a .next })
     in-packs =
         let k = id-pack i in
-        let sp = eb ∙ items-spot f itemsAt (k .items) (k .runs) (k .entries-are) tag in
+        let sp = eb ∙ items-spot f (inside s a) (k .items) (k .runs) (k .entries-are) tag in
         record {
           before = id-hit i .before;
           later = id-hit i .later;
@@ -76,7 +67,7 @@ module _ {f : Form} {id : ℕ} {s : List ℕ} {a : Spot} (i : IdFound f id s a) 
           body-at = k .body-at;
           item-at = omega (arith, k .from-at, ap (λ x. x .at) sp);
           next-at = omega (arith, k .from-at, ap (λ x. x .next) sp);
-          last-at = omega (arith, k .from-at, k .room, items-long, ap length (items-flat f itemsAt (k .items) (k .runs) (k .entries-are) items-bytes));
+          last-at = omega (arith, k .from-at, k .room, items-long, ap length (items-flat f (inside s a) (k .items) (k .runs) (k .entries-are) (inside-bytes s a (i .bytes))));
           inside = k .room .1;
         }
 
@@ -93,42 +84,35 @@ module _ (f : Form) (s : List ℕ) (b : Bytes s) (k : SetOf f s) (id tag : ℕ) 
       ∙ ask-absent isSeries (keptOf f s) (absent-too isSeries (keptOf f s) (theRest f s b k) (rest-of f s k .is) (no-series f s e h)) (λ e. targetTags id (partOf e))
 
   module _ {a : Spot} (i : TagFound set f 101 s a) where
-    -- the packs, as they are lent
-    abbrev packsAt : List ℕ
-    packsAt = take (a .next - a .from) (drop (a .from) s)
+    packs-long : length (inside s a) ≡ a .next - a .from
+    packs-long = inside-long s a (tag-room i)
 
-    packs-long : length packsAt ≡ a .next - a .from
-    packs-long = length-take-le (a .next - a .from) (drop (a .from) s) (rw length-drop (omega (arith, tag-room i)))
-
-    packs-bytes : Bytes packsAt
-    packs-bytes = bytes-take (a .next - a .from) (drop (a .from) s) (bytes-drop (a .from) s (i .bytes))
-
-    pub packs-asked : (length packsAt ≤ 8192) × Ran (seriesRun f packsAt)
-    packs-asked = (omega (arith, packs-long, tag-room i, k .short), ran-ok (seriesRun f packsAt) (tag-series i refl .3))
+    pub packs-asked : (length (inside s a) ≤ 8192) × Ran (seriesRun f (inside s a))
+    packs-asked = (omega (arith, packs-long, tag-room i, k .short), ran-ok (seriesRun f (inside s a)) (tag-series i refl .3))
 
     kept-hit : (q : Hit isSeries (keptOf f s)) × (q .it ≡ tag-hit i .it) × (a .at ≡ length (flatAll flatEntry (q .before)))
     kept-hit =
         let (q, e, z) = narrowed isSeries (keptOf f s) (theRest f s b k) (rest-of f s k .is) other-kinds flatEntry entryLead entryLead (series-hit i) in
         (q, e, tag-at i ∙ ap (λ x. x .at) (sym (hit-spot isSeries flatEntry entryLead entryLead (series-hit i)) ∙ sym z ∙ hit-spot isSeries flatEntry entryLead entryLead q))
 
-    kept-series : kept-hit .0 .it ≡ series (tag-series i refl .0) (packsOf f packsAt)
+    kept-series : kept-hit .0 .it ≡ series (tag-series i refl .0) (packsOf f (inside s a))
     kept-series = kept-hit .1 ∙ tag-series i refl .2 ∙ ap (series (tag-series i refl .0)) (sym (ap thingsOf (tag-series i refl .3)))
 
-    pub none-pack : All (λ q. hasId id q ≡ false) (packsOf f packsAt) → tagsAt (target id) (map partOf (keptOf f s)) ≡ refused 18 0
+    pub none-pack : All (λ q. hasId id q ≡ false) (packsOf f (inside s a)) → tagsAt (target id) (map partOf (keptOf f s)) ≡ refused 18 0
     unfolding tagsAt targetTags partOf
     none-pack m =
         map-ask partOf isSeries isTargets part-series (targetTags id) (keptOf f s)
         ∙ ask-hit isSeries (kept-hit .0) (λ e. targetTags id (partOf e))
         ∙ ap (λ e. targetTags id (partOf e)) kept-series
-        ∙ map-ask targetOf (hasId id) (λ g. eqb (g .id) id) (λ q. ap (λ n. eqb n id) (target-id q)) (λ g. ok (map tagOfVal (g .vals))) (packsOf f packsAt)
-        ∙ ask-absent (hasId id) (packsOf f packsAt) m (λ q. ok (map tagOfVal (targetOf q .vals)))
+        ∙ map-ask targetOf (hasId id) (λ g. eqb (g .id) id) (λ q. ap (λ n. eqb n id) (target-id q)) (λ g. ok (map tagOfVal (g .vals))) (packsOf f (inside s a))
+        ∙ ask-absent (hasId id) (packsOf f (inside s a)) m (λ q. ok (map tagOfVal (targetOf q .vals)))
 
-    in-place : {q : Place} → InPacks f id tag packsAt q → {stop : ℕ} → stop ≡ length (flatAll flatEntry (keptOf f s)) → Placed f (target id) tag s (shiftedOf q (a .at) (a .from) (a .next) stop)
+    in-place : {q : Place} → InPacks f id tag (inside s a) q → {stop : ℕ} → stop ≡ length (flatAll flatEntry (keptOf f s)) → Placed f (target id) tag s (shiftedOf q (a .at) (a .from) (a .next) stop)
     in-place p es =
         target-placed f s b k (record {
           hit = kept-hit .0;
           width = tag-series i refl .0;
-          ps = packsOf f packsAt;
+          ps = packsOf f (inside s a);
           it-is = kept-series;
           pack-hit = record { before = p .before; it = _; later = p .later; list-is = p .list-is; missed = p .missed; hits = eq-eqb id id refl };
           pack-width = p .width;
@@ -141,18 +125,18 @@ module _ (f : Form) (s : List ℕ) (b : Bytes s) (k : SetOf f s) (id tag : ℕ) 
           item-at = omega (arith, p .item-at);
           next-at = omega (arith, p .next-at);
           last-at = omega (arith, p .last-at);
-          tail-at = omega (arith, packs-long, tag-room i, ap length (packs-flat f packsAt packs-bytes (packs-asked .1)));
+          tail-at = omega (arith, packs-long, tag-room i, ap length (packs-flat f (inside s a) (inside-bytes s a (i .bytes)) (packs-asked .1)));
           stop-at = es;
         })
 
     -- by what was found in the packs
-    module _ {x : Found} (ex : FoundInPacks f id tag packsAt x) where
+    module _ {x : Found} (ex : FoundInPacks f id tag (inside s a) x) where
       pub none-found : {n : ℕ} → x ≡ Not n → FoundIs f (target id) tag s x
-      none-found e = let (z, m) = subst (FoundInPacks f id tag packsAt) e ex in rw e (z, none-pack m)
+      none-found e = let (z, m) = subst (FoundInPacks f id tag (inside s a)) e ex in rw e (z, none-pack m)
 
       module _ {q : Place} (e : x ≡ There q) where
-        in-it : InPacks f id tag packsAt q
-        in-it = subst (FoundInPacks f id tag packsAt) e ex
+        in-it : InPacks f id tag (inside s a) q
+        in-it = subst (FoundInPacks f id tag (inside s a)) e ex
 
         pub within-packs : (a .from ≤ 8192) × (q .pack ≤ 8192) × (q .body ≤ 8192) × (q .at ≤ 8192) × (q .next ≤ 8192) × (q .last ≤ 8192)
         within-packs =

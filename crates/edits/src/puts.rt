@@ -14,7 +14,7 @@ use super::Place;
 // ---- the item
 
 // The bytes of the item that is put; none for a removal.
-pub fn item_size(table: &[u64], set: bool, tag: u64, removal: bool, v: &[u8]) -> usize
+pub fn item_size(table: &[u32], set: bool, tag: u64, removal: bool, v: &[u8]) -> usize
     requires { ⌜ (now table ≡ itemTable) × (tag ≤ 16383) × Puttable (changeOf removal (now v)) ⌝ }
     ensures { λ r. ⌜ r ≡ length (itemBytes (levelOf set) tag (changeOf removal (now (v .entry)))) ⌝ }
 {

@@ -4,8 +4,7 @@ use Prim.Native.Nat.{ℕ, _+_, _-_, _≤_, _<_}
 use native.Mathlib.Omega.{arith}
 use mathlib.Core.Bool.{Bool, true, false, not, _&&_}
 use mathlib.Core.List.{List, [], _∷_, _++_, append-nil, map}
-use lib.ListN.{length, take, drop, length-take, length-drop}
-use lib.Seq.{length-take-le}
+use lib.ListN.{length}
 use lib.Dec.{ltb, eqb}
 use borrow.Author.Tests.{eq-eqb, ltb-true, not-true}
 use Rattle.format.specs.Answer.{Ans, ok, refused, Got, _>>=_}
@@ -27,6 +26,7 @@ use Rattle.walks.specs.Runs.{Ran, levelRun}
 use Rattle.spots.specs.declared.Spot.{Spot}
 use Rattle.spots.specs.Meet.{thingsOf, hasTag, entriesOf, packsOf, entryLead}
 use Rattle.spots.proofs.Splices.{Missed, ask-absent}
+use Rattle.spots.proofs.Seeks.{inside, inside-long}
 use Rattle.spots.proofs.Entries.{TagFound, tag-hit, tag-at, tag-from, tag-room, tag-one, tag-series, series-hit}
 use Rattle.spots.proofs.Packs.{IdFound, id-hit, id-at, id-pack}
 use Rattle.edits.specs.Meet.{holderOf}
@@ -40,10 +40,6 @@ Found x n v = (v ≡ valueOf x) × (v .offset + v .size ≤ n)
 
 pub not-there : {x : Ans Row} {n : ℕ} {v : Value} → v ≡ valueOf (refused 18 0) → x ≡ refused 18 0 → Found x n v
 not-there {n = n} e z = (e ∙ ap valueOf (sym z), subst (λ v. v .offset + v .size ≤ n) (sym e) (omega arith))
-
--- a part ends where all ends, at most
-part-long : (n m : ℕ) (s : List ℕ) → m ≤ length s → m + length (take n (drop m s)) ≤ length s
-part-long n m s h = simp (length-take, length-drop) (omega arith)
 
 -- ---- in a level
 
@@ -73,12 +69,10 @@ module _ {l : Level} {f : Form} {tag : ℕ} {s : List ℕ} {a : Spot} (i : TagFo
   unfolding itemRow
   item-there z =
       let (w, it) = tag-one i z in
-      let v : List ℕ = take (a .next - a .from) (drop (a .from) s) in
       let from : at + a .from ≡ at + a .at + length (oidBytes tag) + w = omega (arith, tag-from i, ap entryLead it) in
-      let long : length v ≡ a .next - a .from = length-take-le (a .next - a .from) (drop (a .from) s) (rw length-drop (omega (arith, tag-room i))) in
-      let e = item-row (record { tag = tag; width = w; value = v }) it refl in (
+      let e = item-row (record { tag = tag; width = w; value = inside s a }) it refl in (
         ap (λ n. valueOf (ok (record { target = 0; tag = tag; offset = n; size = a .next - a .from }))) from
-            ∙ ap (λ n. valueOf (ok (record { target = 0; tag = tag; offset = at + a .at + length (oidBytes tag) + w; size = n }))) (sym long)
+            ∙ ap (λ n. valueOf (ok (record { target = 0; tag = tag; offset = at + a .at + length (oidBytes tag) + w; size = n }))) (sym (inside-long s a (tag-room i)))
             ∙ sym (ap valueOf e),
         omega (arith, tag-room i),
       )
@@ -86,28 +80,21 @@ module _ {l : Level} {f : Form} {tag : ℕ} {s : List ℕ} {a : Spot} (i : TagFo
 -- ---- in the packs of a series
 
 module _ {f : Form} {id : ℕ} {s : List ℕ} {a : Spot} (i : IdFound f id s a) (tag at : ℕ) where
-  -- the pack's items, as they are lent
-  abbrev itemsAt : List ℕ
-  itemsAt = take (a .next - a .from) (drop (a .from) s)
+  pub items-lent : at + length s ≤ 8192 → at + a .from + length (inside s a) ≤ 8192
+  items-lent l = omega (arith, inside-long s a (id-pack i .room), id-pack i .room)
 
-  items-end : a .from + length itemsAt ≤ length s
-  items-end = part-long (a .next - a .from) (a .from) s (omega (arith, id-pack i .room))
-
-  pub items-lent : at + length s ≤ 8192 → at + a .from + length itemsAt ≤ 8192
-  items-lent l = omega (arith, items-end)
-
-  pub pack-there : 0 < tag → {v : Value} → Found (rowFor 0 tag (entryRows (at + a .from) (entriesOf pack f itemsAt))) (at + a .from + length itemsAt) v
+  pub pack-there : 0 < tag → {v : Value} → Found (rowFor 0 tag (entryRows (at + a .from) (entriesOf pack f (inside s a)))) (at + a .from + length (inside s a)) v
       → Found (packRowIn id tag at (packsOf f s)) (at + length s) v
   pack-there pos (e, l) =
       let k = id-hit i in
       let q = id-pack i in
       let p : Pack = record { width = q .width; id = id; items = q .items } in
-      let items : entriesOf pack f itemsAt ≡ map plain (q .items) = ap thingsOf (q .runs) ∙ q .entries-are in
+      let items : entriesOf pack f (inside s a) ≡ map plain (q .items) = ap thingsOf (q .runs) ∙ q .entries-are in
       let from : at + a .from ≡ at + length (flatAll flatPack (k .before)) + q .width + length (oidBytes id) = omega (arith, id-at i, q .body-at, q .from-at) in (
         e ∙ ap (λ x. valueOf (rowFor 0 tag (entryRows (at + a .from) x))) items
             ∙ ap (λ n. valueOf (rowFor 0 tag (entryRows n (map plain (q .items))))) from
             ∙ sym (ap (λ x. valueOf (packRowIn id tag at x)) (k .list-is ∙ ap (λ y. k .before ++ y ∷ k .later) (q .it-is)) ∙ pack-row id tag at (k .before) (k .later) p pos (k .missed) (eq-eqb id id refl)),
-        omega (arith, l, items-end),
+        omega (arith, l, inside-long s a (id-pack i .room), id-pack i .room),
       )
 
 -- ---- in the set
@@ -122,17 +109,10 @@ unfolding numberOf
 series-none f id tag at s k = bind-not _ _ 18 0 (ask-absent isSeries (entriesOf set f s) k _)
 
 module _ {f : Form} {s : List ℕ} {a : Spot} (i : TagFound set f 101 s a) (id tag at : ℕ) where
-  -- the packs, as they are lent
-  abbrev packsAt : List ℕ
-  packsAt = take (a .next - a .from) (drop (a .from) s)
+  pub packs-lent : at + length s ≤ 8192 → at + a .from + length (inside s a) ≤ 8192
+  packs-lent l = omega (arith, inside-long s a (tag-room i), tag-room i)
 
-  packs-end : a .from + length packsAt ≤ length s
-  packs-end = part-long (a .next - a .from) (a .from) s (omega (arith, tag-room i))
-
-  pub packs-lent : at + length s ≤ 8192 → at + a .from + length packsAt ≤ 8192
-  packs-lent l = omega (arith, packs-end)
-
-  pub target-there : {v : Value} → Found (packRowIn id tag (at + a .from) (packsOf f packsAt)) (at + a .from + length packsAt) v
+  pub target-there : {v : Value} → Found (packRowIn id tag (at + a .from) (packsOf f (inside s a))) (at + a .from + length (inside s a)) v
       → Found (rowIn (target id) tag at (entriesOf set f s)) (at + length s) v
   unfolding oidBytes digits
   target-there (e, l) =
@@ -144,7 +124,7 @@ module _ {f : Form} {s : List ℕ} {a : Spot} (i : TagFound set f 101 s a) (id t
         e ∙ ap (λ x. valueOf (packRowIn id tag (at + a .from) x)) (ap thingsOf r)
             ∙ ap (λ n. valueOf (packRowIn id tag n (ps .val))) from
             ∙ ap valueOf (sym (ap (rowIn (target id) tag at) list ∙ target-row id tag at (k .before) w (ps .val) (k .later) (k .missed) o)),
-        omega (arith, l, packs-end),
+        omega (arith, l, inside-long s a (tag-room i), tag-room i),
       )
 
 -- ---- by what holds the item

@@ -32,7 +32,7 @@ use Rattle.walks.proofs.Steps.{EntryHere, entry-here, no-head-entry}
 use Rattle.spots.specs.declared.Spot.{Spot}
 use Rattle.spots.specs.Meet.{spot, noSpot, spotIn, thingsOf, hasItem, hasTag, entriesOf, itemLead, entryLead, itemSpot, entrySpot}
 use Rattle.spots.proofs.Splices.{Missed, Hit, spot-present, spot-absent, spot-room}
-use Rattle.spots.proofs.Seeks.{ran-ok, Stands, ReadAll, read-all, Seeking, seek-start, Next, next-here, seek-done, seek-found, seek-more, Standing, standing, part-at}
+use Rattle.spots.proofs.Seeks.{ran-ok, Stands, ReadAll, read-all, Seeking, seek-start, Next, next-here, seek-done, seek-found, seek-more, Standing, standing, inside, part-at}
 
 -- ---- what a level's run read
 
@@ -232,20 +232,20 @@ module _ {l : Level} {f : Form} {tag : ℕ} {s : List ℕ} {a : Spot} (i : TagFo
   tag-room = (omega (arith, next-at), omega (arith, there .here .room, there .next-is))
 
   -- its value, as it is lent
-  value-at : take (under .size) (drop (under .used + under .width) (drop (a .at) s)) ≡ take (a .next - a .from) (drop (a .from) s)
+  value-at : take (under .size) (drop (under .used + under .width) (drop (a .at) s)) ≡ inside s a
   value-at = sym (part-at s (a .at) (under .used + under .width) (under .size) (tag-from ∙ ap (λ n. a .at + n) (keys-at .1)) next-at)
 
   -- an item
-  pub tag-one : isSet l && eqb tag 101 ≡ false → (w : ℕ) × (tag-hit .it ≡ plain (record { tag = tag; width = w; value = take (a .next - a .from) (drop (a .from) s) }))
+  pub tag-one : isSet l && eqb tag 101 ≡ false → (w : ℕ) × (tag-hit .it ≡ plain (record { tag = tag; width = w; value = inside s a }))
   tag-one z = (
     under .width,
     under .here .one (rw tag-is z)
         ∙ ap (λ v. plain (record { tag = under .key; width = under .width; value = v })) value-at
-        ∙ ap (λ k. plain (record { tag = k; width = under .width; value = take (a .next - a .from) (drop (a .from) s) })) tag-is,
+        ∙ ap (λ k. plain (record { tag = k; width = under .width; value = inside s a })) tag-is,
   )
 
   -- the series
-  pub tag-series : isSet l && eqb tag 101 ≡ true → (w : ℕ) × (ps : Got (List Pack)) × (tag-hit .it ≡ series w (ps .val)) × (seriesRun f (take (a .next - a .from) (drop (a .from) s)) ≡ ok ps)
+  pub tag-series : isSet l && eqb tag 101 ≡ true → (w : ℕ) × (ps : Got (List Pack)) × (tag-hit .it ≡ series w (ps .val)) × (seriesRun f (inside s a) ≡ ok ps)
   tag-series z = let (ps, e, r) = under .here .packs (rw tag-is z) in (under .width, ps, e, ap (seriesRun f) (sym value-at) ∙ r)
 
 -- ---- the series by its kind and by its tag

@@ -27,7 +27,7 @@ use Rattle.walks.proofs.Steps.{PackHere, pack-here, no-head-pack}
 use Rattle.spots.specs.declared.Spot.{Spot}
 use Rattle.spots.specs.Meet.{spot, noSpot, hasId, packsOf, packLead, packSpot}
 use Rattle.spots.proofs.Splices.{Missed, Hit, spot-present, spot-absent}
-use Rattle.spots.proofs.Seeks.{Stands, ReadAll, read-all, Seeking, seek-start, Next, next-here, seek-done, seek-found, seek-more, Standing, standing, part-at}
+use Rattle.spots.proofs.Seeks.{Stands, ReadAll, read-all, Seeking, seek-start, Next, next-here, seek-done, seek-found, seek-more, Standing, standing, inside, part-at}
 
 -- ---- what a series' run read
 
@@ -163,7 +163,7 @@ module _ {f : Form} {id : ℕ} {s : List ℕ} {a : Spot} (i : IdFound f id s a) 
     pub room : (a .from ≤ a .next) × (a .next ≤ length s)
     pub entries : Got (List Entry)
     pub entries-are : entries .val ≡ map plain items
-    pub runs : levelRun pack f (take (a .next - a .from) (drop (a .from) s)) ≡ ok entries
+    pub runs : levelRun pack f (inside s a) ≡ ok entries
 
   pub id-pack : PackIs
   id-pack =
@@ -173,7 +173,7 @@ module _ {f : Form} {id : ℕ} {s : List ℕ} {a : Spot} (i : IdFound f id s a) 
       let from : a .from ≡ a .body + length (oidBytes id) = omega (arith, there .from-is, body, ap packLead it) in
       let used : length (oidBytes id) ≡ head .used = ap (λ n. length (oidBytes n)) (sym id-is) ∙ k .oid in
       let next : a .next ≡ a .from + (head .size - head .used) = omega (arith, there .next-is, from, body, used, k .used-is, k .body) in
-      let lent : take (a .next - a .from) (drop (a .from) s) ≡ drop (head .used) (take (head .size) (drop (head .width) (drop (a .at) s)))
+      let lent : inside s a ≡ drop (head .used) (take (head .size) (drop (head .width) (drop (a .at) s)))
       = part-at s (a .at) (head .width + head .used) (head .size - head .used) (omega (arith, from, body, used)) next
       ∙ rw (drop-take (head .used) (head .size) (drop (head .width) (drop (a .at) s)), drop-drop (head .used) (head .width) (drop (a .at) s)) in
       record {

@@ -4,12 +4,13 @@ use Prim.Native.Nat.{ℕ, _+_, _-_, _≤_, _<_}
 use native.Mathlib.Omega.{arith}
 use mathlib.Core.Bool.{Bool, true, false}
 use mathlib.Core.List.{List, [], _∷_, _++_, append-assoc, append-nil}
-use lib.ListN.{length, take, drop, length-append}
-use lib.Seq.{drop-append-seam, drop-drop}
+use lib.ListN.{length, take, drop, length-append, length-drop}
+use lib.Seq.{drop-append-seam, drop-drop, length-take-le}
 use Rattle.format.specs.Answer.{Ans, ok, refused, Got, got}
 use Rattle.format.specs.Coding.{Bytes}
 use Rattle.format.specs.Lists.{flatAll}
 use Rattle.format.specs.Run.{Step, always, run}
+use Rattle.format.proofs.words.Bytes.{bytes-take, bytes-drop}
 use Rattle.format.proofs.words.Flats.{flat-append, flat-snoc}
 use Rattle.format.proofs.reading.Runs.{Along, Faithful, ReadsAt, RanAll, all-says}
 use Rattle.walks.specs.Runs.{Ran}
@@ -20,6 +21,17 @@ use Rattle.spots.proofs.Splices.{all-snoc, Missed, Hit, spot-past, spot
 -- a run that came to its end
 pub ran-ok : {X : Type 0} (m : Ans (Got (List X))) {rs : Got (List X)} → m ≡ ok rs → Ran m
 ran-ok m e = rw e tt
+
+-- the bytes of a thing's value or items, as they are lent
+abbrev pub inside : List ℕ → Spot → List ℕ
+inside s a = take (a .next - a .from) (drop (a .from) s)
+
+module _ (s : List ℕ) (a : Spot) where
+  pub inside-long : (a .from ≤ a .next) × (a .next ≤ length s) → length (inside s a) ≡ a .next - a .from
+  inside-long r = length-take-le (a .next - a .from) (drop (a .from) s) (rw length-drop (omega arith))
+
+  pub inside-bytes : Bytes s → Bytes (inside s a)
+  inside-bytes b = bytes-take (a .next - a .from) (drop (a .from) s) (bytes-drop (a .from) s b)
 
 -- n bytes, m after a place, as they are lent
 pub part-at : (s : List ℕ) (at m n : ℕ) {from next : ℕ} → from ≡ at + m → next ≡ from + n → take (next - from) (drop from s) ≡ take n (drop m (drop at s))

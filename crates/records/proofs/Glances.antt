@@ -9,7 +9,7 @@ use lib.Seq.{drop-drop, getD-drop, getD-take, length-take-le}
 use lib.Dec.{eqb}
 use borrow.Author.Tests.{lt-ltb, le-leb, eq-eqb}
 use Rattle.format.specs.Coding.{Bytes, bytesNumber, number, oidBytes, lenWidth}
-use Rattle.format.specs.Table.{Form, Level, pack, isSet, isAlone, ruleOf, nameable}
+use Rattle.format.specs.Table.{Form, Level, isSet, isAlone, ruleOf, nameable}
 use Rattle.format.specs.Sheet.{markOf, is, valueAt}
 use Rattle.format.proofs.words.Bytes.{bytes-drop}
 use Rattle.coding.proofs.Lens.{two-small}
@@ -24,24 +24,25 @@ use Rattle.heads.proofs.Spans.{val-whole, a-field}
 use Rattle.walks.specs.declared.Piece.{Piece}
 use Rattle.walks.specs.declared.Piece.the-variants as piece
 use Rattle.walks.specs.declared.Sizes.{Sizes}
-use Rattle.walks.specs.Meet.{sizes, itemSizes, packSizes, plusSizes}
+use Rattle.walks.specs.Meet.{sizes, itemSizes, packSizes, plusSizes, markTag}
 use Rattle.walks.proofs.Walks.{same-sizes}
-use Rattle.records.specs.Meet.{pieceBy, valueWhole, partPiece}
+use Rattle.walks.proofs.ItemTurns.{level-is}
+use Rattle.records.specs.Meet.{pieceBy, valueWhole, partPiece, moreAt}
 use Rattle.records.specs.Going.{RecordsGoing, Glanced, wordOf}
 use Rattle.records.proofs.Values.{value-within, value-whole}
 use Rattle.records.proofs.Opens.{part-inner, part-value}
-use Rattle.records.proofs.PartTurns.{PartAt, item-told, part-more}
+use Rattle.records.proofs.PartTurns.{item-is, PartAt, item-told, part-more}
 
 -- the sizes of so many such records in p bytes
 abbrev pub quickSizes : ℕ → ℕ → Sizes
 quickSizes count p = sizes p count (p - 4 * count) 0
 
-quick-plus : (tag n count p : ℕ) → tag < 128 → n < 128 → 4 * count ≤ p → quickSizes (count + 1) (p + (6 + n)) ≡ plusSizes (quickSizes count p) (itemSizes pack tag n)
-unfolding itemSizes
-quick-plus tag n count p th nh h =
+quick-plus : (l : Level) (tag n count p : ℕ) → isSet l && eqb tag 1 ≡ false → tag < 128 → n < 128 → 4 * count ≤ p
+    → quickSizes (count + 1) (p + itemSizes l tag n .sheet) ≡ plusSizes (quickSizes count p) (itemSizes l tag n)
+quick-plus l tag n count p z th nh h =
     let u : 1 ≡ length (oidBytes tag) = count-done tag 1 tag (count-start tag (omega arith)) th .0 in
     let w : 1 ≡ lenWidth n = len-one n nh in
-    same-sizes (omega arith) refl (omega (arith, u, w)) refl
+    rw (item-is l tag n z) (same-sizes (omega arith) refl (omega (arith, u, w)) refl)
 
 -- and of targets: one more, whose pack has a byte for its length, and whose id takes w
 pub passed-plus : (p rows normal w : ℕ) (z : Sizes) → w + z .normal ≤ 127 → sizes (p + 10 + z .sheet) (rows + 1 + z .rows) (normal + 1 + (w + z .normal)) 0 ≡ plusSizes (sizes p rows normal 0) (packSizes w z)
@@ -71,7 +72,11 @@ head-is b (x ∷ y ∷ z ∷ w ∷ s) {tag} h bytes e l =
     let t = marked b x y (z * 256 + w) tag (omega (arith, e)) (bytes 1) (omega (arith, bytes 2, bytes 3)) l in
     (rw (eq-eqb x _ (t .0), eq-eqb y _ (t .1)), omega (arith, t .2))
 
--- how what it marks is read
+-- a level goes on where it stands; how what it marks is read
+mark-more : (b : Bool) (u : List ℕ) → is (markOf (levelOf b)) u ≡ true → moreAt (levelOf b) u ≡ true
+mark-more true u m = refl
+mark-more false u m = m
+
 mark-piece : (b : Bool) (f : Form) (seen u : List ℕ) → is (markOf (levelOf b)) u ≡ true → {r : Piece} → r ≡ pieceBy valueWhole (valueAt (levelOf b) f seen u) → r ≡ partPiece (levelOf b) f seen u
 mark-piece true f seen u m e = part-value f seen u refl refl m e
 mark-piece false f seen u m e = part-inner f seen u refl e
@@ -158,23 +163,22 @@ module _ {b : Bool} {f : Form} {s : List ℕ} {p top tag n : ℕ} (g : Glanced b
 pub glance-next : {b : Bool} {f : Form} {s : List ℕ} {p top tag next : ℕ} → Glanced b f s p top tag (next - (p + 6)) → (p + 6 < next) × (next ≤ length s)
 glance-next g = (omega (arith, g .quick .some), omega (arith, glance-room g, g .quick .some))
 
--- of a target; tags rise, and how low they were does not matter
-pub glance-more : {f : Form} {s : List ℕ} {p top tag next : ℕ} → Glanced false f s p top tag (next - (p + 6))
-    → {count : ℕ} {mark : Bool} → RecordsGoing false f s p (quickSizes count p) mark top 0 → 4 * count ≤ p → Bytes s → length s ≤ 65536
-    → {y mark′ : Bool} → y ≡ eqb tag 17 → mark′ ≡ (mark || y) → RecordsGoing false f s next (quickSizes (count + 1) next) mark′ tag 0
-unfolding itemSizes
-glance-more {f = f} {s = s} {p = p} {top = top} {tag = tag} {next = next} g {count = count} {mark = mark} go few bytes most ey em =
+-- tags rise, and how low they were does not matter
+pub glance-more : {b : Bool} {f : Form} {s : List ℕ} {p top tag next : ℕ} → Glanced b f s p top tag (next - (p + 6))
+    → {count : ℕ} {mark : Bool} → RecordsGoing b f s p (quickSizes count p) mark top 0 → 4 * count ≤ p → Bytes s → length s ≤ 65536
+    → {y mark′ : Bool} → y ≡ eqb tag (markTag (levelOf b)) → mark′ ≡ (mark || y) → RecordsGoing b f s next (quickSizes (count + 1) next) mark′ tag 0
+glance-more {b = b} {f = f} {s = s} {p = p} {top = top} {tag = tag} {next = next} g {count = count} {mark = mark} go few bytes most ey em =
     let n : ℕ = next - (p + 6) in
-    let i : PartAt false f s p _ _ top 0 tag 6 n n = record {
+    let i : PartAt b f s p _ _ top 0 tag 6 n n = record {
       going = go;
       here = omega (arith, glance-next g);
-      more = g .mark;
+      more = mark-more b (drop p s) (g .mark);
       it = piece.Whole tag 6 n n;
       told = λ seen q. glance-piece g seen q;
       whole = refl;
       bytes = bytes;
       most = most;
     } in
-    let at : next ≡ p + (6 + n) = omega (arith, glance-next g) in
-    rw at (part-more i (item-told i {x = false} refl refl refl) refl (quick-plus tag n count p (g .small) (g .few) few) (em ∙ ap (λ z. mark || z) ey)
+    let at : next ≡ p + itemSizes (levelOf b) tag n .sheet = omega (arith, glance-next g, ap (λ (a : Sizes). a .sheet) (item-is (levelOf b) tag n (g .quick .no-seal))) in
+    rw at (part-more i (item-told i {x = b && eqb tag 101} refl (rw level-is at (g .quick .no-series)) refl) refl (quick-plus (levelOf b) tag n count p (g .quick .no-seal) (g .small) (g .few) few) (em ∙ ap (λ z. mark || z) ey)
     (omega (arith, g .above), omega arith) (omega arith, omega arith))

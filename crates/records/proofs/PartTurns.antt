@@ -12,7 +12,7 @@ use Rattle.format.specs.Answer.{ok, refused, got}
 use Rattle.format.specs.Coding.{Bytes, oidBytes}
 use Rattle.format.specs.Table.{Form, Level, isSet}
 use Rattle.format.specs.Run.{run}
-use Rattle.format.specs.Sheet.{one, targets, tagOfPart, idOfTarget, TG, is, targetAt}
+use Rattle.format.specs.Sheet.{one, targets, tagOfPart, idOfTarget, TS, TG, is, targetAt}
 use Rattle.format.proofs.words.Answers.{after-ok}
 use Rattle.format.proofs.words.Bytes.{bytes-drop}
 use Rattle.coding.proofs.Rooms.{tail-part}
@@ -69,7 +69,7 @@ told-bad {n = n} {q = q} e l = record {
 }
 
 -- an item: no sheet has a checksum
-item-is : (l : Level) (tag n : ℕ) → isSet l && eqb tag 1 ≡ false → itemSizes l tag n ≡ sizes (6 + n) 1 (length (oidBytes tag) + lengthened n) 0
+pub item-is : (l : Level) (tag n : ℕ) → isSet l && eqb tag 1 ≡ false → itemSizes l tag n ≡ sizes (6 + n) 1 (length (oidBytes tag) + lengthened n) 0
 unfolding itemSizes
 item-is l tag n z = rw (z, itemSizes)
 
@@ -124,6 +124,13 @@ module _ (b : Bool) (f : Form) {s : List ℕ} {p : ℕ} {sum : Sizes} {mark : Bo
   piece-fault {n = n} t e =
       turn-bad g h o n 0 (e ∙ ap (stopAt p) t ∙ ap (Bad n) (sym (add-zero p))) (part-fault f (g .seen) (drop p s) n b (sym t ∙ ea (g .seen) (g .past))) (omega arith)
 
+-- a `TS` at p, and its targets as the code lends them
+pub ts-room : (s : List ℕ) (p : ℕ) → is TS (drop p s) ≡ true → p + 2 ≤ length s
+ts-room s p m = omega (arith, is-room _ (drop p s) m, length-drop p s)
+
+abbrev pub targetsAt : List ℕ → ℕ → List ℕ
+targetsAt s p = take (length s - (p + 2)) (drop (p + 2) s)
+
 -- a record that the code has read at p, in a level of no more bytes than a sheet's
 pub record PartAt (b : Bool) (f : Form) (s : List ℕ) (p : ℕ) (sum : Sizes) (mark : Bool) (top low tag from size small : ℕ) : Type 0 where
   pub going : RecordsGoing b f s p sum mark top low
@@ -160,19 +167,16 @@ module _ {b : Bool} {f : Form} {s : List ℕ} {p : ℕ} {sum : Sizes} {mark : Bo
       ts-stood = series-stood b f (i .going .seen) (drop p s) tag from size small is-piece (sym ex ∙ tx)
 
       pub series-room : p + 2 ≤ length s
-      series-room = omega (arith, is-room _ (drop p s) (ts-stood .2 .mark), length-drop p s)
+      series-room = ts-room s p (ts-stood .2 .mark)
 
-      -- its targets, as the code lends them and as document 01 has them
-      abbrev pub lent : List ℕ
-      lent = take (length s - (p + 2)) (drop (p + 2) s)
-
-      pub lent-is : lent ≡ drop 2 (drop p s)
+      -- its targets, as document 01 has them
+      lent-is : targetsAt s p ≡ drop 2 (drop p s)
       lent-is = tail-part (p + 2) s ∙ sym (drop-drop 2 p s)
 
-      pub lent-small : length lent ≤ 65536
+      pub lent-small : length (targetsAt s p) ≤ 65536
       lent-small = omega (arith, ap length lent-is, length-drop 2 (drop p s), length-drop p s, i .most)
 
-      pub series-told : {y : Walked} → (y ≡ targetsWalk f lent) × Within y (length lent) → {w : Walked} → w ≡ seriesFrom 2 y → PartTold w
+      pub series-told : {y : Walked} → (y ≡ targetsWalk f (targetsAt s p)) × Within y (length (targetsAt s p)) → {w : Walked} → w ≡ seriesFrom 2 y → PartTold w
       series-told {y = y} ey ew =
           let told = told-series f (i .going .seen) (drop p s) (ts-stood .2) (bytes-drop p s (i .bytes)) y (rw lent-is at (ey .0)) (rw lent-is at (ey .1)) in
           subst PartTold (sym ew)

@@ -240,10 +240,10 @@ pub fn target_records(table: &[u32], s: &[u8], alone: bool) -> Walked
         };
         let from = p + 10;
         let items = &s[from..];
-        let q = quick::run(table, items, alone);
+        let q = quick::run(table, items, false, alone);
         let mut sizes = q.sizes;
         let mut mark = q.mark;
-        if goes_on(items, sizes.sheet, false) {
+        if goes_on(items, q.at, false) {
             let w = item_records(table, items, false, alone);
             let Walked::Good { sizes: z, mark: m } = w else {
                 return walks::later(w, from);
@@ -288,5 +288,5 @@ pub enum Sheeted {
     },
 }
 
-pub mod quick; // quick.rt: the quick way over a target, and over targets
+pub mod quick; // quick.rt: the quick way over a level, and over targets
 pub mod whole; // whole.rt: the whole sheet

@@ -1,13 +1,13 @@
-// The quick way over a target's records: told at a glance, tags rising, from its start; and over the series' targets that hold no others.
+// The quick way over a level's records: told at a glance, tags rising, from its start; and over the series' targets that hold no others.
 // What stops it is left to the walks.
 ghost use mathlib.Core.Path.{_≡_};
 ghost use mathlib.Core.Bool.{false};
-ghost use Prim.Native.Nat.{_+_, _-_, _^_, _≤_, _<_};
+ghost use Prim.Native.Nat.{_+_, _-_, _≤_, _<_};
 ghost use lib.ListN.{length};
 ghost use Rattle.items.specs.Meet.{formOf, itemTable};
 ghost use Rattle.walks.specs.Meet.{sizes};
 ghost use Rattle.walks.specs.Going.{quickAt};
-ghost use Rattle.records.specs.Going.{TargetRan, TargetsGoing, Glanced, wordOf};
+ghost use Rattle.records.specs.Going.{RecordsGoing, TargetsPassed, Glanced, wordOf};
 use walks::Sizes;
 use walks::quick::Quick;
 
@@ -62,23 +62,17 @@ pub fn glance(table: &[u32], s: &[u8], p: usize, set: bool, alone: bool, top: u6
     nothing()
 }
 
-// What was walked, and whether it holds what marks a target.
-pub struct Ran {
-    pub sizes: Sizes,
-    pub mark: bool,
-}
-
-// The records of a target told at a glance, one after another.
-pub fn run(table: &[u32], s: &[u8], alone: bool) -> Ran
+// The records of a level told at a glance, one after another. Tags rise, so how low they were does not matter.
+pub fn run(table: &[u32], s: &[u8], set: bool, alone: bool) -> Quick
     requires { ⌜ (now table ≡ itemTable) × (length (now s) ≤ 65536) ⌝ }
-    ensures { λ r. ⌜ TargetRan (formOf alone) (now (s .entry)) (r .sizes) (r .mark) ⌝ }
+    ensures { λ r. ⌜ RecordsGoing set (formOf alone) (now (s .entry)) (r .at) (r .sizes) (r .mark) (r .top) (r .low) × (r .at ≡ r .sizes .sheet) ⌝ }
 {
     let mut p: usize = 0;
     let mut count: usize = 0;
     let mut mark = false;
     let mut top: u64 = 0;
     loop {
-        let g = glance(table, s, p, false, alone, top);
+        let g = glance(table, s, p, set, alone, top);
         if g.next == 0 {
             let sizes = Sizes {
                 sheet: p,
@@ -86,9 +80,9 @@ pub fn run(table: &[u32], s: &[u8], alone: bool) -> Ran
                 normal: p - 4 * count,
                 inner: 0,
             };
-            return Ran { sizes, mark };
+            return walks::quick::stands(p, sizes, mark, top, 0);
         }
-        mark = walks::either(mark, walks::is_mark(false, g.tag));
+        mark = walks::either(mark, walks::is_mark(set, g.tag));
         top = g.tag;
         count += 1;
         p = g.next;
@@ -120,7 +114,7 @@ fn passed(p: usize, rows: usize, normal: usize, top: u64, low: u64) -> Quick
 // byte for their length, one after another, from the series' start.
 pub fn targets(table: &[u32], s: &[u8], alone: bool) -> Quick
     requires { ⌜ (now table ≡ itemTable) × (length (now s) ≤ 65536) ⌝ }
-    ensures { λ r. ⌜ TargetsGoing (formOf alone) (now (s .entry)) (r .at) (r .sizes) (r .top) (r .low) × (r .top < 2 ^ 63) ⌝ }
+    ensures { λ r. ⌜ TargetsPassed (formOf alone) (now (s .entry)) r ⌝ }
 {
     let mut p: usize = 0;
     let mut rows: usize = 0;
@@ -152,9 +146,9 @@ pub fn targets(table: &[u32], s: &[u8], alone: bool) -> Quick
         }
         let from = p + 10;
         let items = &s[from..];
-        let q = run(table, items, alone);
+        let q = run(table, items, false, alone);
         // a target is over at the end, or where another begins
-        let next = from + q.sizes.sheet;
+        let next = from + q.at;
         if next < s.len() {
             if !heads::records::is_mark(s, next, b'T', b'G') {
                 return passed(p, rows, normal, top, low);

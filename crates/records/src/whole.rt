@@ -1,10 +1,63 @@
 // The whole sheet: `PK`, the form, and the parts.
 ghost use mathlib.Core.Path.{_≡_};
+ghost use Prim.Native.Nat.{_≤_};
+ghost use mathlib.Core.Bool.{true};
+ghost use lib.ListN.{length};
+ghost use Rattle.format.specs.Table.{set};
 ghost use Rattle.format.specs.Sheet.{unsheet};
+ghost use Rattle.items.specs.Meet.{formOf, itemTable};
 ghost use Rattle.walks.specs.Meet.{Within};
-ghost use Rattle.records.specs.Meet.{sheetedOf, partsFault};
+ghost use Rattle.records.specs.Meet.{recordsWalk, sheetedOf, partsFault};
+ghost use Rattle.records.specs.Going.{RecordsGoing};
 use super::Sheeted;
+use super::quick;
 use walks::Walked;
+use walks::quick::Quick;
+
+// ---- its set
+
+// On over the series, if it ends the set and all its targets are told at a glance. It is told to be new: items stand before it, and none has
+// a tag so high.
+fn series(table: &[u32], s: &[u8], alone: bool, q: Quick) -> Quick
+    requires { ⌜ (now table ≡ itemTable) × (length (now s) ≤ 65536) × RecordsGoing true (formOf alone) (now s) (q .at) (q .sizes) (q .mark) (q .top) (q .low) ⌝ }
+    ensures { λ r. ⌜ RecordsGoing true (formOf alone) (now (s .entry)) (r .at) (r .sizes) (r .mark) (r .top) (r .low) ⌝ }
+{
+    let p = q.at;
+    if !heads::records::is_mark(s, p, b'T', b'S') {
+        return q;
+    }
+    if p == 0 {
+        return q;
+    }
+    if 100 < q.top {
+        return q;
+    }
+    let t = &s[p + 2..];
+    let w = quick::targets(table, t, alone);
+    if w.at == 0 {
+        return q;
+    }
+    if w.at != t.len() {
+        return q;
+    }
+    let sum = walks::weights::plus(q.sizes, walks::weights::series_sizes(w.sizes));
+    walks::quick::stands(s.len(), sum, q.mark, 101, walks::smaller(q.low, 101))
+}
+
+// The records of the set. Most sets are passed at a glance, to the end of their series; any other is walked from its start.
+fn set_records(table: &[u32], s: &[u8], alone: bool) -> Walked
+    requires { ⌜ (now table ≡ itemTable) × (length (now s) ≤ 65536) ⌝ }
+    ensures { λ r. ⌜ (r ≡ recordsWalk set (formOf alone) (now (s .entry))) × Within r (length (now (s .entry))) ⌝ }
+{
+    let q = series(table, s, alone, quick::run(table, s, true, alone));
+    if q.at == s.len() {
+        return walks::whole::walked(q);
+    }
+    // lent on as a part, so that the compiler keeps the slice itself in registers
+    super::item_records(table, &s[0..], true, alone)
+}
+
+// ---- the whole
 
 // A refusal among the parts, which begin at 3.
 fn wrong_parts(w: Walked) -> Sheeted
@@ -47,7 +100,7 @@ pub fn check(s: &[u8]) -> Sheeted
     }
     let alone = s[2] == 1;
     let table = items::table();
-    let w = super::item_records(&table, &s[3..], true, alone);
+    let w = set_records(&table, &s[3..], alone);
     let Walked::Good { sizes, mark: _ } = w else {
         return wrong_parts(w);
     };

@@ -184,7 +184,7 @@ fn seal(s: &[u8], alone: bool, q: Quick) -> Quick
 }
 
 // What was walked till there.
-fn walked(q: Quick) -> Walked
+pub fn walked(q: Quick) -> Walked
     ensures { λ r. ⌜ r ≡ Walked.Good (q .sizes) (q .mark) ⌝ }
 {
     let sizes = q.sizes;

@@ -263,7 +263,7 @@ target-records-targets-requires : (t : ℕ) → target-records-lts.Need-targets-
 target-records-targets-requires t c κs = c .before .before .pre .1
 
 target-records-loop-holds : (t : ℕ) → target-records-lts.Need-loop-holds (target-claims t) (target-records-at t) target-records.Post target-records-Inv-loop target-records-μ-loop
-target-records-loop-holds t c = let (g, few) = c .before .targets .ensures in (g, clear-none _ _, few)
+target-records-loop-holds t c = (c .before .targets .ensures .0, clear-none _ _, c .before .targets .ensures .1)
 
 target-records-is-mark-requires : (t : ℕ) → target-records-lts.Need-is-mark-requires (target-claims t) (target-records-at t) target-records.Post target-records-Inv-loop target-records-μ-loop
 target-records-is-mark-requires t c κs = search needs
@@ -325,7 +325,7 @@ target-told : (t : ℕ) (j : target-records-lts.Joined2 (target-claims t) (targe
 target-told t j =
     ⊎-elim
     (λ x. told-as _ (same-good (x .5) (x .6) ∙ sym (x .3 .given .1)) (x .1 .ensures))
-    (λ x. told-as _ (same-good (x .1) (x .2)) (records-over (j .before .before .before .run .ensures .1) (sym (j .before .goes-on .ensures) ∙ x .0 .left)))
+    (λ x. told-as _ (same-good (x .1) (x .2)) (records-over (j .before .before .before .run .ensures .0) (sym (j .before .goes-on .ensures) ∙ x .0 .left)))
     (j .if2 .came)
 
 target-records-enum-known-w : (t : ℕ) → target-records-lts.Need-enum-known-w (target-claims t) (target-records-at t) target-records.Post target-records-Inv-loop target-records-μ-loop

@@ -1,6 +1,6 @@
 -- `records::quick::run` meets its contract: each turn is a turn of the walk.
 use Prim.Native.Nat.{_-_, _*_, _≤_}
-use mathlib.Core.Bool.{false}
+use mathlib.Core.Path.{refl}
 use native.Mathlib.Omega.{arith}
 use lib.ListN.{length}
 use borrow.Author.Needs.{needs}
@@ -12,10 +12,10 @@ use Rattle.records.proofs.quick.run.Statement.{statement}
 use Rattle.records.proofs.quick.run.Tie as tie
 
 abbrev Inv-loop : tie.InvT-loop
-Inv-loop table s alone p₀ count₀ mark₀ top₀ p count mark top = RecordsGoing false (formOf alone) s p (quickSizes count p) mark top 0 × (4 * count ≤ p)
+Inv-loop table s set alone p₀ count₀ mark₀ top₀ p count mark top = RecordsGoing set (formOf alone) s p (quickSizes count p) mark top 0 × (4 * count ≤ p)
 
 abbrev μ-loop : tie.MeasureT-loop
-μ-loop table s alone p₀ count₀ mark₀ top₀ p count mark top = length s - p
+μ-loop table s set alone p₀ count₀ mark₀ top₀ p count mark top = length s - p
 
 loop-holds : tie.Need-loop-holds Inv-loop μ-loop
 loop-holds c = (records-start _ _ _, omega arith)
@@ -23,14 +23,17 @@ loop-holds c = (records-start _ _ _, omega arith)
 glance-requires : tie.Need-glance-requires Inv-loop μ-loop
 glance-requires c κs = (c .before .before .before .pre .0, c .before .before .before .pre .1, c .loop .inv .0 .to)
 
-mul-t11 : tie.Need-mul-t11 Inv-loop μ-loop
-mul-t11 c = omega (arith, c .before .before .before .loop .inv .1, c .before .before .before .loop .inv .0 .to, c .before .before .before .before .before .before .pre .1)
+mul-t12 : tie.Need-mul-t12 Inv-loop μ-loop
+mul-t12 c = omega (arith, c .before .before .before .loop .inv .1, c .before .before .before .loop .inv .0 .to, c .before .before .before .before .before .before .pre .1)
 
-sub-t12 : tie.Need-sub-t12 Inv-loop μ-loop
-sub-t12 c = omega (arith, c .before .before .before .loop .inv .1)
+sub-t13 : tie.Need-sub-t13 Inv-loop μ-loop
+sub-t13 c = omega (arith, c .before .before .before .loop .inv .1)
+
+stands-requires : tie.Need-stands-requires Inv-loop μ-loop
+stands-requires c κs = search needs
 
 returns : tie.Need-returns Inv-loop μ-loop
-returns c = (c .before .before .before .loop .top, c .before .before .before .loop .inv .0)
+returns c = rw (c .stands .ensures) (c .before .before .before .before .loop .inv .0, refl)
 
 is-mark-requires : tie.Need-is-mark-requires Inv-loop μ-loop
 is-mark-requires c κs = search needs
@@ -58,8 +61,9 @@ run-spec =
     μ-loop
     loop-holds
     glance-requires
-    mul-t11
-    sub-t12
+    mul-t12
+    sub-t13
+    stands-requires
     returns
     is-mark-requires
     either-requires

@@ -3,7 +3,7 @@
 use mathlib.Core.Path.{_≡_, refl, sym, _∙_}
 use mathlib.Core.Logic.{⊎-elim}
 use mathlib.Core.Bool.{true, false}
-use Prim.Native.Nat.{_+_, _-_, _^_, _≤_, _<_}
+use Prim.Native.Nat.{_+_, _-_, _≤_, _<_}
 use native.Mathlib.Omega.{arith}
 use lib.ListN.{length, drop}
 use borrow.Author.Needs.{needs}
@@ -14,11 +14,11 @@ use Rattle.items.specs.Meet.{formOf}
 use Rattle.walks.specs.declared.Piece.the-variants as piece
 use Rattle.walks.specs.declared.Walked.the-variants.{Good}
 use Rattle.walks.specs.Meet.{sizes, Within}
-use Rattle.walks.specs.Going.{Reached}
+use Rattle.walks.specs.Going.{quickAt, Reached}
 use Rattle.walks.proofs.Turns.{going-wide, turn-done, new-key, reach-first, reach-over, reach-under}
 use Rattle.walks.proofs.PackTurns.{either-is}
 use Rattle.records.specs.Meet.{recordsWalk}
-use Rattle.records.specs.Going.{TargetsGoing}
+use Rattle.records.specs.Going.{TargetsGoing, TargetsPassed}
 use Rattle.records.proofs.Glances.{passed-plus}
 use Rattle.records.proofs.Opens.{target-whole}
 use Rattle.records.proofs.TargetTurns.{TargetAt, targets-start, records-over, lent, lent-long, lent-small, lent-over, target-more}
@@ -51,9 +51,13 @@ Id-new = lts.Joined4 claims reads.Pre reads.Post Inv-loop μ-loop
 abbrev Over : Type 0
 Over = lts.Joined7 claims reads.Pre reads.Post Inv-loop μ-loop
 
+-- a target was found before the loop
+opens : (l : At-loop) → is TG (l .before .before .before .before .before .args .s .now) ≡ true
+opens l = sym (l .before .before .is-mark .ensures) ∙ not-false _ (l .before .if1 .left)
+
 -- where the loop stands, the walk may go on
-stays : (l : At-loop) → TargetsGoing (formOf (l .before .before .before .before .before .args .alone)) (l .before .before .before .before .before .args .s .now) (l .loop .p) (sizes (l .loop .p) (l .loop .rows) (l .loop .normal) 0) (l .loop .top) (l .loop .low) × (l .loop .top < 2 ^ 63)
-stays l = (l .loop .inv .0, omega (arith, l .loop .inv .4))
+stays : (l : At-loop) → TargetsPassed (formOf (l .before .before .before .before .before .args .alone)) (l .before .before .before .before .before .args .s .now) (quickAt (l .loop .p) (sizes (l .loop .p) (l .loop .rows) (l .loop .normal) 0) false (l .loop .top) (l .loop .low))
+stays l = (l .loop .inv .0, omega (arith, l .loop .inv .4), refl, λ _. opens l)
 
 -- an id is new, and between the bounds that the code has then
 reached : (j : Id-new) → Reached (j .before .before .before .before .before .loop .p) (j .before .before .before .before .before .loop .top) (j .before .before .before .before .before .loop .low) (j .before .before .eight-of .result) (j .if4 .top) (j .if4 .low) × (j .if4 .top ≤ 16383)
@@ -69,8 +73,8 @@ reached j =
     (j .if4 .came)
 
 -- and with these bounds
-widened : (j : Id-new) → TargetsGoing (formOf (j .before .before .before .before .before .before .before .before .before .before .args .alone)) (j .before .before .before .before .before .before .before .before .before .before .args .s .now) (j .before .before .before .before .before .loop .p) (sizes (j .before .before .before .before .before .loop .p) (j .before .before .before .before .before .loop .rows) (j .before .before .before .before .before .loop .normal) 0) (j .if4 .top) (j .if4 .low) × (j .if4 .top < 2 ^ 63)
-widened j = let (r, most) = reached j in (going-wide (j .before .before .before .before .before .loop .inv .0) (r .over .0) (r .under .0), omega (arith, most))
+widened : (j : Id-new) → TargetsPassed (formOf (j .before .before .before .before .before .before .before .before .before .before .args .alone)) (j .before .before .before .before .before .before .before .before .before .before .args .s .now) (quickAt (j .before .before .before .before .before .loop .p) (sizes (j .before .before .before .before .before .loop .p) (j .before .before .before .before .before .loop .rows) (j .before .before .before .before .before .loop .normal) 0) false (j .if4 .top) (j .if4 .low))
+widened j = let (r, most) = reached j in (going-wide (j .before .before .before .before .before .loop .inv .0) (r .over .0) (r .under .0), omega (arith, most), refl, λ _. opens (j .before .before .before .before .before))
 
 room : (j : Id-new) → (j .before .before .before .before .before .loop .p + 10 ≤ length (j .before .before .before .before .before .before .before .before .before .before .args .s .now)) × (length (j .before .before .before .before .before .before .before .before .before .before .args .s .now) ≤ 65536)
 room j = (omega (arith, j .before .before .before .before .if2 .left), j .before .before .before .before .before .before .before .before .before .before .pre .1)
@@ -91,11 +95,11 @@ here j = record {
 vals : (v : Over) → (Good (v .before .before .run .result .sizes) (v .before .before .run .result .mark) ≡ recordsWalk pack (formOf (v .before .before .before .before .before .before .before .before .before .before .before .before .before .before .args .alone)) (lent (here (v .before .before .before .before)))) × Within (Good (v .before .before .run .result .sizes) (v .before .before .run .result .mark)) (length (lent (here (v .before .before .before .before))))
 vals v =
     ⊎-elim
-    (λ x. records-over (v .before .before .run .ensures .1) (lent-over (here (v .before .before .before .before)) (v .before .before .run .result .sizes .sheet) (sym (x .1 .ensures) ∙ not-false _ (x .2 .left))))
-    (λ x. turn-done (v .before .before .run .ensures .1) (omega (arith, x .left, lent-long (here (v .before .before .before .before)))))
+    (λ x. records-over (v .before .before .run .ensures .0) (lent-over (here (v .before .before .before .before)) (v .before .before .run .result .at) (sym (x .1 .ensures) ∙ not-false _ (x .2 .left))))
+    (λ x. turn-done (v .before .before .run .ensures .0) (omega (arith, x .left, lent-long (here (v .before .before .before .before)))))
     (v .if7 .came)
 
-begins : (v : Over) → v .before .before .before .before .before .before .before .before .before .loop .p + 10 + v .before .before .run .result .sizes .sheet < length (v .before .before .before .before .before .before .before .before .before .before .before .before .before .before .args .s .now) → is TG (drop (v .before .before .before .before .before .before .before .before .before .loop .p + 10 + v .before .before .run .result .sizes .sheet) (v .before .before .before .before .before .before .before .before .before .before .before .before .before .before .args .s .now)) ≡ true
+begins : (v : Over) → v .before .before .before .before .before .before .before .before .before .loop .p + 10 + v .before .before .run .result .at < length (v .before .before .before .before .before .before .before .before .before .before .before .before .before .before .args .s .now) → is TG (drop (v .before .before .before .before .before .before .before .before .before .loop .p + 10 + v .before .before .run .result .at) (v .before .before .before .before .before .before .before .before .before .before .before .before .before .before .args .s .now)) ≡ true
 begins v h =
     ⊎-elim
     (λ x. sym (x .1 .ensures) ∙ not-false _ (x .2 .left))
@@ -109,7 +113,7 @@ passed-requires : tie.Need-passed-requires Inv-loop μ-loop
 passed-requires c κs = search needs
 
 returns : tie.Need-returns Inv-loop μ-loop
-returns c = rw (c .passed .ensures) (targets-start _ _, omega arith)
+returns c = rw (c .passed .ensures) (targets-start _ _, omega arith, refl, λ h. absurd (omega (arith, h)))
 
 loop-holds : tie.Need-loop-holds Inv-loop μ-loop
 loop-holds c = (targets-start _ _, λ _. sym (c .before .is-mark .ensures) ∙ not-false _ (c .if1 .left), λ _. refl, λ h. absurd (omega (arith, h)), omega arith)
@@ -166,7 +170,7 @@ run-requires : tie.Need-run-requires Inv-loop μ-loop
 run-requires c κs = (c .before .before .before .before .before .before .before .before .before .before .before .pre .0, lent-small (here (c .before)))
 
 add-next : tie.Need-add-next Inv-loop μ-loop
-add-next c = omega (arith, c .before .run .ensures .1 .to, lent-long (here (c .before .before .before)), room (c .before .before .before))
+add-next c = omega (arith, c .before .run .ensures .0 .to, lent-long (here (c .before .before .before)), room (c .before .before .before))
 
 is-mark-requires-2 : tie.Need-is-mark-requires-2 Inv-loop μ-loop
 is-mark-requires-2 c κs = search needs
@@ -190,7 +194,7 @@ oid-width-requires : tie.Need-oid-width-requires Inv-loop μ-loop
 oid-width-requires c κs = omega (arith, c .before .before .before .before .before .before .before .if3 .left)
 
 add-body : tie.Need-add-body Inv-loop μ-loop
-add-body c = let k = c .before .before .before .before .before .before .run .ensures .1 in omega (arith, k .few .normal, k .to, lent-small (here (c .before .before .before .before .before .before .before .before)), c .before .oid-width .ensures .1)
+add-body c = let k = c .before .before .before .before .before .before .run .ensures .0 in omega (arith, k .few .normal, k .to, lent-small (here (c .before .before .before .before .before .before .before .before)), c .before .oid-width .ensures .1)
 
 passed-requires-7 : tie.Need-passed-requires-7 Inv-loop μ-loop
 passed-requires-7 c κs = search needs
@@ -202,7 +206,7 @@ add-rows : tie.Need-add-rows Inv-loop μ-loop
 add-rows c = let i = c .before .before .before .before .before .before .before .before .before .before .before .before .before .before .loop .inv .0 in omega (arith, i .few .rows, i .to, c .before .before .before .before .before .before .before .before .before .before .before .before .before .before .before .before .before .before .before .pre .1)
 
 add-rows-2 : tie.Need-add-rows-2 Inv-loop μ-loop
-add-rows-2 c = let i = c .before .before .before .before .before .before .before .before .before .before .before .before .before .before .before .loop .inv .0 in let k = c .before .before .before .before .before .before .before .before .run .ensures .1 in omega (arith, i .few .rows, i .to, k .few .rows, k .to, lent-small (here (c .before .before .before .before .before .before .before .before .before .before)), c .before .before .before .before .before .before .before .before .before .before .before .before .before .before .before .before .before .before .before .before .pre .1)
+add-rows-2 c = let i = c .before .before .before .before .before .before .before .before .before .before .before .before .before .before .before .loop .inv .0 in let k = c .before .before .before .before .before .before .before .before .run .ensures .0 in omega (arith, i .few .rows, i .to, k .few .rows, k .to, lent-small (here (c .before .before .before .before .before .before .before .before .before .before)), c .before .before .before .before .before .before .before .before .before .before .before .before .before .before .before .before .before .before .before .before .pre .1)
 
 add-normal : tie.Need-add-normal Inv-loop μ-loop
 add-normal c = let i = c .before .before .before .before .before .before .before .before .before .before .before .before .before .before .before .loop .inv .0 in omega (arith, i .few .normal, i .to, c .before .before .before .before .before .before .before .before .before .before .before .before .before .before .before .before .before .before .before .before .pre .1)
@@ -218,8 +222,8 @@ loop-again c =
     let j = c .before .before .before .before .before .before .before .before .before .before in
     let v = c .before .before .before .before .before .before in
     let r = reached j .0 in (
-      target-more (here j) (vals v) refl (c .before .before .before .oid-width .ensures .0, omega (arith, c .before .before .before .oid-width .ensures .1)) (either-is (j .before .before .before .before .before .before .before .before .before .before .args .alone) _ (c .before .before .before .before .before .either .ensures)) (not-false _ (c .before .before .before .before .if9 .left))
-          (passed-plus _ _ _ _ (v .before .before .run .result .sizes) (omega (arith, c .before .if10 .left))) (r .over) (r .under),
+      rw (v .before .before .run .ensures .1) (target-more (here j) (vals v) refl (c .before .before .before .oid-width .ensures .0, omega (arith, c .before .before .before .oid-width .ensures .1)) (either-is (j .before .before .before .before .before .before .before .before .before .before .args .alone) _ (c .before .before .before .before .before .either .ensures)) (not-false _ (c .before .before .before .before .if9 .left))
+          (passed-plus _ _ _ _ (v .before .before .run .result .sizes) (omega (arith, c .before .if10 .left))) (r .over) (r .under)),
       begins v,
       λ e. absurd (omega (arith, e)),
       λ _. r .between,

@@ -43,20 +43,20 @@ shared-slice-read-alone c = search needs
 table-requires : tie.Need-table-requires
 table-requires c κs = search needs
 
-slice-aggregate-item-records : tie.Need-slice-aggregate-item-records
-slice-aggregate-item-records c = search needs
+slice-aggregate-set-records : tie.Need-slice-aggregate-set-records
+slice-aggregate-set-records c = search needs
 
-sub-item-records : tie.Need-sub-item-records
-sub-item-records c = search needs
+sub-set-records : tie.Need-sub-set-records
+sub-set-records c = search needs
 
-part-item-records-start : tie.Need-part-item-records-start
-part-item-records-start c = search needs
+part-set-records-start : tie.Need-part-set-records-start
+part-set-records-start c = search needs
 
-part-item-records-end : tie.Need-part-item-records-end
-part-item-records-end c = search needs
+part-set-records-end : tie.Need-part-set-records-end
+part-set-records-end c = search needs
 
-item-records-requires : tie.Need-item-records-requires
-item-records-requires c κs = search needs
+set-records-requires : tie.Need-set-records-requires
+set-records-requires c κs = search needs
 
 enum-known-w : tie.Need-enum-known-w
 enum-known-w c = search needs
@@ -65,12 +65,12 @@ enum-told : tie.Need-enum-told
 enum-told c = search needs
 
 wrong-parts-requires : tie.Need-wrong-parts-requires
-wrong-parts-requires c κs = within-more (c .before .before .item-records .result) _ 65536 (omega arith) (c .before .before .item-records .ensures .1)
+wrong-parts-requires c κs = within-more (c .before .before .set-records .result) _ 65536 (omega arith) (c .before .before .set-records .ensures .1)
 
 returns-5 : tie.Need-returns-5
 returns-5 c =
     let k = c .before .before .before .before .before .before .before .before in
-    check-bad _ (k .before .before .before .before .before .if1 .left) (k .before .before .before .before .if2 .left) (k .before .before .before .is-mark .ensures) (k .before .before .if3 .left) (k .if4 .left) (c .before .before .before .item-records .ensures .0) (c .before .enum-told .given .1) (c .wrong-parts .ensures)
+    check-bad _ (k .before .before .before .before .before .if1 .left) (k .before .before .before .before .if2 .left) (k .before .before .before .is-mark .ensures) (k .before .before .if3 .left) (k .if4 .left) (c .before .before .before .set-records .ensures .0) (c .before .enum-told .given .1) (c .wrong-parts .ensures)
 
 either-requires : tie.Need-either-requires
 either-requires c κs = search needs
@@ -78,7 +78,7 @@ either-requires c κs = search needs
 returns-6 : tie.Need-returns-6
 returns-6 c =
     let k = c .before .before .before .before .before .before .before .before .before .before .before in
-    check-good _ (k .before .before .before .before .before .if1 .left) (k .before .before .before .before .if2 .left) (k .before .before .before .is-mark .ensures) (k .before .before .if3 .left) (k .if4 .left) (c .before .before .before .before .before .before .item-records .ensures .0) (c .before .before .before .before .w .given .1) (c .before .either .ensures) (λ i. k .before .before .before .before .before .before .shared-slice-known .given i .fits) (c .if5 .taken)
+    check-good _ (k .before .before .before .before .before .if1 .left) (k .before .before .before .before .if2 .left) (k .before .before .before .is-mark .ensures) (k .before .before .if3 .left) (k .if4 .left) (c .before .before .before .before .before .before .set-records .ensures .0) (c .before .before .before .before .w .given .1) (c .before .either .ensures) (λ i. k .before .before .before .before .before .before .shared-slice-known .given i .fits) (c .if5 .taken)
 
 wrong-requires-5 : tie.Need-wrong-requires-5
 wrong-requires-5 c κs = search needs
@@ -86,7 +86,7 @@ wrong-requires-5 c κs = search needs
 returns-7 : tie.Need-returns-7
 returns-7 c =
     let k = c .before .before .before .before .before .before .before .before .before .before .before .before in
-    check-none _ (k .before .before .before .before .before .if1 .left) (k .before .before .before .before .if2 .left) (k .before .before .before .is-mark .ensures) (k .before .before .if3 .left) (k .if4 .left) (c .before .before .before .before .before .before .before .item-records .ensures .0) (c .before .before .before .before .before .w .given .1) (c .before .before .either .ensures) (c .wrong5 .ensures) (c .before .if5 .left)
+    check-none _ (k .before .before .before .before .before .if1 .left) (k .before .before .before .before .if2 .left) (k .before .before .before .is-mark .ensures) (k .before .before .if3 .left) (k .if4 .left) (c .before .before .before .before .before .before .before .set-records .ensures .0) (c .before .before .before .before .before .w .given .1) (c .before .before .either .ensures) (c .wrong5 .ensures) (c .before .if5 .left)
 
 pub check-spec : {M : Type 1} → statement M
 check-spec =
@@ -104,11 +104,11 @@ check-spec =
     returns-4
     shared-slice-read-alone
     table-requires
-    slice-aggregate-item-records
-    sub-item-records
-    part-item-records-start
-    part-item-records-end
-    item-records-requires
+    slice-aggregate-set-records
+    sub-set-records
+    part-set-records-start
+    part-set-records-end
+    set-records-requires
     enum-known-w
     enum-told
     wrong-parts-requires

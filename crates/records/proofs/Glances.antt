@@ -1,6 +1,6 @@
 -- The quick way's turns: a record told at a glance is read as the walk over its level reads it.
 use mathlib.Core.Path.{_≡_, refl, sym, ap, _∙_}
-use Prim.Native.Nat.{ℕ, _+_, _-_, _*_, _%_, _≤_, _<_}
+use Prim.Native.Nat.{ℕ, zero, suc, _+_, _-_, _*_, _%_, _≤_, _<_}
 use native.Mathlib.Omega.{arith}
 use mathlib.Core.Bool.{Bool, true, false, not, _&&_, _||_}
 use mathlib.Core.List.{List, [], _∷_}
@@ -25,7 +25,9 @@ use Rattle.walks.specs.declared.Piece.{Piece}
 use Rattle.walks.specs.declared.Piece.the-variants as piece
 use Rattle.walks.specs.declared.Sizes.{Sizes}
 use Rattle.walks.specs.Meet.{sizes, itemSizes, packSizes, plusSizes, markTag}
+use Rattle.walks.specs.Going.{Begun}
 use Rattle.walks.proofs.Walks.{same-sizes}
+use Rattle.walks.proofs.Glances.{begun-later}
 use Rattle.walks.proofs.ItemTurns.{level-is}
 use Rattle.records.specs.Meet.{pieceBy, valueWhole, partPiece, moreAt}
 use Rattle.records.specs.Going.{RecordsGoing, Glanced, wordOf}
@@ -105,8 +107,8 @@ named l f tag n first z h q = rw (lt-ltb 0 tag z, le-leb tag 16383 (omega arith)
 pub glance-from : (b : Bool) (f : Form) (s : List ℕ) (p top : ℕ) → Bytes s
     → {head word tag : ℕ} → head ≡ bytesNumber (take 4 (take (length s - p) (drop p s))) → word ≡ wordOf b → (tag + word) % 4294967296 ≡ head → top < tag → tag < 128
     → {n : ℕ} → n ≡ bytesNumber (take 2 (take (length s - (p + 4)) (drop (p + 4) s))) → n < 128 → {next : ℕ} → next ≡ p + 6 + n → next ≤ length s
-    → Quick (levelOf b) f tag n (getD s (p + 6) 0) → {x : Bool} → x ≡ (not (isSet (levelOf b)) || not (isAlone f) || not (eqb p 0) || eqb tag 2) → x ≡ true → Glanced b f s p top tag (next - (p + 6))
-glance-from b f s p top bytes {head} {word} {tag} eh ew et above th {n} en nh {next} ee room q ex tx =
+    → Quick (levelOf b) f tag n (getD s (p + 6) 0) → Glanced b f s p top tag (next - (p + 6))
+glance-from b f s p top bytes {head} {word} {tag} eh ew et above th {n} en nh {next} ee room q =
     let u : List ℕ = drop p s in
     let long : 6 + n ≤ length u = rw length-drop (omega arith) in
     let e : bytesNumber (take 4 u) ≡ wordOf b + tag = sym (rw tail-part at eh) ∙ omega (arith, ew, word-small b, et) in
@@ -118,13 +120,18 @@ glance-from b f s p top bytes {head} {word} {tag} eh ew et above th {n} en nh {n
     let y : next - (p + 6) ≡ n = omega arith in
     rw y record {
       mark = mark;
+      tag-is = is-tag;
       fields = rw z at at;
       quick = q;
-      begins = sym ex ∙ tx;
       above = above;
       small = th;
       few = nh;
     }
+
+-- the first may begin its level, and whatever comes later
+pub glance-begun : {b : Bool} {f : Form} {s : List ℕ} {p top tag n : ℕ} → Glanced b f s p top tag n → Begun b f 0 (bytesNumber (take 2 (drop 2 s))) → Begun b f p tag
+glance-begun {p = zero} g h = rw (g .tag-is) h
+glance-begun {b = b} {f = f} {p = suc p} {tag = tag} g h = begun-later b f (suc p) tag (omega arith)
 
 -- ---- the turn
 
@@ -148,12 +155,12 @@ module _ {b : Bool} {f : Form} {s : List ℕ} {p top tag n : ℕ} (g : Glanced b
       ∙ getD-drop 6 (drop p s) 0 0
       ∙ getD-drop p s 6 0
 
-  pub glance-piece : {low : ℕ} (seen : List ℕ) → Past (peek true false b) s p top low seen → piece.Whole tag 6 n n ≡ partPiece (levelOf b) f seen (drop p s)
-  glance-piece seen q =
+  pub glance-piece : Begun b f p tag → {low : ℕ} (seen : List ℕ) → Past (peek true false b) s p top low seen → piece.Whole tag 6 n n ≡ partPiece (levelOf b) f seen (drop p s)
+  glance-piece begins seen q =
       mark-piece b f seen (drop p s) (g .mark)
       (value-whole (drop p s) (levelOf b) (g .fields) refl f seen
       (λ e. omega (arith, g .quick .some))
-      {j = 0} (standing-0 (levelOf b) f seen tag true (sym (q .under tag (g .above))) (sym (g .quick .stands true)) (eqb p 0) (sym (q .first)) (sym (g .begins)))
+      {j = 0} (standing-0 (levelOf b) f seen tag true (sym (q .under tag (g .above))) (sym (g .quick .stands true)) (eqb p 0) (sym (q .first)) (sym begins))
       refl {rule = ruleOf (levelOf b) tag} refl
       {m = 0} (sym (g .quick .allowed value value-size value-head)) refl
       (sym (ap length (g .quick .shortest value value-size value-head) ∙ value-size))
@@ -164,17 +171,17 @@ pub glance-next : {b : Bool} {f : Form} {s : List ℕ} {p top tag next : ℕ} �
 glance-next g = (omega (arith, g .quick .some), omega (arith, glance-room g, g .quick .some))
 
 -- tags rise, and how low they were does not matter
-pub glance-more : {b : Bool} {f : Form} {s : List ℕ} {p top tag next : ℕ} → Glanced b f s p top tag (next - (p + 6))
+pub glance-more : {b : Bool} {f : Form} {s : List ℕ} {p top tag next : ℕ} → Glanced b f s p top tag (next - (p + 6)) → Begun b f p tag
     → {count : ℕ} {mark : Bool} → RecordsGoing b f s p (quickSizes count p) mark top 0 → 4 * count ≤ p → Bytes s → length s ≤ 65536
     → {y mark′ : Bool} → y ≡ eqb tag (markTag (levelOf b)) → mark′ ≡ (mark || y) → RecordsGoing b f s next (quickSizes (count + 1) next) mark′ tag 0
-glance-more {b = b} {f = f} {s = s} {p = p} {top = top} {tag = tag} {next = next} g {count = count} {mark = mark} go few bytes most ey em =
+glance-more {b = b} {f = f} {s = s} {p = p} {top = top} {tag = tag} {next = next} g begins {count = count} {mark = mark} go few bytes most ey em =
     let n : ℕ = next - (p + 6) in
     let i : PartAt b f s p _ _ top 0 tag 6 n n = record {
       going = go;
       here = omega (arith, glance-next g);
       more = mark-more b (drop p s) (g .mark);
       it = piece.Whole tag 6 n n;
-      told = λ seen q. glance-piece g seen q;
+      told = λ seen q. glance-piece g begins seen q;
       whole = refl;
       bytes = bytes;
       most = most;

@@ -3,8 +3,9 @@ use mathlib.Core.Path.{_≡_}
 use Prim.Native.Nat.{ℕ, _+_, _^_, _<_}
 use mathlib.Core.Bool.{Bool, true, false}
 use mathlib.Core.List.{List}
-use lib.ListN.{drop, getD}
+use lib.ListN.{take, drop, getD}
 use lib.Dec.{eqb}
+use Rattle.format.specs.Coding.{bytesNumber}
 use Rattle.format.specs.Table.{Form}
 use Rattle.format.specs.Sheet.{tagOfPart, idOfTarget, markOf, TG, is, field, targetAt}
 use Rattle.items.specs.Meet.{levelOf}
@@ -15,7 +16,7 @@ use Rattle.heads.specs.declared.records.Field.the-variants.{Whole}
 use Rattle.walks.specs.declared.Sizes.{Sizes}
 use Rattle.walks.specs.declared.quick.Quick.{Quick}
 use Rattle.walks.specs.Meet.{markTag, weightOfTarget}
-use Rattle.walks.specs.Going.{Going, Begun}
+use Rattle.walks.specs.Going.{Going}
 use Rattle.records.specs.Meet.{moreAt, partStep, weightAt, recordsWalk, targetsWalk}
 
 abbrev pub RecordsGoing : Bool → Form → List ℕ → ℕ → Sizes → Bool → ℕ → ℕ → Type 0
@@ -38,9 +39,9 @@ wordOf false = 0x54490000
 -- a level's record at p, told at a glance, whose tag is above top, and whose value has n bytes
 pub record Glanced (b : Bool) (f : Form) (s : List ℕ) (p top tag n : ℕ) : Type 0 where
   pub mark : is (markOf (levelOf b)) (drop p s) ≡ true
+  pub tag-is : tag ≡ bytesNumber (take 2 (drop 2 (drop p s)))
   pub fields : Whole tag n ≡ fieldAnswer (field (levelOf b) (drop 2 (drop p s)))
   pub quick : items.Quick (levelOf b) f tag n (getD s (p + 6) 0)
-  pub begins : Begun b f p tag
   pub above : top < tag
   pub small : tag < 128
   pub few : n < 128

@@ -97,7 +97,7 @@ pub fn part_at(
     requires { ⌜ (now table ≡ itemTable) × (length (now s) ≤ 65536) × (p ≤ length (now s)) × Clear (peek true false set) (now s) clear ⌝ }
     ensures { λ r. ⌜ ((seen : List ℕ) → Past (peek true false set) (now (s .entry)) p top low seen → r ≡ partPiece (levelOf set) (formOf alone) seen (drop p (now (s .entry)))) ⌝ }
 {
-    let g = quick::glance(table, s, p, set, alone, top);
+    let g = quick::glance_begun(table, s, p, set, alone, top);
     if 0 < g.next {
         let size = g.next - (p + 6);
         return Piece::Whole {

@@ -3,10 +3,11 @@
 ghost use mathlib.Core.Path.{_≡_};
 ghost use mathlib.Core.Bool.{false};
 ghost use Prim.Native.Nat.{_+_, _-_, _≤_, _<_};
-ghost use lib.ListN.{length};
+ghost use lib.ListN.{length, take, drop};
+ghost use Rattle.format.specs.Coding.{bytesNumber};
 ghost use Rattle.items.specs.Meet.{formOf, itemTable};
 ghost use Rattle.walks.specs.Meet.{sizes};
-ghost use Rattle.walks.specs.Going.{quickAt};
+ghost use Rattle.walks.specs.Going.{quickAt, Begun};
 ghost use Rattle.records.specs.Going.{RecordsGoing, TargetsPassed, Glanced, wordOf};
 use walks::Sizes;
 use walks::quick::Quick;
@@ -55,16 +56,27 @@ pub fn glance(table: &[u32], s: &[u8], p: usize, set: bool, alone: bool, top: u6
         if s.len() < next {
             return nothing();
         }
-        if items::begins(set, alone, tag, p == 0) {
-            return Told { tag, next };
-        }
+        return Told { tag, next };
     }
     nothing()
 }
 
-// The records of a level told at a glance, one after another. Tags rise, so how low they were does not matter.
+// Such a record, if it may begin its level where it does.
+pub fn glance_begun(table: &[u32], s: &[u8], p: usize, set: bool, alone: bool, top: u64) -> Told
+    requires { ⌜ (now table ≡ itemTable) × (length (now s) ≤ 65536) × (p ≤ length (now s)) ⌝ }
+    ensures { λ r. ⌜ (0 < r .next → Glanced set (formOf alone) (now (s .entry)) p top (r .tag) (r .next - (p + 6)) × Begun set (formOf alone) p (r .tag)) ⌝ }
+{
+    let g = glance(table, s, p, set, alone, top);
+    if items::begins(set, alone, g.tag, p == 0) {
+        return g;
+    }
+    nothing()
+}
+
+// The records of a level told at a glance, one after another; the first may begin it. That is asked once, by the caller, as the compiler would
+// split the loop by it.
 pub fn run(table: &[u32], s: &[u8], set: bool, alone: bool) -> Quick
-    requires { ⌜ (now table ≡ itemTable) × (length (now s) ≤ 65536) ⌝ }
+    requires { ⌜ (now table ≡ itemTable) × (length (now s) ≤ 65536) × Begun set (formOf alone) 0 (bytesNumber (take 2 (drop 2 (now s)))) ⌝ }
     ensures { λ r. ⌜ RecordsGoing set (formOf alone) (now (s .entry)) (r .at) (r .sizes) (r .mark) (r .top) (r .low) × (r .at ≡ r .sizes .sheet) ⌝ }
 {
     let mut p: usize = 0;
@@ -92,7 +104,7 @@ pub fn run(table: &[u32], s: &[u8], set: bool, alone: bool) -> Quick
 // ---- targets
 
 // Where the target walk goes on after targets of p bytes, so many rows, and so many bytes in a packet.
-fn passed(p: usize, rows: usize, normal: usize, top: u64, low: u64) -> Quick
+pub fn passed(p: usize, rows: usize, normal: usize, top: u64, low: u64) -> Quick
     ensures { λ r. ⌜ r ≡ quickAt p (sizes p rows normal 0) false top low ⌝ }
 {
     let sizes = Sizes {

@@ -2,11 +2,13 @@
 ghost use mathlib.Core.Path.{_≡_};
 ghost use Prim.Native.Nat.{_≤_};
 ghost use mathlib.Core.Bool.{true};
-ghost use lib.ListN.{length};
+ghost use lib.ListN.{length, take, drop};
+ghost use Rattle.format.specs.Coding.{bytesNumber};
 ghost use Rattle.format.specs.Table.{set};
 ghost use Rattle.format.specs.Sheet.{unsheet};
 ghost use Rattle.items.specs.Meet.{formOf, itemTable};
 ghost use Rattle.walks.specs.Meet.{Within};
+ghost use Rattle.walks.specs.Going.{Begun};
 ghost use Rattle.records.specs.Meet.{recordsWalk, sheetedOf, partsFault};
 ghost use Rattle.records.specs.Going.{RecordsGoing};
 use super::Sheeted;
@@ -44,12 +46,33 @@ fn series(table: &[u32], s: &[u8], alone: bool, q: Quick) -> Quick
     walks::quick::stands(s.len(), sum, q.mark, 101, walks::smaller(q.low, 101))
 }
 
+// Whether the first record may begin a set.
+fn starts(s: &[u8], alone: bool) -> bool
+    ensures { λ r. ⌜ (r ≡ true → Begun true (formOf alone) 0 (bytesNumber (take 2 (drop 2 (now (s .entry)))))) ⌝ }
+{
+    if s.len() < 4 {
+        return false;
+    }
+    items::begins(true, alone, coding::number_of(&s[2..], 2), true)
+}
+
+// The set from its start, as far as it is told at a glance.
+fn glanced(table: &[u32], s: &[u8], alone: bool) -> Quick
+    requires { ⌜ (now table ≡ itemTable) × (length (now s) ≤ 65536) ⌝ }
+    ensures { λ r. ⌜ RecordsGoing true (formOf alone) (now (s .entry)) (r .at) (r .sizes) (r .mark) (r .top) (r .low) ⌝ }
+{
+    if !starts(s, alone) {
+        return quick::passed(0, 0, 0, 0, 0);
+    }
+    series(table, s, alone, quick::run(table, s, true, alone))
+}
+
 // The records of the set. Most sets are passed at a glance, to the end of their series; any other is walked from its start.
 fn set_records(table: &[u32], s: &[u8], alone: bool) -> Walked
     requires { ⌜ (now table ≡ itemTable) × (length (now s) ≤ 65536) ⌝ }
     ensures { λ r. ⌜ (r ≡ recordsWalk set (formOf alone) (now (s .entry))) × Within r (length (now (s .entry))) ⌝ }
 {
-    let q = series(table, s, alone, quick::run(table, s, true, alone));
+    let q = glanced(table, s, alone);
     if q.at == s.len() {
         return walks::whole::walked(q);
     }

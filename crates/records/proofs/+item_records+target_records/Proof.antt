@@ -309,7 +309,7 @@ target-records-part-items-end t c =
 target-records-run-requires : (t : ℕ) → target-records-lts.Need-run-requires (target-claims t) (target-records-at t) target-records.Post target-records-Inv-loop target-records-μ-loop
 target-records-run-requires t c κs =
     let a = c .before .before in
-    (a .before .before .before .before .before .before .before .before .before .before .before .pre .1 .0, target-turns.lent-small (target-here t a))
+    (a .before .before .before .before .before .before .before .before .before .before .before .pre .1 .0, target-turns.lent-small (target-here t a), refl)
 
 target-records-goes-on-requires : (t : ℕ) → target-records-lts.Need-goes-on-requires (target-claims t) (target-records-at t) target-records.Post target-records-Inv-loop target-records-μ-loop
 target-records-goes-on-requires t c κs = search needs

@@ -7,17 +7,17 @@ use Rattle.records.proofs.Glances.{glance-next, glance-piece}
 use Rattle.records.proofs.part_at.Statement.{statement}
 use Rattle.records.proofs.part_at.Tie as tie
 
-glance-requires : tie.Need-glance-requires
-glance-requires c κs = search needs
+glance-begun-requires : tie.Need-glance-begun-requires
+glance-begun-requires c κs = search needs
 
 add-size : tie.Need-add-size
-add-size c = omega (arith, glance-next (c .before .before .glance .ensures (c .if1 .taken)))
+add-size c = omega (arith, glance-next (c .before .before .glance-begun .ensures (c .if1 .taken) .0))
 
 sub-size : tie.Need-sub-size
-sub-size c = omega (arith, glance-next (c .before .before .before .glance .ensures (c .before .if1 .taken)))
+sub-size c = omega (arith, glance-next (c .before .before .before .glance-begun .ensures (c .before .if1 .taken) .0))
 
 returns : tie.Need-returns
-returns c = λ seen q. glance-piece (c .before .before .before .glance .ensures (c .before .if1 .taken)) seen q
+returns c = let (g, begins) = c .before .before .before .glance-begun .ensures (c .before .if1 .taken) in λ seen q. glance-piece g begins seen q
 
 is-mark-requires : tie.Need-is-mark-requires
 is-mark-requires c κs = search needs
@@ -58,7 +58,7 @@ pub part-at-spec : {M : Type 1} → statement M
 part-at-spec =
     tie.close
     (tie.spec
-    glance-requires
+    glance-begun-requires
     add-size
     sub-size
     returns

@@ -7,7 +7,7 @@ use borrow.Author.Needs.{needs}
 use Rattle.items.specs.Meet.{formOf}
 use Rattle.records.specs.Going.{RecordsGoing}
 use Rattle.records.proofs.PartTurns.{records-start}
-use Rattle.records.proofs.Glances.{quickSizes, glance-next, glance-more}
+use Rattle.records.proofs.Glances.{quickSizes, glance-next, glance-begun, glance-more}
 use Rattle.records.proofs.quick.run.Statement.{statement}
 use Rattle.records.proofs.quick.run.Tie as tie
 
@@ -51,7 +51,7 @@ loop-again : tie.Need-loop-again Inv-loop μ-loop
 loop-again c =
     let g = c .before .before .before .before .glance .ensures (omega (arith, c .before .before .if1 .left)) in
     let l = c .before .before .before .before .before .loop in
-    (glance-more g (l .inv .0) (l .inv .1) (λ i. c .before .before .before .before .before .before .shared-slice-known2 .given i .fits) (c .before .before .before .before .before .before .before .before .pre .1) (c .before .is-mark .ensures) (c .either .ensures), omega (arith, l .inv .1, glance-next g))
+    (glance-more g (glance-begun g (c .before .before .before .before .before .before .before .before .pre .2)) (l .inv .0) (l .inv .1) (λ i. c .before .before .before .before .before .before .shared-slice-known2 .given i .fits) (c .before .before .before .before .before .before .before .before .pre .1) (c .before .is-mark .ensures) (c .either .ensures), omega (arith, l .inv .1, glance-next g))
 
 pub run-spec : {M : Type 1} → statement M
 run-spec =

@@ -167,7 +167,7 @@ part-items-end : tie.Need-part-items-end Inv-loop μ-loop
 part-items-end c = omega (arith, room c)
 
 run-requires : tie.Need-run-requires Inv-loop μ-loop
-run-requires c κs = (c .before .before .before .before .before .before .before .before .before .before .before .pre .0, lent-small (here (c .before)))
+run-requires c κs = (c .before .before .before .before .before .before .before .before .before .before .before .pre .0, lent-small (here (c .before)), refl)
 
 add-next : tie.Need-add-next Inv-loop μ-loop
 add-next c = omega (arith, c .before .run .ensures .0 .to, lent-long (here (c .before .before .before)), room (c .before .before .before))

@@ -7,17 +7,14 @@ use Rattle.walks.proofs.Turns.{turn-done, told-as}
 use Rattle.records.proofs.whole.set_records.Statement.{statement}
 use Rattle.records.proofs.whole.set_records.Tie as tie
 
-run-requires : tie.Need-run-requires
-run-requires c κs = search needs
-
-series-requires : tie.Need-series-requires
-series-requires c κs = search needs
+glanced-requires : tie.Need-glanced-requires
+glanced-requires c κs = search needs
 
 walked-requires : tie.Need-walked-requires
 walked-requires c κs = search needs
 
 returns : tie.Need-returns
-returns c = told-as (length (c .before .before .before .before .before .before .before .args .s .now)) (c .walked .ensures) (turn-done (c .before .before .before .series .ensures) (omega (arith, c .before .if1 .taken)))
+returns c = told-as (length (c .before .before .before .before .before .before .args .s .now)) (c .walked .ensures) (turn-done (c .before .before .before .glanced .ensures) (omega (arith, c .before .if1 .taken)))
 
 sub-item-records : tie.Need-sub-item-records
 sub-item-records c = search needs
@@ -38,8 +35,7 @@ pub set-records-spec : {M : Type 1} → statement M
 set-records-spec =
     tie.close
     (tie.spec
-    run-requires
-    series-requires
+    glanced-requires
     walked-requires
     returns
     sub-item-records

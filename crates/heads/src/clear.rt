@@ -3,7 +3,7 @@ ghost use mathlib.Core.Path.{_≡_};
 ghost use Prim.Native.Nat.{ℕ, _≤_};
 ghost use mathlib.Core.Bool.{true, false};
 ghost use mathlib.Core.List.{List};
-ghost use lib.ListN.{length, drop};
+ghost use lib.ListN.{length};
 ghost use Rattle.format.specs.Lists.{has};
 ghost use Rattle.heads.specs.Meet.{peek, Heads, Clear};
 ghost use Rattle.heads.specs.Marks.{quarter, marked, Marked, ClearIn};

@@ -1,15 +1,14 @@
 // What heads an item or a pack, and whether a tag or an id stood before: a look back over the heads, made only where one may be found.
 ghost use mathlib.Core.Path.{_≡_};
-ghost use Prim.Native.Nat.{ℕ, _+_, _*_, _≤_, _<_, _^_};
-ghost use mathlib.Core.Bool.{_&&_, _||_, not, false, true};
+ghost use Prim.Native.Nat.{ℕ, _≤_};
+ghost use mathlib.Core.Bool.{_&&_, _||_, not};
 ghost use mathlib.Core.List.{List};
 ghost use lib.ListN.{length, drop};
 ghost use lib.Dec.{eqb};
-ghost use Rattle.format.specs.Coding.{oidBytes, lenWidth};
 ghost use Rattle.format.specs.Lists.{has};
-ghost use Rattle.format.specs.Table.{isSet, isAlone};
-ghost use Rattle.format.specs.Read.{headOf, item, packHead};
-ghost use Rattle.items.specs.Meet.{formOf, levelOf};
+ghost use Rattle.format.specs.Table.{isSet};
+ghost use Rattle.format.specs.Read.{headOf, packHead};
+ghost use Rattle.items.specs.Meet.{levelOf};
 ghost use Rattle.heads.specs.Meet.{faultOf, itemHeadOf, packHeadOf, PackHeadIf, peek, Peeked, Heads, Past, Clear};
 use coding::Num;
 

@@ -1,13 +1,13 @@
 // The constant item table, and the rules for one item: of a set or a pack, in a packet, a sheet or an edit.
 ghost use mathlib.Core.Path.{_≡_};
 ghost use Prim.Native.Nat.{ℕ, _<_};
-ghost use mathlib.Core.Bool.{_&&_, _||_, not, false, true};
+ghost use mathlib.Core.Bool.{_||_, not};
 ghost use mathlib.Core.List.{List};
 ghost use lib.ListN.{length};
 ghost use lib.Dec.{eqb};
 ghost use Rattle.format.specs.Lists.{has, none?};
-ghost use Rattle.format.specs.Table.{isAlone, isSet, ruleOf, nameable, mayStand, mayBegin, standing, sized, valued, short};
-ghost use Rattle.items.specs.Meet.{formOf, levelOf, ruleFrom, rowFrom, itemTable, answerOf, zeros, offsets, shortSize};
+ghost use Rattle.format.specs.Table.{isAlone, isSet, ruleOf, nameable, mayStand, standing, sized, valued, short};
+ghost use Rattle.items.specs.Meet.{formOf, levelOf, ruleFrom, rowFrom, itemTable, answerOf, zeros, offsets};
 
 // A row of the item table: tag, kind, least and greatest length. Kinds: 0 not listed (one or more bytes), 1 bytes, 2 a number, 3 a pixel,
 // 4 a location (10, 16 or 22 bytes).

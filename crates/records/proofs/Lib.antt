@@ -5,6 +5,6 @@ pub mod Runs
 pub mod PartTurns
 pub mod Glances
 pub mod TargetTurns
-pub mod Sets
+pub mod SetTurns
 pub mod Sheeting
 pub mod Sizings

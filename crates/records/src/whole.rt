@@ -74,7 +74,7 @@ fn set_records(table: &[u32], s: &[u8], alone: bool) -> Walked
 {
     let q = glanced(table, s, alone);
     if q.at == s.len() {
-        return walks::whole::walked(q);
+        return walks::sets::walked(q);
     }
     // lent on as a part, so that the compiler keeps the slice itself in registers
     super::item_records(table, &s[0..], true, alone)

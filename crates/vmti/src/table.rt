@@ -1,6 +1,6 @@
 // A packet's rows in a lent slice of structs, thin, over the call that has them as numbers.
 ghost use mathlib.Core.Path.{_≡_};
-ghost use Prim.Native.Nat.{_*_, _≤_};
+ghost use Prim.Native.Nat.{_≤_};
 ghost use lib.ListN.{length};
 ghost use Rattle.format.specs.Rows as Rows;
 ghost use Rattle.items.specs.Meet.{formOf};

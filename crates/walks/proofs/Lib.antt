@@ -7,7 +7,7 @@ pub mod Turns
 pub mod ItemTurns
 pub mod Glances
 pub mod Beyond
-pub mod Sets
+pub mod SetTurns
 pub mod PackTurns
 pub mod Totals
 pub mod Inners

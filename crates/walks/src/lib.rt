@@ -1,12 +1,11 @@
 // The walks that check a packet: one item at a time, the item walk and the pack walk, with the sizes of what they find.
 ghost use mathlib.Core.Path.{_≡_};
-ghost use Prim.Native.Nat.{ℕ, _+_, _*_, _≤_, _<_};
-ghost use mathlib.Core.Bool.{_&&_, _||_, not, false, true};
+ghost use Prim.Native.Nat.{ℕ, _≤_};
+ghost use mathlib.Core.Bool.{_&&_, _||_, false};
 ghost use mathlib.Core.List.{List};
 ghost use lib.ListN.{length, drop};
 ghost use lib.Dec.{eqb};
-ghost use Rattle.format.specs.Table.{isSet, isAlone};
-ghost use Rattle.format.specs.Read.{item, parse};
+ghost use Rattle.format.specs.Read.{item};
 ghost use Rattle.items.specs.Meet.{formOf, levelOf, itemTable};
 ghost use Rattle.heads.specs.Meet.{peek, Past, Clear};
 ghost use Rattle.walks.specs.Going.{LevelGoing, SeriesGoing};
@@ -326,5 +325,6 @@ pub enum Checked {
 }
 
 pub mod whole; // whole.rt: the whole packet
+pub mod sets; // sets.rt: its set
 pub mod quick; // quick.rt: the quick way over a level
 pub mod weights; // weights.rt: the sizes of an item, a pack and the series

@@ -4,7 +4,7 @@ use borrow.Author.Needs.{needs}
 use borrow.Author.Tests.{not-false}
 use mathlib.Core.Path.{sym, _∙_}
 use Rattle.items.specs.Meet.{formOf}
-use Rattle.records.proofs.Sets.{SeriesAt, room, series-sums, series-more}
+use Rattle.records.proofs.SetTurns.{SeriesAt, room, series-sums, series-more}
 use Rattle.records.proofs.whole.series.Statement.{statement}
 use Rattle.records.proofs.whole.series.Tie as tie
 

@@ -1,11 +1,11 @@
--- `whole::set_walk` meets its contract: what was walked is all, or the rest follows.
+-- `sets::set_walk` meets its contract: what was walked is all, or the rest follows.
 use native.Mathlib.Omega.{arith}
 use lib.ListN.{length}
 use Rattle.coding.proofs.Rooms.{tail-part}
 use borrow.Author.Needs.{needs}
 use Rattle.walks.proofs.Turns.{turn-done, told-as}
-use Rattle.walks.proofs.whole.set_walk.Statement.{statement}
-use Rattle.walks.proofs.whole.set_walk.Tie as tie
+use Rattle.walks.proofs.sets.set_walk.Statement.{statement}
+use Rattle.walks.proofs.sets.set_walk.Tie as tie
 
 run-requires : tie.Need-run-requires
 run-requires c κs = c .before .before .pre

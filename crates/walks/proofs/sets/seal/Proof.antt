@@ -1,4 +1,4 @@
--- `whole::seal` meets its contract: the turn over the checksum is a turn of the item walk. `a` is where its head was read.
+-- `sets::seal` meets its contract: the turn over the checksum is a turn of the item walk. `a` is where its head was read.
 use mathlib.Core.Path.{ap}
 use Prim.Native.Nat.{_+_, _≤_}
 use native.Mathlib.Omega.{arith}
@@ -7,18 +7,18 @@ use borrow.Author.Needs.{needs}
 use borrow.Author.Tests.{not-false, eqb-true}
 use Rattle.format.specs.Table.{isAlone}
 use Rattle.items.specs.Meet.{formOf}
-use Rattle.walks.proofs.Sets.{HeadAt, head-room, seal-sums, seal-more}
-use Rattle.walks.proofs.whole.seal.Statement.{statement}
-use Rattle.walks.proofs.whole.seal.Tie as tie
-use Rattle.walks.proofs.whole.seal.Reads as reads
-use Rattle.walks.proofs.whole.seal.Lts as lts
+use Rattle.walks.proofs.SetTurns.{HeadAt, head-room, seal-sums, seal-more}
+use Rattle.walks.proofs.sets.seal.Statement.{statement}
+use Rattle.walks.proofs.sets.seal.Tie as tie
+use Rattle.walks.proofs.sets.seal.Reads as reads
+use Rattle.walks.proofs.sets.seal.Lts as lts
 use Rattle.heads.proofs.item_head.Reads as item-head-reads
 use Rattle.walks.proofs.larger.Reads as larger-reads
 use Rattle.walks.proofs.quick.stands.Reads as stands-reads
 use Rattle.walks.proofs.weights.plain_sizes.Reads as plain-sizes-reads
 use Rattle.walks.proofs.weights.plus.Reads as plus-reads
-use Rattle.walks.proofs.whole.is_at.Reads as is-at-reads
-use Rattle.walks.proofs.whole.is_seal_next.Reads as is-seal-next-reads
+use Rattle.walks.proofs.sets.is_at.Reads as is-at-reads
+use Rattle.walks.proofs.sets.is_seal_next.Reads as is-seal-next-reads
 
 abbrev Head-read : Type 0
 Head-read = lts.After-h (is-at-reads.Asked, is-at-reads.Learnt, item-head-reads.Asked, item-head-reads.Learnt, is-seal-next-reads.Asked, is-seal-next-reads.Learnt, plain-sizes-reads.Asked, plain-sizes-reads.Learnt, plus-reads.Asked, plus-reads.Learnt, larger-reads.Asked, larger-reads.Learnt, stands-reads.Asked, stands-reads.Learnt) reads.Pre reads.Post

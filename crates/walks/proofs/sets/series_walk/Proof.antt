@@ -1,10 +1,10 @@
--- `whole::series_walk` meets its contract: what was walked is all, or the pack walk goes on.
+-- `sets::series_walk` meets its contract: what was walked is all, or the pack walk goes on.
 use native.Mathlib.Omega.{arith}
 use borrow.Author.Needs.{needs}
 use Rattle.coding.proofs.Rooms.{tail-part}
 use Rattle.walks.proofs.Turns.{turn-done}
-use Rattle.walks.proofs.whole.series_walk.Statement.{statement}
-use Rattle.walks.proofs.whole.series_walk.Tie as tie
+use Rattle.walks.proofs.sets.series_walk.Statement.{statement}
+use Rattle.walks.proofs.sets.series_walk.Tie as tie
 
 packs-requires : tie.Need-packs-requires
 packs-requires c κs = c .before .before .pre

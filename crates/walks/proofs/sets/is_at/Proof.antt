@@ -1,9 +1,9 @@
--- `whole::is_at` meets its contract.
+-- `sets::is_at` meets its contract.
 use native.Mathlib.Omega.{arith}
 use borrow.Author.Needs.{needs}
 use Rattle.format.proofs.words.Answers.{no-bool}
-use Rattle.walks.proofs.whole.is_at.Statement.{statement}
-use Rattle.walks.proofs.whole.is_at.Tie as tie
+use Rattle.walks.proofs.sets.is_at.Statement.{statement}
+use Rattle.walks.proofs.sets.is_at.Tie as tie
 
 returns : tie.Need-returns
 returns c = λ e. no-bool e

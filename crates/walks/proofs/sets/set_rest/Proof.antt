@@ -1,10 +1,10 @@
--- `whole::set_rest` meets its contract: what was walked is all, or the item walk goes on.
+-- `sets::set_rest` meets its contract: what was walked is all, or the item walk goes on.
 use native.Mathlib.Omega.{arith}
 use lib.ListN.{length}
 use borrow.Author.Needs.{needs}
 use Rattle.walks.proofs.Turns.{turn-done, told-as}
-use Rattle.walks.proofs.whole.set_rest.Statement.{statement}
-use Rattle.walks.proofs.whole.set_rest.Tie as tie
+use Rattle.walks.proofs.sets.set_rest.Statement.{statement}
+use Rattle.walks.proofs.sets.set_rest.Tie as tie
 
 seal-requires : tie.Need-seal-requires
 seal-requires c κs = (c .before .before .pre .1, c .before .before .pre .2)

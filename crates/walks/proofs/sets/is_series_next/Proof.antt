@@ -1,9 +1,9 @@
--- `whole::is_series_next` meets its contract: each `false` says nothing.
+-- `sets::is_series_next` meets its contract: each `false` says nothing.
 use native.Mathlib.Omega.{arith}
 use borrow.Author.Tests.{eqb-true}
 use Rattle.format.proofs.words.Answers.{no-bool}
-use Rattle.walks.proofs.whole.is_series_next.Statement.{statement}
-use Rattle.walks.proofs.whole.is_series_next.Tie as tie
+use Rattle.walks.proofs.sets.is_series_next.Statement.{statement}
+use Rattle.walks.proofs.sets.is_series_next.Tie as tie
 
 returns : tie.Need-returns
 returns c = λ e. no-bool e

@@ -1,23 +1,23 @@
--- `whole::series` meets its contract: the turn over the series is a turn of the item walk. `a` is where its head was read.
+-- `sets::series` meets its contract: the turn over the series is a turn of the item walk. `a` is where its head was read.
 use Prim.Native.Nat.{_+_, _≤_}
 use native.Mathlib.Omega.{arith}
 use lib.ListN.{length}
 use borrow.Author.Tests.{not-false}
 use Rattle.items.specs.Meet.{formOf}
-use Rattle.walks.proofs.Sets.{HeadAt, head-room, packs-long, series-small, series-sums, series-more}
-use Rattle.walks.proofs.whole.series.Reads as reads
-use Rattle.walks.proofs.whole.series.Lts as lts
+use Rattle.walks.proofs.SetTurns.{HeadAt, head-room, packs-long, series-small, series-sums, series-more}
+use Rattle.walks.proofs.sets.series.Reads as reads
+use Rattle.walks.proofs.sets.series.Lts as lts
 use Rattle.heads.proofs.item_head.Reads as item-head-reads
 use Rattle.walks.proofs.quick.stands.Reads as stands-reads
 use Rattle.walks.proofs.smaller.Reads as smaller-reads
 use Rattle.walks.proofs.weights.plus.Reads as plus-reads
 use Rattle.walks.proofs.weights.series_sizes.Reads as series-sizes-reads
-use Rattle.walks.proofs.whole.is_at.Reads as is-at-reads
-use Rattle.walks.proofs.whole.is_series_next.Reads as is-series-next-reads
-use Rattle.walks.proofs.whole.series_walk.Reads as series-walk-reads
+use Rattle.walks.proofs.sets.is_at.Reads as is-at-reads
+use Rattle.walks.proofs.sets.is_series_next.Reads as is-series-next-reads
+use Rattle.walks.proofs.sets.series_walk.Reads as series-walk-reads
 use borrow.Author.Needs.{needs}
-use Rattle.walks.proofs.whole.series.Statement.{statement}
-use Rattle.walks.proofs.whole.series.Tie as tie
+use Rattle.walks.proofs.sets.series.Statement.{statement}
+use Rattle.walks.proofs.sets.series.Tie as tie
 
 abbrev Head-read : Type 0
 Head-read = lts.After-h (is-at-reads.Asked, is-at-reads.Learnt, item-head-reads.Asked, item-head-reads.Learnt, is-series-next-reads.Asked, is-series-next-reads.Learnt, series-walk-reads.Asked, series-walk-reads.Learnt, series-sizes-reads.Asked, series-sizes-reads.Learnt, plus-reads.Asked, plus-reads.Learnt, smaller-reads.Asked, smaller-reads.Learnt, stands-reads.Asked, stands-reads.Learnt) reads.Pre reads.Post

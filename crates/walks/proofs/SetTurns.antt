@@ -22,7 +22,7 @@ use Rattle.walks.specs.declared.Sizes.{Sizes}
 use Rattle.walks.specs.declared.Walked.{Walked}
 use Rattle.walks.specs.declared.Walked.the-variants.{Good}
 use Rattle.walks.specs.Meet.{itemSizes, seriesSizes, plusSizes, seriesWalk, seriesFrom, Small, Within}
-use Rattle.walks.specs.Going.{LevelGoing}
+use Rattle.walks.specs.Going.{LevelGoing, HeadIf}
 use Rattle.walks.proofs.Turns.{within-more}
 use Rattle.walks.proofs.Pieces.{piece-within}
 use Rattle.walks.proofs.ItemTurns.{ItemAt, EntryTold, item-told, series-told, good-small, entry-more}
@@ -45,21 +45,28 @@ or-true false = refl
 
 -- ---- an item of the set whose head the code has read at p
 
+pub head-if : (s : List ℕ) (p : ℕ) (h : Head) → p < length s → itemHeadOf h ≡ headOf set (take (length s - p) (drop p s)) → HeadIf s p h
+head-if s p (heads.Whole k u w n) here e = (here, rw tail-part at e)
+head-if s p (heads.Fault n) here e = tt
+
 pub record HeadAt (f : Form) (s : List ℕ) (p : ℕ) (sum : Sizes) (mark : Bool) (top low tag u w n : ℕ) : Type 0 where
   pub going : LevelGoing true f s p sum mark top low
-  pub here : p < length s
   pub it : Head
-  pub told : itemHeadOf it ≡ headOf set (take (length s - p) (drop p s))
+  pub told : HeadIf s p it
   pub is : it ≡ heads.Whole tag u w n
   pub bytes : Bytes s
   pub most : length s ≤ 8192
 
 module _ {f : Form} {s : List ℕ} {p : ℕ} {sum : Sizes} {mark : Bool} {top low tag u w n : ℕ} (i : HeadAt f s p sum mark top low tag u w n) where
-  head-told : itemHeadOf (i .it) ≡ headOf set (drop p s)
-  head-told = rw tail-part at (i .told)
+  head-told : HeadIf s p (heads.Whole tag u w n)
+  head-told = subst (HeadIf s p) (i .is) (i .told)
 
   pub head-room : p + u + w + n ≤ length s
-  head-room = omega (arith, i .here, length-drop p s, piece-within (drop p s) set head-told (i .is))
+  head-room = omega (arith, head-told .0, length-drop p s, piece-within (drop p s) set (head-told .1) refl)
+
+  -- as the head of tag k of m bytes
+  head-as : (k m : ℕ) → tag ≡ k → n ≡ m → itemHeadOf (heads.Whole k u w m) ≡ headOf set (drop p s)
+  head-as k m et en = rw (← et, ← en) (head-told .1)
 
   -- ---- it is the series, and y is what was walked of its packs
 
@@ -68,11 +75,11 @@ module _ {f : Form} {s : List ℕ} {p : ℕ} {sum : Sizes} {mark : Bool} {top lo
     unfolding mayStand
     series-item = met-item (record {
       going = i .going;
-      here = i .here;
+      here = head-told .0;
       meets = record {
-        it = i .it;
-        told = head-told;
-        is = i .is ∙ ap (λ t. heads.Whole t u w n) (next .3);
+        it = heads.Whole 101 u w n;
+        told = head-as 101 n (next .3) refl;
+        is = refl;
         some = next .2;
         stands = refl;
         allowed = λ v e _. series-value v (omega (arith, e, next .2)) .0;
@@ -117,11 +124,11 @@ module _ {f : Form} {s : List ℕ} {p : ℕ} {sum : Sizes} {mark : Bool} {top lo
     unfolding mayStand
     seal-item = met-item (record {
       going = i .going;
-      here = i .here;
+      here = head-told .0;
       meets = record {
-        it = i .it;
-        told = head-told;
-        is = i .is ∙ ap (λ t. heads.Whole t u w n) (next .2) ∙ ap (heads.Whole 1 u w) (next .3);
+        it = heads.Whole 1 u w 2;
+        told = head-as 1 2 (next .2) (next .3);
+        is = refl;
         some = omega arith;
         stands = rw (alone, eq-eqb (u + w + 2) (length (drop p s)) (omega (arith, length-drop p s, end, next .3)));
         allowed = λ v e _. seal-value v e .0;

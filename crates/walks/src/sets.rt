@@ -6,20 +6,23 @@ ghost use lib.ListN.{length};
 ghost use Rattle.format.specs.Table.{set};
 ghost use Rattle.items.specs.Meet.{formOf, itemTable};
 ghost use Rattle.walks.specs.Meet.{levelWalk, seriesWalk, Within};
-ghost use Rattle.walks.specs.Going.{LevelGoing};
+ghost use Rattle.walks.specs.Going.{LevelGoing, HeadIf};
 use super::Walked;
 use super::quick;
 use super::quick::Quick;
 use heads::Head;
 
-// Whether a byte stands at p: of the head that it begins, most is known by that.
-fn is_at(s: &[u8], p: usize, byte: u8) -> bool
-    ensures { λ r. ⌜ (r ≡ true → p < length (now (s .entry))) ⌝ }
+// The head of the item at p, if that begins with this byte: then most of it is known. Else 0 as a fault.
+fn head_at(s: &[u8], p: usize, byte: u8) -> Head
+    ensures { λ r. ⌜ HeadIf (now (s .entry)) p r ⌝ }
 {
     if s.len() <= p {
-        return false;
+        return Head::Fault(0);
     }
-    s[p] == byte
+    if s[p] != byte {
+        return Head::Fault(0);
+    }
+    heads::item_head(&s[p..], true)
 }
 
 // Whether a tag is the series', with a value, and told to be new: items stand before it, and none has a tag so high.
@@ -58,10 +61,7 @@ fn series(table: &[u32], s: &[u8], alone: bool, q: Quick) -> Quick
     ensures { λ r. ⌜ LevelGoing true (formOf alone) (now (s .entry)) (r .at) (r .sizes) (r .mark) (r .top) (r .low) ⌝ }
 {
     let p = q.at;
-    if !is_at(s, p, 101) {
-        return q;
-    }
-    let h = heads::item_head(&s[p..], true);
+    let h = head_at(s, p, 101);
     let Head::Whole {
         key,
         used,
@@ -112,10 +112,7 @@ fn seal(s: &[u8], alone: bool, q: Quick) -> Quick
     ensures { λ r. ⌜ LevelGoing true (formOf alone) (now (s .entry)) (r .at) (r .sizes) (r .mark) (r .top) (r .low) ⌝ }
 {
     let p = q.at;
-    if !is_at(s, p, 1) {
-        return q;
-    }
-    let h = heads::item_head(&s[p..], true);
+    let h = head_at(s, p, 1);
     let Head::Whole {
         key,
         used,

@@ -12,49 +12,32 @@ use Rattle.walks.proofs.sets.seal.Statement.{statement}
 use Rattle.walks.proofs.sets.seal.Tie as tie
 use Rattle.walks.proofs.sets.seal.Reads as reads
 use Rattle.walks.proofs.sets.seal.Lts as lts
-use Rattle.heads.proofs.item_head.Reads as item-head-reads
 use Rattle.walks.proofs.larger.Reads as larger-reads
 use Rattle.walks.proofs.quick.stands.Reads as stands-reads
+use Rattle.walks.proofs.sets.head_at.Reads as head-at-reads
+use Rattle.walks.proofs.sets.is_seal_next.Reads as is-seal-next-reads
 use Rattle.walks.proofs.weights.plain_sizes.Reads as plain-sizes-reads
 use Rattle.walks.proofs.weights.plus.Reads as plus-reads
-use Rattle.walks.proofs.sets.is_at.Reads as is-at-reads
-use Rattle.walks.proofs.sets.is_seal_next.Reads as is-seal-next-reads
 
 abbrev Head-read : Type 0
-Head-read = lts.After-h (is-at-reads.Asked, is-at-reads.Learnt, item-head-reads.Asked, item-head-reads.Learnt, is-seal-next-reads.Asked, is-seal-next-reads.Learnt, plain-sizes-reads.Asked, plain-sizes-reads.Learnt, plus-reads.Asked, plus-reads.Learnt, larger-reads.Asked, larger-reads.Learnt, stands-reads.Asked, stands-reads.Learnt) reads.Pre reads.Post
+Head-read = lts.After-h (head-at-reads.Asked, head-at-reads.Learnt, is-seal-next-reads.Asked, is-seal-next-reads.Learnt, plain-sizes-reads.Asked, plain-sizes-reads.Learnt, plus-reads.Asked, plus-reads.Learnt, larger-reads.Asked, larger-reads.Learnt, stands-reads.Asked, stands-reads.Learnt) reads.Pre reads.Post
 
-here : (a : Head-read) → HeadAt (formOf (a .before .before .before .before .before .before .before .args .alone)) (a .before .before .before .before .before .before .before .args .s .now) (a .before .before .before .before .before .before .before .args .q .at) (a .before .before .before .before .before .before .before .args .q .sizes) (a .before .before .before .before .before .before .before .args .q .mark) (a .before .before .before .before .before .before .before .args .q .top) (a .before .before .before .before .before .before .before .args .q .low) (a .h .given .0 .0) (a .h .given .0 .1 .0) (a .h .given .0 .1 .1 .0) (a .h .given .0 .1 .1 .1 .0)
+here : (a : Head-read) → HeadAt (formOf (a .before .before .before .before .args .alone)) (a .before .before .before .before .args .s .now) (a .before .before .before .before .args .q .at) (a .before .before .before .before .args .q .sizes) (a .before .before .before .before .args .q .mark) (a .before .before .before .before .args .q .top) (a .before .before .before .before .args .q .low) (a .h .given .0 .0) (a .h .given .0 .1 .0) (a .h .given .0 .1 .1 .0) (a .h .given .0 .1 .1 .1 .0)
 here a = record {
-  going = a .before .before .before .before .before .before .before .pre .1;
-  here = a .before .before .before .before .before .is-at .ensures (not-false _ (a .before .before .before .before .if1 .left));
-  it = a .before .before .item-head .result;
-  told = a .before .before .item-head .ensures;
+  going = a .before .before .before .before .pre .1;
+  it = a .before .before .head-at .result;
+  told = a .before .before .head-at .ensures;
   is = a .h .given .1;
-  bytes = λ i. a .before .before .before .before .before .before .shared-slice-known .given i .fits;
-  most = a .before .before .before .before .before .before .before .pre .0;
+  bytes = λ i. a .before .before .before .shared-slice-known .given i .fits;
+  most = a .before .before .before .before .pre .0;
 }
 
 -- it lies within the set
-room : (a : Head-read) → (a .before .before .before .before .before .before .before .args .q .at + a .h .given .0 .1 .0 + a .h .given .0 .1 .1 .0 + a .h .given .0 .1 .1 .1 .0 ≤ length (a .before .before .before .before .before .before .before .args .s .now)) × (length (a .before .before .before .before .before .before .before .args .s .now) ≤ 8192)
-room a = (head-room (here a), a .before .before .before .before .before .before .before .pre .0)
+room : (a : Head-read) → (a .before .before .before .before .args .q .at + a .h .given .0 .1 .0 + a .h .given .0 .1 .1 .0 + a .h .given .0 .1 .1 .1 .0 ≤ length (a .before .before .before .before .args .s .now)) × (length (a .before .before .before .before .args .s .now) ≤ 8192)
+room a = (head-room (here a), a .before .before .before .before .pre .0)
 
-is-at-requires : tie.Need-is-at-requires
-is-at-requires c κs = search needs
-
-returns : tie.Need-returns
-returns c = c .before .before .before .pre .1
-
-sub-item-head : tie.Need-sub-item-head
-sub-item-head c = search needs
-
-part-item-head-start : tie.Need-part-item-head-start
-part-item-head-start c = search needs
-
-part-item-head-end : tie.Need-part-item-head-end
-part-item-head-end c = search needs
-
-item-head-requires : tie.Need-item-head-requires
-item-head-requires c κs = search needs
+head-at-requires : tie.Need-head-at-requires
+head-at-requires c κs = search needs
 
 enum-known-h : tie.Need-enum-known-h
 enum-known-h c = search needs
@@ -62,8 +45,8 @@ enum-known-h c = search needs
 enum-told : tie.Need-enum-told
 enum-told c = search needs
 
-returns-2 : tie.Need-returns-2
-returns-2 c = c .before .before .before .before .before .before .before .pre .1
+returns : tie.Need-returns
+returns c = c .before .before .before .before .pre .1
 
 add-next : tie.Need-add-next
 add-next c = omega (arith, room (c .before))
@@ -77,15 +60,15 @@ add-next-3 c = omega (arith, room (c .before))
 is-seal-next-requires : tie.Need-is-seal-next-requires
 is-seal-next-requires c κs = search needs
 
-returns-3 : tie.Need-returns-3
-returns-3 c = c .before .before .before .before .before .before .before .before .before .before .pre .1
+returns-2 : tie.Need-returns-2
+returns-2 c = c .before .before .before .before .before .before .before .pre .1
 
 plain-sizes-requires : tie.Need-plain-sizes-requires
 plain-sizes-requires c κs = search needs
 
 plus-requires : tie.Need-plus-requires
 plus-requires c κs =
-    let t = c .before .before .is-seal-next .ensures (not-false _ (c .before .if2 .left)) in
+    let t = c .before .before .is-seal-next .ensures (not-false _ (c .before .if1 .left)) in
     seal-sums (here (c .before .before .before .before)) (ap (λ x. isAlone (formOf x)) (t .0)) (t .1, t .2, t .3, t .4) (eqb-true _ _ (t .5)) (c .plain-sizes .ensures)
 
 larger-requires : tie.Need-larger-requires
@@ -94,31 +77,26 @@ larger-requires c κs = search needs
 stands-requires : tie.Need-stands-requires
 stands-requires c κs = search needs
 
-returns-4 : tie.Need-returns-4
-returns-4 c =
-    let t = c .before .before .before .before .before .is-seal-next .ensures (not-false _ (c .before .before .before .before .if2 .left)) in
+returns-3 : tie.Need-returns-3
+returns-3 c =
+    let t = c .before .before .before .before .before .is-seal-next .ensures (not-false _ (c .before .before .before .before .if1 .left)) in
     rw (c .stands .ensures) (seal-more (here (c .before .before .before .before .before .before .before)) (ap (λ x. isAlone (formOf x)) (t .0)) (t .1, t .2, t .3, t .4) (eqb-true _ _ (t .5)) (c .before .before .before .plain-sizes .ensures) (c .before .before .plus .ensures) (c .before .larger .ensures))
 
 pub seal-spec : {M : Type 1} → statement M
 seal-spec =
     tie.close
     (tie.spec
-    is-at-requires
-    returns
-    sub-item-head
-    part-item-head-start
-    part-item-head-end
-    item-head-requires
+    head-at-requires
     enum-known-h
     enum-told
-    returns-2
+    returns
     add-next
     add-next-2
     add-next-3
     is-seal-next-requires
-    returns-3
+    returns-2
     plain-sizes-requires
     plus-requires
     larger-requires
     stands-requires
-    returns-4)
+    returns-3)

@@ -93,7 +93,7 @@
  *
  * It takes at most 4,096 bytes of stack, whatever the input (3,232 were seen; a
  * signal stack of MINSIGSTKSZ may have fewer). It ends for every input. Usual
- * packets take microseconds, and the worst packets timed a third of a
+ * packets take microseconds, and the worst packets timed under half a
  * millisecond; only where thousands of target ids are alike in their last 14
  * bits does the time grow with the square of their count.
  *

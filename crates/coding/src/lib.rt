@@ -1,6 +1,7 @@
 // The codings of document 01 from the bytes' side: lengths, tags and ids, numbers, the key and the checksum.
 ghost use mathlib.Core.Path.{_≡_};
 ghost use Prim.Native.Nat.{_+_, _*_, _%_, _^_, _≤_, _<_};
+ghost use mathlib.Core.Bool.{_&&_};
 ghost use lib.ListN.{length, take};
 ghost use Rattle.format.specs.Coding.{bytesNumber, lenOf, oidGo, oid, tagOf, idOf};
 ghost use Rattle.format.specs.Lists.{same};
@@ -144,44 +145,51 @@ pub fn key() -> [u8; 16]
     KEY
 }
 
-// Whether the key opens s.
+// Both.
+fn both(a: bool, b: bool) -> bool
+    ensures { λ r. ⌜ r ≡ (a && b) ⌝ }
+{
+    if a { b } else { false }
+}
+
+// Whether the key opens s. No byte that differs ends the loop, so that the compiler compares all at once.
 pub fn has_key(s: &[u8]) -> bool
     ensures { λ r. ⌜ r ≡ same (take 16 (now (s .entry))) theKey ⌝ }
 {
+    if s.len() < 16 {
+        return false;
+    }
+    let mut alike = true;
     let mut i: usize = 0;
     while i < 16 {
-        if s.len() <= i {
-            return false;
-        }
-        if s[i] != KEY[i] {
-            return false;
-        }
+        alike = both(alike, s[i] == KEY[i]);
         i += 1;
     }
-    true
+    alike
 }
 
-// The same in 32 bits: what is added up in half the room takes less time.
-fn wide32(x: u8) -> u32
-    ensures { λ r. ⌜ (r ≡ x) × (r < 256) ⌝ }
+// Two bytes as one number, the second the high one: as a processor reads them.
+fn pair_of(a: u8, b: u8) -> u16
+    ensures { λ r. ⌜ (r ≡ a + 256 * b) × (a < 256) ⌝ }
 {
-    x as u32
+    (a as u16) + 256 * (b as u16)
 }
 
-// The checksum of the first n bytes: the high bytes and the low ones are added up apart, and put together once.
+// The checksum of the first n bytes: pairs are added up, and their high bytes, all cut to 16 bits. Times 256, of a pair the low byte is left.
 pub fn sum_of(s: &[u8], n: usize) -> u64
-    requires { ⌜ (n ≤ length (now s)) × (n ≤ 8192) ⌝ }
+    requires { ⌜ n ≤ length (now s) ⌝ }
     ensures { λ r. ⌜ r ≡ checksum (take n (now (s .entry))) ⌝ }
 {
-    let mut high: u32 = 0;
-    let mut low: u32 = 0;
+    let mut pairs: u16 = 0;
+    let mut odd: u16 = 0;
     let mut i: usize = 0;
     while i + 1 < n {
-        high += wide32(s[i]);
-        low += wide32(s[i + 1]);
+        let w = pair_of(s[i], s[i + 1]);
+        pairs = std::num::wrapping_add_u16(pairs, w);
+        odd = std::num::wrapping_add_u16(odd, w / 256);
         i += 2;
     }
-    let t = (high as u64) * 256 + (low as u64);
+    let t = (pairs as u64) * 256 + (odd as u64);
     if i < n {
         return (t + wide(s[i]) * 256) % 65536;
     }

@@ -4,7 +4,7 @@ use Prim.Native.Nat.{ℕ, zero, suc, _<_}
 use native.Mathlib.Omega.{arith}
 use mathlib.Core.Bool.{Bool, true, false, not, _&&_}
 use mathlib.Core.List.{List}
-use lib.ListN.{length}
+use lib.ListN.{length, getD}
 use lib.Dec.{eqb}
 use borrow.Author.Tests.{lt-ltb, le-ltb}
 use Rattle.format.specs.Answer.{Ans, ok, refused, need}
@@ -13,6 +13,7 @@ use Rattle.format.specs.Table.{Form, Level, isAlone, ruleOf, nameable, mayStand
 use Rattle.format.specs.Edit.{Change, theSet, target, mustStay, changeRules, editRules}
 use Rattle.format.specs.Edit as Edit
 use Rattle.items.specs.Meet.{formOf, levelOf, answerOf}
+use Rattle.items.specs.Quick.{Quick}
 use Rattle.items.proofs.Tests.{bind-so, bind-not, need-so, need-not}
 use Rattle.edits.specs.declared.Place.{Place}
 use Rattle.edits.specs.declared.Found.{Found}
@@ -53,6 +54,10 @@ module _ (f : Form) (l : Level) (tag : ℕ) (tags v : List ℕ) {b : Bool} where
       pub put-value : mayStand l f tag true ≡ true → {m : Ans (Unit {0})} → m ≡ valued (ruleOf l tag) v → m ≡ changeRules f l tag tags (changeOf b v)
       unfolding changeRules
       put-value g q = rw e (q ∙ sym (need-so _ _ _ (lt-ltb 0 (length v) h) ∙ need-so _ _ _ g))
+
+    -- a value that is told at a glance
+    pub put-told : Quick l f tag (length v) (getD v 0 0) → ok tt ≡ changeRules f l tag tags (changeOf b v)
+    put-told q = put-value (q .some) (q .stands true) (sym (q .allowed v refl refl))
 
 -- ---- what must stay
 

@@ -4,11 +4,13 @@ use Prim.Native.Nat.{ℕ, _+_, _-_, _/_, _≤_, _<_}
 use native.Mathlib.Omega.{arith}
 use mathlib.Core.Bool.{Bool, true, false, _&&_}
 use mathlib.Core.List.{List, _++_}
-use lib.ListN.{length, drop, length-append, length-drop}
+use lib.ListN.{length, take, drop, getD, length-append, length-take, length-drop}
 use lib.Seq.{sets, length-sets, length-take-le}
 use lib.Dec.{eqb}
 use Rattle.format.specs.Coding.{lenWidth, lenBytes, oidBytes}
 use Rattle.format.specs.Table.{Form, Level, set, pack, isSet, Rule, ruleOf, nameable, short}
+use Rattle.format.specs.Packet.{flatItem}
+use Rattle.format.specs.Calls.{itemOf}
 use Rattle.format.specs.Edit.{Change, put, remove, valWith}
 use Rattle.format.specs.Edit as Edit
 use Rattle.format.proofs.coding.Lengths.{length-len}
@@ -16,13 +18,14 @@ use Rattle.format.proofs.table.Tags.{nameable-high, not-seal}
 use Rattle.format.proofs.edits.Rules.{ChangeOk, rules-then}
 use Rattle.coding.proofs.Counts.{digits-most, len-most}
 use Rattle.items.specs.Meet.{levelOf}
+use Rattle.items.specs.Quick.{Quick}
 use Rattle.stores.proofs.Puts.{Puts, puts-then, puts-sized}
 use Rattle.stores.proofs.Codings.{short-total}
-use Rattle.stores.proofs.Shortest.{short-less}
-use Rattle.normals.specs.Meet.{itemNormal, seriesFront}
+use Rattle.stores.proofs.Shortest.{short-less, lastOf, last-is}
+use Rattle.normals.specs.Meet.{seriesFront}
 use Rattle.normals.proofs.Pieces.{series-long}
 use Rattle.edits.specs.declared.Place.{Place}
-use Rattle.edits.specs.Meet.{holderOf, changeOf, sheetOf, editedOf, itemBytes, part, bodySize, packsSize, frontOf, runsOf, runsSize, Ordered, Puttable, Brief, Editing}
+use Rattle.edits.specs.Meet.{holderOf, changeOf, sheetOf, editedOf, shortOf, itemBytes, part, bodySize, packsSize, frontOf, runsOf, runsSize, Ordered, Puttable, Brief, Editing}
 use Rattle.edits.proofs.Rules.{level-is}
 
 -- ---- the item
@@ -40,7 +43,17 @@ item-most l tag (put v) h =
     omega (arith, item-parts l tag v, oid-most tag, len-most (length (short (ruleOf l tag) v)), short-less (ruleOf l tag) v refl, h .1)
 item-most l tag remove h = unfold itemBytes in omega arith
 
+pub last-long : (v : List ℕ) (m : ℕ) → length (lastOf v m) ≤ length v
+last-long v m = omega (arith, length-take (length v - (length v - m)) (drop (length v - m) v), length-drop (length v - m) v)
+
+last-of : (l : Level) (tag : ℕ) (v : List ℕ) {m : ℕ} → m ≡ length (short (ruleOf l tag) v) → lastOf v m ≡ short (ruleOf l tag) v
+last-of set tag v e = last-is true tag v refl e
+last-of pack tag v e = last-is false tag v refl e
+
 module _ (l : Level) (tag : ℕ) (v : List ℕ) {b : Bool} where
+  pub none-put : b ≡ true → 0 ≡ shortOf l tag (changeOf b v)
+  none-put e = rw e
+
   pub item-none : b ≡ true → 0 ≡ length (itemBytes l tag (changeOf b v))
   unfolding itemBytes
   item-none e = rw e
@@ -53,18 +66,29 @@ module _ (l : Level) (tag : ℕ) (v : List ℕ) {b : Bool} where
     pub some-bytes : Puttable (changeOf b v) → (0 < length v) × (length v ≤ 8192)
     some-bytes h = subst (λ x. Puttable (changeOf x v)) e h
 
-    pub item-sized : {r : Rule} → r ≡ ruleOf l tag → {n : ℕ} → n ≡ length (short r v) → {m : ℕ} → m ≡ length (oidBytes tag) + (lenWidth n + n) → m ≡ length (itemBytes l tag (changeOf b v))
-    item-sized er en em = em ∙ rw (en, er, e) (sym (item-parts l tag v))
+    -- all of a value that is told at a glance, or what the code says of its shortest form
+    pub all-put : {f : Form} → Quick l f tag (length v) (getD v 0 0) → length v ≡ shortOf l tag (changeOf b v)
+    all-put q = rw e (sym (ap length (q .shortest v refl refl)))
 
-    module _ (z : isSet l && eqb tag 1 ≡ false) where
-      item-is : itemNormal l tag v ≡ itemBytes l tag (changeOf b v)
-      unfolding itemNormal itemBytes valWith
-      item-is = rw (z, e, itemNormal)
+    pub some-put : {m : ℕ} → m ≡ length (short (ruleOf l tag) v) → m ≡ shortOf l tag (changeOf b v)
+    some-put em = em ∙ rw e
 
-      pub item-room : (a : ℕ) {k : ℕ} → a + length (itemBytes l tag (changeOf b v)) ≤ k → a + length (itemNormal l tag v) ≤ k
+    module _ {m : ℕ} (em : m ≡ shortOf l tag (changeOf b v)) where
+      pub short-put : m ≡ length (short (ruleOf l tag) v)
+      short-put = rw e at em
+
+      pub item-sized : {n : ℕ} → n ≡ length (oidBytes tag) + (lenWidth m + m) → n ≡ length (itemBytes l tag (changeOf b v))
+      item-sized en = en ∙ rw (short-put, e) (sym (item-parts l tag v))
+
+      -- the last m bytes of the value are its shortest form
+      item-is : flatItem (itemOf (record { tag = tag; value = lastOf v m })) ≡ itemBytes l tag (changeOf b v)
+      unfolding itemBytes valWith
+      item-is = rw (e, last-of l tag v short-put)
+
+      pub item-room : (a : ℕ) {k : ℕ} → a + length (itemBytes l tag (changeOf b v)) ≤ k → a + length (flatItem (itemOf (record { tag = tag; value = lastOf v m }))) ≤ k
       item-room a h = rw item-is h
 
-      pub item-stored : (o : List ℕ) (a : ℕ) {o′ : List ℕ} {k : ℕ} → Puts o a (itemNormal l tag v) k o′ → Puts o a (itemBytes l tag (changeOf b v)) k o′
+      pub item-stored : (o : List ℕ) (a : ℕ) {o′ : List ℕ} {k : ℕ} → Puts o a (flatItem (itemOf (record { tag = tag; value = lastOf v m }))) k o′ → Puts o a (itemBytes l tag (changeOf b v)) k o′
       item-stored o a {o′ = o′} {k = k} p = subst (λ x. Puts o a x k o′) item-is p
 
 -- ---- the runs

@@ -8,7 +8,7 @@ use lib.Dec.{ltb}
 use Rattle.format.specs.Answer.{Ans, ok, refused}
 use Rattle.format.specs.Coding.{lenWidth, lenBytes, oidBytes}
 use Rattle.format.specs.Lists.{has, flatAll}
-use Rattle.format.specs.Table.{Form, embedded, standalone, Level, set, pack}
+use Rattle.format.specs.Table.{Form, embedded, standalone, Level, set, pack, ruleOf, short}
 use Rattle.format.specs.Packet.{Item, Pack, Entry, plain, flatItem, flatPack, flatEntry}
 use Rattle.format.specs.Read.{unsealed}
 use Rattle.format.specs.Sheet.{Sheet, partOf}
@@ -60,7 +60,11 @@ editedOf f h tag c s = flatAll flatEntry (editEntries h tag c (keptOf f s))
 
 -- ---- runs of bytes
 
--- the bytes that are put for an item
+-- how many bytes of a value are put, and the bytes that are put for an item
+abbrev pub shortOf : Level → ℕ → Change → ℕ
+shortOf l tag (put v) = length (short (ruleOf l tag) v)
+shortOf l tag remove = 0
+
 unfoldable pub itemBytes : Level → ℕ → Change → List ℕ
 itemBytes l tag (put v) = flatItem (itemOf (valWith l tag v))
 itemBytes l tag remove = []

@@ -3,12 +3,13 @@ ghost use mathlib.Core.Path.{_≡_};
 ghost use mathlib.Core.Bool.{true, _&&_};
 ghost use mathlib.Core.List.{List};
 ghost use Prim.Native.Nat.{ℕ, _-_, _≤_};
-ghost use lib.ListN.{length};
+ghost use lib.ListN.{length, getD};
 ghost use lib.Dec.{eqb};
 ghost use Rattle.format.specs.Lists.{has};
 ghost use Rattle.format.specs.Table.{set, isAlone, nameable};
-ghost use Rattle.format.specs.Edit.{theSet, target, mustStay, changeRules};
-ghost use Rattle.items.specs.Meet.{formOf, levelOf, itemTable, answerOf};
+ghost use Rattle.format.specs.Edit.{theSet, target, put, mustStay, changeRules};
+ghost use Rattle.items.specs.Meet.{formOf, levelOf, glanceTable, answerOf};
+ghost use Rattle.items.specs.Quick.{Quick};
 ghost use Rattle.walks.specs.Runs.{Ran, seriesRun};
 ghost use Rattle.edits.specs.Meet.{holderOf, changeOf, sealSize, SetOf, Placed, shiftedOf, FoundInPacks, FoundIs, Judged};
 
@@ -159,9 +160,35 @@ fn must_stay(alone: bool, set: bool, tag: u64) -> bool
     false
 }
 
+// Whether a value is told at a glance to be one that may be put as it stands.
+pub fn is_told(glances: &[u32], alone: bool, set: bool, tag: u64, v: &[u8]) -> bool
+    requires { ⌜ now glances ≡ glanceTable ⌝ }
+    ensures { λ r. ⌜ (r ≡ true → Quick (levelOf set) (formOf alone) tag (length (now (v .entry))) (getD (now (v .entry)) 0 0)) ⌝ }
+{
+    if v.len() == 0 {
+        return false;
+    }
+    items::quick::is_quick(glances, set, alone, tag, v.len() as u64, v[0])
+}
+
+// For a put 7, 13, 11 or 12; or 0. By the item table, which is laid out here alone.
+fn put_fault(alone: bool, set: bool, tag: u64, v: &[u8]) -> u64
+    ensures { λ r. ⌜ ((tags : List ℕ) → answerOf r ≡ changeRules (formOf alone) (levelOf set) tag tags (put (now (v .entry)))) ⌝ }
+{
+    if v.len() == 0 {
+        return 7;
+    }
+    if items::stands(set, alone, tag, true) {
+        let table = items::table();
+        let rule = items::rule_of(&table, set, tag);
+        return items::valued_of(rule, v);
+    }
+    13
+}
+
 // For a put 7, 13, 11 or 12, for a removal 18 or 14; or 0.
 fn change_fault(
-    table: &[u32],
+    glances: &[u32],
     alone: bool,
     set: bool,
     tag: u64,
@@ -169,7 +196,7 @@ fn change_fault(
     removal: bool,
     v: &[u8],
 ) -> u64
-    requires { ⌜ now table ≡ itemTable ⌝ }
+    requires { ⌜ now glances ≡ glanceTable ⌝ }
     ensures { λ r. ⌜ ((tags : List ℕ) → has tag tags ≡ stands → answerOf r ≡ changeRules (formOf alone) (levelOf set) tag tags (changeOf removal (now (v .entry)))) ⌝ }
 {
     if removal {
@@ -181,19 +208,15 @@ fn change_fault(
         }
         return 18;
     }
-    if v.len() == 0 {
-        return 7;
+    if is_told(glances, alone, set, tag, v) {
+        return 0;
     }
-    if items::stands(set, alone, tag, true) {
-        let rule = items::rule_of(table, set, tag);
-        return items::valued_of(rule, v);
-    }
-    13
+    put_fault(alone, set, tag, v)
 }
 
 // The place of the item to be put or removed; or 19, 18, then for a put 7, 13, 11, 12, for a removal 14.
 pub fn judge(
-    table: &[u32],
+    glances: &[u32],
     s: &[u8],
     alone: bool,
     set: bool,
@@ -202,7 +225,7 @@ pub fn judge(
     removal: bool,
     v: &[u8],
 ) -> Found
-    requires { ⌜ (now table ≡ itemTable) × SetOf (formOf alone) (now s) ⌝ }
+    requires { ⌜ (now glances ≡ glanceTable) × SetOf (formOf alone) (now s) ⌝ }
     ensures { λ r. ⌜ Judged (formOf alone) (holderOf set id) tag (changeOf removal (now (v .entry))) (now (s .entry)) r ⌝ }
 {
     if !items::nameable_of(set, tag) {
@@ -213,7 +236,7 @@ pub fn judge(
         return f;
     };
     let stands = p.at < p.next;
-    let n = change_fault(table, alone, set, tag, stands, removal, v);
+    let n = change_fault(glances, alone, set, tag, stands, removal, v);
     if n == 0 {
         return f;
     }

@@ -1,48 +1,65 @@
 // The edited entries: how many bytes they take, and these bytes, stored into a lent output. What is kept is copied in runs.
 ghost use mathlib.Core.Path.{_≡_};
-ghost use mathlib.Core.Bool.{false, _&&_};
 ghost use Prim.Native.Nat.{_+_, _-_, _≤_};
 ghost use lib.ListN.{length};
 ghost use lib.Seq.{sets};
-ghost use lib.Dec.{eqb};
 ghost use Rattle.format.specs.Coding.{lenWidth};
-ghost use Rattle.format.specs.Table.{isSet};
-ghost use Rattle.items.specs.Meet.{formOf, levelOf, itemTable};
-ghost use Rattle.edits.specs.Meet.{holderOf, changeOf, editedOf, itemBytes, bodySize, frontOf, runsSize, Ordered, Puttable, Editing};
+ghost use Rattle.items.specs.Meet.{formOf, levelOf, glanceTable};
+ghost use Rattle.edits.specs.Meet.{holderOf, changeOf, editedOf, shortOf, itemBytes, bodySize, frontOf, runsSize, Ordered, Puttable, Editing};
 use super::Place;
 
 // ---- the item
 
-// The bytes of the item that is put; none for a removal.
-pub fn item_size(table: &[u32], set: bool, tag: u64, removal: bool, v: &[u8]) -> usize
-    requires { ⌜ (now table ≡ itemTable) × (tag ≤ 16383) × Puttable (changeOf removal (now v)) ⌝ }
+// How many bytes of the value are put: those of its shortest form; none for a removal.
+pub fn short_size(
+    glances: &[u32],
+    alone: bool,
+    set: bool,
+    tag: u64,
+    removal: bool,
+    v: &[u8],
+) -> usize
+    requires { ⌜ (now glances ≡ glanceTable) × Puttable (changeOf removal (now v)) ⌝ }
+    ensures { λ r. ⌜ r ≡ shortOf (levelOf set) tag (changeOf removal (now (v .entry))) ⌝ }
+{
+    if removal {
+        return 0;
+    }
+    if super::is_told(glances, alone, set, tag, v) {
+        return v.len();
+    }
+    let table = items::table();
+    stores::coded::short_of(&table, set, tag, v)
+}
+
+// The bytes of the item that is put, with so many of the value; none for a removal.
+pub fn item_size(set: bool, tag: u64, removal: bool, v: &[u8], m: usize) -> usize
+    requires { ⌜ (tag ≤ 16383) × Puttable (changeOf removal (now v)) × (m ≡ shortOf (levelOf set) tag (changeOf removal (now v))) ⌝ }
     ensures { λ r. ⌜ r ≡ length (itemBytes (levelOf set) tag (changeOf removal (now (v .entry)))) ⌝ }
 {
     if removal {
         return 0;
     }
-    let rule = items::rule_of(table, set, tag);
-    let n = items::short_size(rule, v);
-    coding::widths::short_total(tag, n)
+    coding::widths::short_total(tag, m)
 }
 
-// The item that is put; where it ends.
+// The item that is put, with so many bytes of the value; where it ends.
 fn put_item(
-    table: &[u32],
     out: &mut [u8],
     at: usize,
     set: bool,
     tag: u64,
     removal: bool,
     v: &[u8],
+    m: usize,
 ) -> usize
-    requires { ⌜ (now table ≡ itemTable) × (tag ≤ 16383) × (isSet (levelOf set) && eqb tag 1 ≡ false) × Puttable (changeOf removal (now v)) × (at + length (itemBytes (levelOf set) tag (changeOf removal (now v))) ≤ length (now out)) ⌝ }
+    requires { ⌜ (tag ≤ 16383) × Puttable (changeOf removal (now v)) × (m ≡ shortOf (levelOf set) tag (changeOf removal (now v))) × (at + length (itemBytes (levelOf set) tag (changeOf removal (now v))) ≤ length (now out)) ⌝ }
     ensures { λ r. ⌜ (r ≡ at + length (itemBytes (levelOf set) tag (changeOf removal (now (v .entry))))) × (now (out .exit) ≡ sets (now (out .entry)) at (itemBytes (levelOf set) tag (changeOf removal (now (v .entry))))) ⌝ }
 {
     if removal {
         return at;
     }
-    normals::put_normal(table, out, at, set, tag, v)
+    stores::coded::put_short(out, at, tag, &v[v.len() - m..])
 }
 
 // ---- the lengths around it
@@ -102,7 +119,7 @@ fn put_front(s: &[u8], set: bool, p: Place, n: usize, out: &mut [u8]) -> usize
 {
     let at = p.at;
     if set {
-        return stores::copy_run(out, 0, &s[0..at]);
+        return stores::copy(out, 0, &s[0..at]);
     }
     let series = p.series;
     let packs = p.packs;
@@ -110,16 +127,15 @@ fn put_front(s: &[u8], set: bool, p: Place, n: usize, out: &mut [u8]) -> usize
     let body = p.body;
     let m = body_size(p, n);
     let size = packs_size(p, m);
-    let a = stores::copy_run(out, 0, &s[0..series]);
+    let a = stores::copy(out, 0, &s[0..series]);
     let b = normals::put_series(out, a, size);
-    let c = stores::copy_run(out, b, &s[packs..pack]);
+    let c = stores::copy(out, b, &s[packs..pack]);
     let d = stores::coded::put_len(out, c, m);
-    stores::copy_run(out, d, &s[body..at])
+    stores::copy(out, d, &s[body..at])
 }
 
-// The edited entries, with an item of n bytes, at the start of out; how many bytes.
+// The edited entries, with m bytes of the value in an item of n, at the start of out; how many bytes.
 pub fn put_edited(
-    table: &[u32],
     s: &[u8],
     alone: bool,
     set: bool,
@@ -128,15 +144,16 @@ pub fn put_edited(
     removal: bool,
     v: &[u8],
     p: Place,
+    m: usize,
     n: usize,
     out: &mut [u8],
 ) -> usize
-    requires { ⌜ (now table ≡ itemTable) × Editing (formOf alone) (holderOf set id) tag (changeOf removal (now v)) (now s) p × (length (editedOf (formOf alone) (holderOf set id) tag (changeOf removal (now v)) (now s)) ≤ length (now out)) × (n ≡ length (itemBytes (levelOf set) tag (changeOf removal (now v)))) ⌝ }
+    requires { ⌜ (m ≡ shortOf (levelOf set) tag (changeOf removal (now v))) × Editing (formOf alone) (holderOf set id) tag (changeOf removal (now v)) (now s) p × (length (editedOf (formOf alone) (holderOf set id) tag (changeOf removal (now v)) (now s)) ≤ length (now out)) × (n ≡ length (itemBytes (levelOf set) tag (changeOf removal (now v)))) ⌝ }
     ensures { λ r. ⌜ (r ≡ length (editedOf (formOf alone) (holderOf set id) tag (changeOf removal (now (v .entry))) (now (s .entry)))) × (now (out .exit) ≡ sets (now (out .entry)) 0 (editedOf (formOf alone) (holderOf set id) tag (changeOf removal (now (v .entry))) (now (s .entry)))) ⌝ }
 {
     let a = put_front(s, set, p, n, out);
-    let b = put_item(table, out, a, set, tag, removal, v);
+    let b = put_item(out, a, set, tag, removal, v, m);
     let next = p.next;
     let stop = p.stop;
-    stores::copy_run(out, b, &s[next..stop])
+    stores::copy(out, b, &s[next..stop])
 }

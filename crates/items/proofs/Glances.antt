@@ -13,7 +13,7 @@ use Rattle.format.specs.Coding.{bytesNumber}
 use Rattle.format.specs.Lists.{has}
 use Rattle.format.specs.Table.{Form, isAlone, Level, set, pack, isSet, Kind, bytes, num, pixel, Rule, unlisted, rules, find, ruleOf, mayStand, sized, notPixel, isNumber, valued, strip, short}
 use Rattle.format.proofs.words.Answers.{no-bool, and-both}
-use Rattle.items.specs.Meet.{levelOf, formOf, itemTable, offsets, zeros}
+use Rattle.items.specs.Meet.{levelOf, formOf, glanceTable, offsets, zeros}
 use Rattle.items.specs.Quick.{bit, mostTag, rowsFrom, leastRow, glanced, beyond, Quick}
 use Rattle.items.proofs.Rows.{set-over, pack-over}
 use Rattle.items.proofs.Tests.{need-so, zeros-some, offset-over}
@@ -37,7 +37,7 @@ below-at (suc k) p h i l =
 -- ---- the table's bits
 
 abbrev pub rowAt : Bool → ℕ → ℕ
-rowAt b tag = getD itemTable (rowsFrom b + tag) 0
+rowAt b tag = getD glanceTable (rowsFrom b + tag) 0
 
 -- a length whose bit is set in a row that is not below the least is allowed, by a rule for bytes unless the uppermost bit is set too; and its tag may
 -- stand, and is not the set's checksum
@@ -47,7 +47,7 @@ right l f least row tag n =
     || (ltb 0 n && (sized (ruleOf l tag) n && ((ltb 0 (row / 2 ^ 31) || not (isNumber (ruleOf l tag .kind))) && (mayStand l f tag false && not (isSet l && eqb tag 1)))))
 
 bits-right : (b a : Bool) → below (suc (mostTag b)) (λ tag. below 30 λ n. right (levelOf b) (formOf a) (leastRow a) (rowAt b tag) tag n) ≡ true
-unfolding itemTable ruleOf rules find sized mayStand has
+unfolding glanceTable ruleOf rules find sized mayStand has
 bits-right true true = refl
 bits-right true false = refl
 bits-right false true = refl
@@ -173,20 +173,24 @@ module _ (b a : Bool) (tag n first : ℕ) (small : tag ≤ mostTag b) (high : le
     },
   )
 
+pub glances-long : (t : List ℕ) → t ≡ glanceTable → length t ≡ 37
+unfolding glanceTable
+glances-long t e = ap length e
+
 -- m and y are what the code has for the greatest tag and for the first row
 module _ (b : Bool) (tag : ℕ) {m : ℕ} (em : m ≡ mostTag b) (few : tag ≤ m) {y : ℕ} (ey : y ≡ rowsFrom b) where
   small : tag ≤ mostTag b
   small = rw em at few
 
-  pub row-in : y + tag < 74
+  pub row-in : y + tag < 37
   row-in = rw ey (go b small)
     where
-      go : (b : Bool) → tag ≤ mostTag b → rowsFrom b + tag < 74
+      go : (b : Bool) → tag ≤ mostTag b → rowsFrom b + tag < 37
       go true h = omega arith
       go false h = omega arith
 
   -- and x for the least row
-  pub quick-from : (a : Bool) {x : ℕ} → x ≡ leastRow a → (table : List ℕ) → table ≡ itemTable → x ≤ getD table (y + tag) 0 → (n first : ℕ) {r : Bool} → r ≡ glanced (getD table (y + tag) 0) n first → r ≡ true
+  pub quick-from : (a : Bool) {x : ℕ} → x ≡ leastRow a → (table : List ℕ) → table ≡ glanceTable → x ≤ getD table (y + tag) 0 → (n first : ℕ) {r : Bool} → r ≡ glanced (getD table (y + tag) 0) n first → r ≡ true
       → (tag < 128) × (n < 128) × Quick (levelOf b) (formOf a) tag n first
   quick-from a ex table et high n first eg r = glanced-quick b a tag n first small (rw (ex, et, ey) at high) (sym (rw (et, ey) at eg) ∙ r)
 

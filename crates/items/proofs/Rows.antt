@@ -63,6 +63,6 @@ pub pack-over : (tag : ℕ) → 24 ≤ tag → unlisted ≡ ruleOf pack tag
 unfolding ruleOf rules
 pack-over tag h = find-none 24 tag (rules pack) refl h
 
-pub table-long : (t : List ℕ) → t ≡ itemTable → length t ≡ 74
+pub table-long : (t : List ℕ) → t ≡ itemTable → length t ≡ 37
 unfolding itemTable
 table-long t e = ap length e

@@ -33,23 +33,27 @@ row t k a b = t * 2 ^ 24 + k * 2 ^ 16 + a * 2 ^ 8 + b
 abbrev pub rowFrom : ℕ → Rule
 rowFrom r = rowRule (r / 2 ^ 16 % 256) (r / 2 ^ 8 % 256) (r % 256)
 
--- its second row: its two bits, and the lengths that are told at a glance
-abbrev pub glance : ℕ → ℕ → ℕ
-glance f m = f * 2 ^ 30 + m
-
--- the code's table: the rows of the set, then those of a pack, each at its tag; then their second rows
+-- the code's table: the rows of the set, then those of a pack, each at its tag
 unfoldable pub itemTable : List ℕ
 itemTable =
     row 0 0 1 0 ∷ row 1 1 2 2 ∷ row 2 1 8 8 ∷ row 3 1 1 32 ∷ row 4 2 1 2 ∷ row 5 2 1 3 ∷ row 6 2 1 3 ∷ row 7 0 1 0 ∷ row 8 2 1 3 ∷ row 9 2 1 3 ∷
     row 10 1 1 128 ∷ row 11 1 2 2 ∷ row 12 1 2 2 ∷
     row 0 0 1 0 ∷ row 1 3 1 6 ∷ row 2 3 1 6 ∷ row 3 3 1 6 ∷ row 4 1 1 1 ∷ row 5 1 1 1 ∷ row 6 2 1 2 ∷ row 7 1 1 1 ∷ row 8 1 3 3 ∷ row 9 2 1 3 ∷
     row 10 1 3 3 ∷ row 11 1 3 3 ∷ row 12 1 2 2 ∷ row 13 1 3 3 ∷ row 14 1 3 3 ∷ row 15 1 3 3 ∷ row 16 1 3 3 ∷ row 17 4 10 22 ∷ row 18 0 1 0 ∷
-    row 19 3 1 4 ∷ row 20 3 1 4 ∷ row 21 0 1 0 ∷ row 22 2 1 3 ∷ row 23 1 1 1 ∷
-    glance 1 0 ∷ glance 1 0 ∷ glance 1 256 ∷ glance 1 1073741822 ∷ glance 3 6 ∷ glance 3 14 ∷ glance 3 14 ∷ glance 1 1073741822 ∷ glance 3 14 ∷
-    glance 3 14 ∷ glance 1 1073741822 ∷ glance 1 4 ∷ glance 1 4 ∷
+    row 19 3 1 4 ∷ row 20 3 1 4 ∷ row 21 0 1 0 ∷ row 22 2 1 3 ∷ row 23 1 1 1 ∷ []
+
+-- a row for a glance: its two bits, and the lengths that are told so
+abbrev pub glance : ℕ → ℕ → ℕ
+glance f m = f * 2 ^ 30 + m
+
+-- those of a pack, then those of the set
+unfoldable pub glanceTable : List ℕ
+glanceTable =
     glance 1 0 ∷ glance 3 126 ∷ glance 3 126 ∷ glance 3 126 ∷ glance 1 2 ∷ glance 1 2 ∷ glance 3 6 ∷ glance 1 2 ∷ glance 1 8 ∷ glance 3 14 ∷
     glance 0 8 ∷ glance 0 8 ∷ glance 1 4 ∷ glance 0 8 ∷ glance 0 8 ∷ glance 0 8 ∷ glance 0 8 ∷ glance 1 4260864 ∷ glance 1 1073741822 ∷ glance 3 30 ∷
-    glance 3 30 ∷ glance 1 1073741822 ∷ glance 3 14 ∷ glance 1 2 ∷ []
+    glance 3 30 ∷ glance 1 1073741822 ∷ glance 3 14 ∷ glance 1 2 ∷
+    glance 1 0 ∷ glance 1 0 ∷ glance 1 256 ∷ glance 1 1073741822 ∷ glance 3 6 ∷ glance 3 14 ∷ glance 3 14 ∷ glance 1 1073741822 ∷ glance 3 14 ∷
+    glance 3 14 ∷ glance 1 1073741822 ∷ glance 1 4 ∷ glance 1 4 ∷ []
 
 -- the number of a refusal, 0 for none
 abbrev pub answerOf : ℕ → Ans (Unit {0})

@@ -11,14 +11,14 @@ use Rattle.format.specs.Table.{Form, Level, isSet, ruleOf, mayStand, valued, sh
 abbrev pub bit : ℕ → ℕ → Bool
 bit row k = not (eqb (row / 2 ^ k % 2) 0)
 
--- the greatest tag that has a row and where the second rows begin, for the set or a pack; the least row that may stand wherever an item may, alone or not
+-- the greatest tag that has a row and where the rows begin, for the set or a pack; the least row that may stand wherever an item may, alone or not
 abbrev pub mostTag : Bool → ℕ
 mostTag true = 12
 mostTag false = 23
 
 abbrev pub rowsFrom : Bool → ℕ
-rowsFrom true = 37
-rowsFrom false = 50
+rowsFrom true = 24
+rowsFrom false = 0
 
 abbrev pub leastRow : Bool → ℕ
 leastRow true = 2 ^ 30

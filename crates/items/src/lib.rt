@@ -13,10 +13,9 @@ ghost use Rattle.items.specs.Meet.{formOf, levelOf, ruleFrom, rowFrom, i
 // 4 a location (10, 16 or 22 bytes).
 pub struct Rule(pub u64, pub u64, pub u64, pub u64);
 
-// The rows of the set, then those of a pack, each at its tag: tag, kind, least and greatest length. Then a second row for each, for a glance
-// (quick.rt): two bits, then bit by bit the lengths below 30 that are told so. The two bits: 3 a number or a pixel, which at a glance may not begin
-// with 0; 0 an offset, which may stand in embedded only; 1 any other. Of 32 bits each, as the compiler lays out four of those at once.
-const ITEMS: [u32; 74] = [
+// The rows of the set, then those of a pack, each at its tag: tag, kind, least and greatest length. Of 32 bits each, as the compiler lays out
+// four of those at once.
+const ITEMS: [u32; 37] = [
     0 << 24 | 0 << 16 | 1 << 8 | 0,
     1 << 24 | 1 << 16 | 2 << 8 | 2,
     2 << 24 | 1 << 16 | 8 << 8 | 8,
@@ -54,47 +53,10 @@ const ITEMS: [u32; 74] = [
     21 << 24 | 0 << 16 | 1 << 8 | 0,
     22 << 24 | 2 << 16 | 1 << 8 | 3,
     23 << 24 | 1 << 16 | 1 << 8 | 1,
-    1 << 30 | 0x0,
-    1 << 30 | 0x0,
-    1 << 30 | 0x100,
-    1 << 30 | 0x3ffffffe,
-    3 << 30 | 0x6,
-    3 << 30 | 0xe,
-    3 << 30 | 0xe,
-    1 << 30 | 0x3ffffffe,
-    3 << 30 | 0xe,
-    3 << 30 | 0xe,
-    1 << 30 | 0x3ffffffe,
-    1 << 30 | 0x4,
-    1 << 30 | 0x4,
-    1 << 30 | 0x0,
-    3 << 30 | 0x7e,
-    3 << 30 | 0x7e,
-    3 << 30 | 0x7e,
-    1 << 30 | 0x2,
-    1 << 30 | 0x2,
-    3 << 30 | 0x6,
-    1 << 30 | 0x2,
-    1 << 30 | 0x8,
-    3 << 30 | 0xe,
-    0 << 30 | 0x8,
-    0 << 30 | 0x8,
-    1 << 30 | 0x4,
-    0 << 30 | 0x8,
-    0 << 30 | 0x8,
-    0 << 30 | 0x8,
-    0 << 30 | 0x8,
-    1 << 30 | 0x410400,
-    1 << 30 | 0x3ffffffe,
-    3 << 30 | 0x1e,
-    3 << 30 | 0x1e,
-    1 << 30 | 0x3ffffffe,
-    3 << 30 | 0xe,
-    1 << 30 | 0x2,
 ];
 
-// A constant array is laid out anew wherever it is named, so a call asks for it once and lends it to all that it calls.
-pub fn table() -> [u32; 74]
+// A constant array is laid out anew wherever it is named, so who needs it asks for it once and lends it to all that it calls.
+pub fn table() -> [u32; 37]
     ensures { λ r. ⌜ r ≡ itemTable ⌝ }
 {
     ITEMS

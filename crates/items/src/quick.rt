@@ -1,10 +1,59 @@
 // Most items are told at a glance: a tag that the table lists, a length below 30 that it allows, and no zero before a number; or a tag
-// that no table lists. A row is here the second one of its tag.
+// that no table lists. A row is here the one of its tag among those for a glance.
 ghost use mathlib.Core.Path.{_≡_};
 ghost use Prim.Native.Nat.{_<_};
 ghost use mathlib.Core.Bool.{true};
-ghost use Rattle.items.specs.Meet.{formOf, levelOf, itemTable};
+ghost use Rattle.items.specs.Meet.{formOf, levelOf, glanceTable};
 ghost use Rattle.items.specs.Quick.{Quick, glanced, mostTag, rowsFrom, leastRow, beyond};
+
+// A row for each tag, of a pack, then of the set: two bits, then bit by bit the lengths below 30 that are told so. The two bits: 3 a number or a
+// pixel, which at a glance may not begin with 0; 0 an offset, which may stand in embedded only; 1 any other.
+const GLANCES: [u32; 37] = [
+    1 << 30 | 0x0,
+    3 << 30 | 0x7e,
+    3 << 30 | 0x7e,
+    3 << 30 | 0x7e,
+    1 << 30 | 0x2,
+    1 << 30 | 0x2,
+    3 << 30 | 0x6,
+    1 << 30 | 0x2,
+    1 << 30 | 0x8,
+    3 << 30 | 0xe,
+    0 << 30 | 0x8,
+    0 << 30 | 0x8,
+    1 << 30 | 0x4,
+    0 << 30 | 0x8,
+    0 << 30 | 0x8,
+    0 << 30 | 0x8,
+    0 << 30 | 0x8,
+    1 << 30 | 0x410400,
+    1 << 30 | 0x3ffffffe,
+    3 << 30 | 0x1e,
+    3 << 30 | 0x1e,
+    1 << 30 | 0x3ffffffe,
+    3 << 30 | 0xe,
+    1 << 30 | 0x2,
+    1 << 30 | 0x0,
+    1 << 30 | 0x0,
+    1 << 30 | 0x100,
+    1 << 30 | 0x3ffffffe,
+    3 << 30 | 0x6,
+    3 << 30 | 0xe,
+    3 << 30 | 0xe,
+    1 << 30 | 0x3ffffffe,
+    3 << 30 | 0xe,
+    3 << 30 | 0xe,
+    1 << 30 | 0x3ffffffe,
+    1 << 30 | 0x4,
+    1 << 30 | 0x4,
+];
+
+// Apart from the item table: where all is told at a glance, that is not laid out.
+pub fn glances() -> [u32; 37]
+    ensures { λ r. ⌜ r ≡ glanceTable ⌝ }
+{
+    GLANCES
+}
 
 // Whether a row's bits have this length. The uppermost is set in the kinds of a number, whose first byte may not be 0.
 fn fits(row: u32, n: u64, first: u8) -> bool
@@ -26,11 +75,11 @@ fn most_tag(set: bool) -> u64
     if set { 12 } else { 23 }
 }
 
-// Where the second rows of the set or of a pack begin.
+// Where the rows of the set or of a pack begin.
 fn rows_from(set: bool) -> usize
     ensures { λ r. ⌜ r ≡ rowsFrom set ⌝ }
 {
-    if set { 37 } else { 50 }
+    if set { 24 } else { 0 }
 }
 
 // The least row that may stand wherever an item may: in a standalone packet those of the six offsets are below it, elsewhere none is. No row
@@ -72,15 +121,15 @@ fn is_other(set: bool, tag: u64, n: u64) -> bool
 
 // Whether an item with this tag, whose value has n bytes and begins with this one, meets the rules for one item wherever it may begin,
 // and is shortest as it stands, tag and length too. Where it says no, nothing is known.
-pub fn is_quick(table: &[u32], set: bool, alone: bool, tag: u64, n: u64, first: u8) -> bool
-    requires { ⌜ now table ≡ itemTable ⌝ }
+pub fn is_quick(glances: &[u32], set: bool, alone: bool, tag: u64, n: u64, first: u8) -> bool
+    requires { ⌜ now glances ≡ glanceTable ⌝ }
     ensures { λ r. ⌜ (r ≡ true → (tag < 128) × (n < 128) × Quick (levelOf set) (formOf alone) tag n first) ⌝ }
 {
     if most_tag(set) < tag {
         return is_other(set, tag, n);
     }
     let at = rows_from(set) + (tag as usize);
-    let row = table[at];
+    let row = glances[at];
     if row < least_row(alone) {
         return false;
     }

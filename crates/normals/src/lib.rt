@@ -3,7 +3,7 @@ ghost use mathlib.Core.Path.{_≡_};
 ghost use Prim.Native.Nat.{_+_, _^_, _≤_, _<_};
 ghost use lib.ListN.{length};
 ghost use lib.Seq.{sets};
-ghost use Rattle.items.specs.Meet.{formOf, levelOf, itemTable};
+ghost use Rattle.items.specs.Meet.{formOf, levelOf, itemTable, glanceTable};
 ghost use Rattle.normals.specs.Meet.{itemNormal, seriesFront, packFront, InnerRun, levelNormal, seriesNormal};
 ghost use Rattle.walks.specs.Runs.{Ran, levelRun, seriesRun};
 use heads::Head;
@@ -49,13 +49,14 @@ pub fn put_pack(out: &mut [u8], at: usize, n: usize, id: u64) -> usize
 // The items of a level: the set, whose series has `inner` bytes of packs in normal form, or a pack; how many bytes.
 pub fn item_normal(
     table: &[u32],
+    glances: &[u32],
     s: &[u8],
     set: bool,
     alone: bool,
     inner: usize,
     out: &mut [u8],
 ) -> usize
-    requires { ⌜ (now table ≡ itemTable) × ((length (now s) ≤ 8192) × Ran (levelRun (levelOf set) (formOf alone) (now s)) × (inner ≤ 65536) × InnerRun inner (levelRun (levelOf set) (formOf alone) (now s)) × (length (levelNormal (levelOf set) (formOf alone) (now s)) ≤ length (now out))) ⌝ }
+    requires { ⌜ (now table ≡ itemTable) × ((length (now s) ≤ 8192) × Ran (levelRun (levelOf set) (formOf alone) (now s)) × (inner ≤ 65536) × InnerRun inner (levelRun (levelOf set) (formOf alone) (now s)) × (length (levelNormal (levelOf set) (formOf alone) (now s)) ≤ length (now out))) × (now glances ≡ glanceTable) ⌝ }
     ensures { λ r. ⌜ (r ≡ length (levelNormal (levelOf set) (formOf alone) (now (s .entry)))) × (now (out .exit) ≡ sets (now (out .entry)) 0 (levelNormal (levelOf set) (formOf alone) (now (s .entry)))) ⌝ }
 {
     let mut p: usize = 0;
@@ -75,7 +76,7 @@ pub fn item_normal(
         let next = from + size;
         k = if walks::is_series(set, key) {
             let m = put_series(out, k, inner);
-            m + pack_normal(table, &s[from..next], alone, &mut out[m..])
+            m + pack_normal(table, glances, &s[from..next], alone, &mut out[m..])
         } else {
             put_normal(table, out, k, set, key, &s[from..next])
         };
@@ -85,8 +86,14 @@ pub fn item_normal(
 }
 
 // The packs of a series; how many bytes.
-pub fn pack_normal(table: &[u32], s: &[u8], alone: bool, out: &mut [u8]) -> usize
-    requires { ⌜ (now table ≡ itemTable) × ((length (now s) ≤ 8192) × Ran (seriesRun (formOf alone) (now s)) × (length (seriesNormal (formOf alone) (now s)) ≤ length (now out))) ⌝ }
+pub fn pack_normal(
+    table: &[u32],
+    glances: &[u32],
+    s: &[u8],
+    alone: bool,
+    out: &mut [u8],
+) -> usize
+    requires { ⌜ (now table ≡ itemTable) × ((length (now s) ≤ 8192) × Ran (seriesRun (formOf alone) (now s)) × (length (seriesNormal (formOf alone) (now s)) ≤ length (now out))) × (now glances ≡ glanceTable) ⌝ }
     ensures { λ r. ⌜ (r ≡ length (seriesNormal (formOf alone) (now (s .entry)))) × (now (out .exit) ≡ sets (now (out .entry)) 0 (seriesNormal (formOf alone) (now (s .entry)))) ⌝ }
 {
     let mut p: usize = 0;
@@ -104,7 +111,7 @@ pub fn pack_normal(table: &[u32], s: &[u8], alone: bool, out: &mut [u8]) -> usiz
         };
         let from = p + width + used;
         let next = p + width + size;
-        let w = walks::item_walk(table, &s[from..next], false, alone);
+        let w = walks::item_walk(table, glances, &s[from..next], false, alone);
         let Walked::Good { sizes, mark: _ } = w else {
             return k;
         };
@@ -114,7 +121,15 @@ pub fn pack_normal(table: &[u32], s: &[u8], alone: bool, out: &mut [u8]) -> usiz
         k = if n == size {
             stores::copy_run(out, m, &s[from..next])
         } else {
-            m + item_normal(table, &s[from..next], false, alone, 0, &mut out[m..])
+            m + item_normal(
+                table,
+                glances,
+                &s[from..next],
+                false,
+                alone,
+                0,
+                &mut out[m..],
+            )
         };
         p = next;
     }

@@ -5,7 +5,7 @@ ghost use mathlib.Core.List.{List};
 ghost use mathlib.Core.Bool.{true, false};
 ghost use lib.ListN.{length, drop};
 ghost use Rattle.format.specs.Sheet.{TS, is, valueAt};
-ghost use Rattle.items.specs.Meet.{formOf, levelOf, itemTable};
+ghost use Rattle.items.specs.Meet.{formOf, levelOf, itemTable, glanceTable};
 ghost use Rattle.heads.specs.Meet.{peek, Past, Clear};
 ghost use Rattle.heads.specs.Records.{peekVal};
 ghost use Rattle.walks.specs.Meet.{Within};
@@ -86,6 +86,7 @@ fn series_at(s: &[u8], p: usize, clear: usize, alone: bool, top: u64, low: u64) 
 // The record at p of a level s: of the set an `IT` or a `TS`, else a `TI`. Most are told at a glance.
 pub fn part_at(
     table: &[u32],
+    glances: &[u32],
     s: &[u8],
     p: usize,
     clear: usize,
@@ -94,10 +95,10 @@ pub fn part_at(
     top: u64,
     low: u64,
 ) -> Piece
-    requires { ⌜ (now table ≡ itemTable) × (length (now s) ≤ 65536) × (p ≤ length (now s)) × Clear (peek true false set) (now s) clear ⌝ }
+    requires { ⌜ (now table ≡ itemTable) × (length (now s) ≤ 65536) × (p ≤ length (now s)) × Clear (peek true false set) (now s) clear × (now glances ≡ glanceTable) ⌝ }
     ensures { λ r. ⌜ ((seen : List ℕ) → Past (peek true false set) (now (s .entry)) p top low seen → r ≡ partPiece (levelOf set) (formOf alone) seen (drop p (now (s .entry)))) ⌝ }
 {
-    let g = quick::glance_begun(table, s, p, set, alone, top);
+    let g = quick::glance_begun(glances, s, p, set, alone, top);
     if 0 < g.next {
         let size = g.next - (p + 6);
         return Piece::Whole {
@@ -163,8 +164,8 @@ pub fn goes_on(s: &[u8], p: usize, set: bool) -> bool
 }
 
 // The records of a level: the set, or a target. A part takes as many bytes as it adds to the sheet.
-pub fn item_records(table: &[u32], s: &[u8], set: bool, alone: bool) -> Walked
-    requires { ⌜ (now table ≡ itemTable) × (length (now s) ≤ 65536) ⌝ }
+pub fn item_records(table: &[u32], glances: &[u32], s: &[u8], set: bool, alone: bool) -> Walked
+    requires { ⌜ (now table ≡ itemTable) × (length (now s) ≤ 65536) × (now glances ≡ glanceTable) ⌝ }
     ensures { λ r. ⌜ (r ≡ recordsWalk (levelOf set) (formOf alone) (now (s .entry))) × Within r (length (now (s .entry))) ⌝ }
 {
     let mut p: usize = 0;
@@ -182,7 +183,7 @@ pub fn item_records(table: &[u32], s: &[u8], set: bool, alone: bool) -> Walked
         if !goes_on(s, p, set) {
             return Walked::Good { sizes: sum, mark };
         }
-        let a = part_at(table, s, p, clear, set, alone, top, low);
+        let a = part_at(table, glances, s, p, clear, set, alone, top, low);
         let Piece::Whole {
             tag,
             from: _,
@@ -193,7 +194,7 @@ pub fn item_records(table: &[u32], s: &[u8], set: bool, alone: bool) -> Walked
             return walks::stop(a, p);
         };
         let w = if walks::is_series(set, tag) {
-            walks::series_of(target_records(table, &s[p + 2..], alone), 2)
+            walks::series_of(target_records(table, glances, &s[p + 2..], alone), 2)
         } else {
             walks::one_item(set, tag, size)
         };
@@ -211,11 +212,11 @@ pub fn item_records(table: &[u32], s: &[u8], set: bool, alone: bool) -> Walked
 }
 
 // The targets of the series.
-pub fn target_records(table: &[u32], s: &[u8], alone: bool) -> Walked
-    requires { ⌜ (now table ≡ itemTable) × (length (now s) ≤ 65536) ⌝ }
+pub fn target_records(table: &[u32], glances: &[u32], s: &[u8], alone: bool) -> Walked
+    requires { ⌜ (now table ≡ itemTable) × (length (now s) ≤ 65536) × (now glances ≡ glanceTable) ⌝ }
     ensures { λ r. ⌜ (r ≡ targetsWalk (formOf alone) (now (s .entry))) × Within r (length (now (s .entry))) ⌝ }
 {
-    let q = quick::targets(table, s, alone);
+    let q = quick::targets(glances, s, alone);
     let mut p = q.at;
     let mut sum = q.sizes;
     let mut top = q.top;
@@ -240,11 +241,11 @@ pub fn target_records(table: &[u32], s: &[u8], alone: bool) -> Walked
         };
         let from = p + 10;
         let items = &s[from..];
-        let q = quick::run(table, items, false, alone);
+        let q = quick::run(glances, items, false, alone);
         let mut sizes = q.sizes;
         let mut mark = q.mark;
         if goes_on(items, q.at, false) {
-            let w = item_records(table, items, false, alone);
+            let w = item_records(table, glances, items, false, alone);
             let Walked::Good { sizes: z, mark: m } = w else {
                 return walks::later(w, from);
             };

@@ -5,7 +5,7 @@ ghost use mathlib.Core.Bool.{false};
 ghost use Prim.Native.Nat.{_+_, _-_, _≤_, _<_};
 ghost use lib.ListN.{length, take, drop};
 ghost use Rattle.format.specs.Coding.{bytesNumber};
-ghost use Rattle.items.specs.Meet.{formOf, itemTable};
+ghost use Rattle.items.specs.Meet.{formOf, glanceTable};
 ghost use Rattle.walks.specs.Meet.{sizes};
 ghost use Rattle.walks.specs.Going.{quickAt, Begun};
 ghost use Rattle.records.specs.Going.{RecordsGoing, TargetsPassed, Glanced, wordOf};
@@ -32,8 +32,8 @@ fn word_of(set: bool) -> u32
 }
 
 // A level's record at p that is told at a glance, its tag above top.
-pub fn glance(table: &[u32], s: &[u8], p: usize, set: bool, alone: bool, top: u64) -> Told
-    requires { ⌜ (now table ≡ itemTable) × (length (now s) ≤ 65536) × (p ≤ length (now s)) ⌝ }
+pub fn glance(glances: &[u32], s: &[u8], p: usize, set: bool, alone: bool, top: u64) -> Told
+    requires { ⌜ (now glances ≡ glanceTable) × (length (now s) ≤ 65536) × (p ≤ length (now s)) ⌝ }
     ensures { λ r. ⌜ (0 < r .next → Glanced set (formOf alone) (now (s .entry)) p top (r .tag) (r .next - (p + 6))) ⌝ }
 {
     let from = p + 6;
@@ -51,7 +51,7 @@ pub fn glance(table: &[u32], s: &[u8], p: usize, set: bool, alone: bool, top: u6
         return nothing();
     }
     let n = coding::wide(s[p + 5]);
-    if items::quick::is_quick(table, set, alone, tag, n, s[from]) {
+    if items::quick::is_quick(glances, set, alone, tag, n, s[from]) {
         let next = from + (n as usize);
         if s.len() < next {
             return nothing();
@@ -62,11 +62,11 @@ pub fn glance(table: &[u32], s: &[u8], p: usize, set: bool, alone: bool, top: u6
 }
 
 // Such a record, if it may begin its level where it does.
-pub fn glance_begun(table: &[u32], s: &[u8], p: usize, set: bool, alone: bool, top: u64) -> Told
-    requires { ⌜ (now table ≡ itemTable) × (length (now s) ≤ 65536) × (p ≤ length (now s)) ⌝ }
+pub fn glance_begun(glances: &[u32], s: &[u8], p: usize, set: bool, alone: bool, top: u64) -> Told
+    requires { ⌜ (now glances ≡ glanceTable) × (length (now s) ≤ 65536) × (p ≤ length (now s)) ⌝ }
     ensures { λ r. ⌜ (0 < r .next → Glanced set (formOf alone) (now (s .entry)) p top (r .tag) (r .next - (p + 6)) × Begun set (formOf alone) p (r .tag)) ⌝ }
 {
-    let g = glance(table, s, p, set, alone, top);
+    let g = glance(glances, s, p, set, alone, top);
     if items::begins(set, alone, g.tag, p == 0) {
         return g;
     }
@@ -75,8 +75,8 @@ pub fn glance_begun(table: &[u32], s: &[u8], p: usize, set: bool, alone: bool, t
 
 // The records of a level told at a glance, one after another; the first may begin it. That is asked once, by the caller, as the compiler would
 // split the loop by it.
-pub fn run(table: &[u32], s: &[u8], set: bool, alone: bool) -> Quick
-    requires { ⌜ (now table ≡ itemTable) × (length (now s) ≤ 65536) × Begun set (formOf alone) 0 (bytesNumber (take 2 (drop 2 (now s)))) ⌝ }
+pub fn run(glances: &[u32], s: &[u8], set: bool, alone: bool) -> Quick
+    requires { ⌜ (now glances ≡ glanceTable) × (length (now s) ≤ 65536) × Begun set (formOf alone) 0 (bytesNumber (take 2 (drop 2 (now s)))) ⌝ }
     ensures { λ r. ⌜ RecordsGoing set (formOf alone) (now (s .entry)) (r .at) (r .sizes) (r .mark) (r .top) (r .low) × (r .at ≡ r .sizes .sheet) ⌝ }
 {
     let mut p: usize = 0;
@@ -84,7 +84,7 @@ pub fn run(table: &[u32], s: &[u8], set: bool, alone: bool) -> Quick
     let mut mark = false;
     let mut top: u64 = 0;
     loop {
-        let g = glance(table, s, p, set, alone, top);
+        let g = glance(glances, s, p, set, alone, top);
         if g.next == 0 {
             let sizes = Sizes {
                 sheet: p,
@@ -124,8 +124,8 @@ pub fn passed(p: usize, rows: usize, normal: usize, top: u64, low: u64) -> Quick
 
 // The targets whose ids have one or two bytes in a packet and rise or fall, whose records are all told at a glance, and whose packs have a
 // byte for their length, one after another, from the series' start.
-pub fn targets(table: &[u32], s: &[u8], alone: bool) -> Quick
-    requires { ⌜ (now table ≡ itemTable) × (length (now s) ≤ 65536) ⌝ }
+pub fn targets(glances: &[u32], s: &[u8], alone: bool) -> Quick
+    requires { ⌜ (now glances ≡ glanceTable) × (length (now s) ≤ 65536) ⌝ }
     ensures { λ r. ⌜ TargetsPassed (formOf alone) (now (s .entry)) r ⌝ }
 {
     let mut p: usize = 0;
@@ -158,7 +158,7 @@ pub fn targets(table: &[u32], s: &[u8], alone: bool) -> Quick
         }
         let from = p + 10;
         let items = &s[from..];
-        let q = run(table, items, false, alone);
+        let q = run(glances, items, false, alone);
         // a target is over at the end, or where another begins
         let next = from + q.at;
         if next < s.len() {

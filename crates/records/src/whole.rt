@@ -6,7 +6,7 @@ ghost use lib.ListN.{length, take, drop};
 ghost use Rattle.format.specs.Coding.{bytesNumber};
 ghost use Rattle.format.specs.Table.{set};
 ghost use Rattle.format.specs.Sheet.{unsheet};
-ghost use Rattle.items.specs.Meet.{formOf, itemTable};
+ghost use Rattle.items.specs.Meet.{formOf, glanceTable};
 ghost use Rattle.walks.specs.Meet.{Within};
 ghost use Rattle.walks.specs.Going.{Begun};
 ghost use Rattle.records.specs.Meet.{recordsWalk, sheetedOf, partsFault};
@@ -20,8 +20,8 @@ use walks::quick::Quick;
 
 // On over the series, if it ends the set and all its targets are told at a glance. It is told to be new: items stand before it, and none has
 // a tag so high.
-fn series(table: &[u32], s: &[u8], alone: bool, q: Quick) -> Quick
-    requires { ⌜ (now table ≡ itemTable) × (length (now s) ≤ 65536) × RecordsGoing true (formOf alone) (now s) (q .at) (q .sizes) (q .mark) (q .top) (q .low) ⌝ }
+fn series(glances: &[u32], s: &[u8], alone: bool, q: Quick) -> Quick
+    requires { ⌜ (now glances ≡ glanceTable) × (length (now s) ≤ 65536) × RecordsGoing true (formOf alone) (now s) (q .at) (q .sizes) (q .mark) (q .top) (q .low) ⌝ }
     ensures { λ r. ⌜ RecordsGoing true (formOf alone) (now (s .entry)) (r .at) (r .sizes) (r .mark) (r .top) (r .low) ⌝ }
 {
     let p = q.at;
@@ -35,7 +35,7 @@ fn series(table: &[u32], s: &[u8], alone: bool, q: Quick) -> Quick
         return q;
     }
     let t = &s[p + 2..];
-    let w = quick::targets(table, t, alone);
+    let w = quick::targets(glances, t, alone);
     if w.at == 0 {
         return q;
     }
@@ -57,27 +57,28 @@ fn starts(s: &[u8], alone: bool) -> bool
 }
 
 // The set from its start, as far as it is told at a glance.
-fn glanced(table: &[u32], s: &[u8], alone: bool) -> Quick
-    requires { ⌜ (now table ≡ itemTable) × (length (now s) ≤ 65536) ⌝ }
+fn glanced(glances: &[u32], s: &[u8], alone: bool) -> Quick
+    requires { ⌜ (now glances ≡ glanceTable) × (length (now s) ≤ 65536) ⌝ }
     ensures { λ r. ⌜ RecordsGoing true (formOf alone) (now (s .entry)) (r .at) (r .sizes) (r .mark) (r .top) (r .low) ⌝ }
 {
     if !starts(s, alone) {
         return quick::passed(0, 0, 0, 0, 0);
     }
-    series(table, s, alone, quick::run(table, s, true, alone))
+    series(glances, s, alone, quick::run(glances, s, true, alone))
 }
 
 // The records of the set. Most sets are passed at a glance, to the end of their series; any other is walked from its start.
-fn set_records(table: &[u32], s: &[u8], alone: bool) -> Walked
-    requires { ⌜ (now table ≡ itemTable) × (length (now s) ≤ 65536) ⌝ }
+fn set_records(glances: &[u32], s: &[u8], alone: bool) -> Walked
+    requires { ⌜ (now glances ≡ glanceTable) × (length (now s) ≤ 65536) ⌝ }
     ensures { λ r. ⌜ (r ≡ recordsWalk set (formOf alone) (now (s .entry))) × Within r (length (now (s .entry))) ⌝ }
 {
-    let q = glanced(table, s, alone);
+    let q = glanced(glances, s, alone);
     if q.at == s.len() {
         return walks::sets::walked(q);
     }
     // lent on as a part, so that the compiler keeps the slice itself in registers
-    super::item_records(table, &s[0..], true, alone)
+    let table = items::table();
+    super::item_records(&table, glances, &s[0..], true, alone)
 }
 
 // ---- the whole
@@ -122,8 +123,8 @@ pub fn check(s: &[u8]) -> Sheeted
         return wrong(17, 0);
     }
     let alone = s[2] == 1;
-    let table = items::table();
-    let w = set_records(&table, &s[3..], alone);
+    let glances = items::quick::glances();
+    let w = set_records(&glances, &s[3..], alone);
     let Walked::Good { sizes, mark: _ } = w else {
         return wrong_parts(w);
     };

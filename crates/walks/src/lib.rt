@@ -6,7 +6,7 @@ ghost use mathlib.Core.List.{List};
 ghost use lib.ListN.{length, drop};
 ghost use lib.Dec.{eqb};
 ghost use Rattle.format.specs.Read.{item};
-ghost use Rattle.items.specs.Meet.{formOf, levelOf, itemTable};
+ghost use Rattle.items.specs.Meet.{formOf, levelOf, itemTable, glanceTable};
 ghost use Rattle.heads.specs.Meet.{peek, Past, Clear};
 ghost use Rattle.walks.specs.Going.{LevelGoing, SeriesGoing};
 ghost use Rattle.walks.specs.Meet.{pieceOf, pieceFault, itemSizes, stopAt, laterBy, seriesFrom, markTag, levelWalk, seriesWalk, Within};
@@ -203,16 +203,30 @@ pub fn series_of(w: Walked, k: usize) -> Walked
 }
 
 // The items of a level, the set or a pack.
-pub fn item_walk(table: &[u32], s: &[u8], set: bool, alone: bool) -> Walked
-    requires { ⌜ (now table ≡ itemTable) × (length (now s) ≤ 8192) ⌝ }
+pub fn item_walk(table: &[u32], glances: &[u32], s: &[u8], set: bool, alone: bool) -> Walked
+    requires { ⌜ (now table ≡ itemTable) × (length (now s) ≤ 8192) × (now glances ≡ glanceTable) ⌝ }
     ensures { λ r. ⌜ (r ≡ levelWalk (levelOf set) (formOf alone) (now (s .entry))) × Within r (length (now (s .entry))) ⌝ }
 {
-    item_rest(table, s, set, alone, quick::run(table, s, set, alone))
+    item_rest(
+        table,
+        glances,
+        s,
+        set,
+        alone,
+        quick::run(glances, s, set, alone),
+    )
 }
 
 // The same, from where a quick way over them ended.
-pub fn item_rest(table: &[u32], s: &[u8], set: bool, alone: bool, from: Quick) -> Walked
-    requires { ⌜ (now table ≡ itemTable) × (length (now s) ≤ 8192) × LevelGoing set (formOf alone) (now s) (from .at) (from .sizes) (from .mark) (from .top) (from .low) ⌝ }
+pub fn item_rest(
+    table: &[u32],
+    glances: &[u32],
+    s: &[u8],
+    set: bool,
+    alone: bool,
+    from: Quick,
+) -> Walked
+    requires { ⌜ (now table ≡ itemTable) × (length (now s) ≤ 8192) × LevelGoing set (formOf alone) (now s) (from .at) (from .sizes) (from .mark) (from .top) (from .low) × (now glances ≡ glanceTable) ⌝ }
     ensures { λ r. ⌜ (r ≡ levelWalk (levelOf set) (formOf alone) (now (s .entry))) × Within r (length (now (s .entry))) ⌝ }
 {
     let q = quick::onward(s, set, alone, from);
@@ -238,7 +252,13 @@ pub fn item_rest(table: &[u32], s: &[u8], set: bool, alone: bool, from: Quick) -
         let w = if is_series(set, tag) {
             let packs = &s[at..next];
             series_of(
-                pack_walk(table, packs, alone, quick::packs(table, packs, alone)),
+                pack_walk(
+                    table,
+                    glances,
+                    packs,
+                    alone,
+                    quick::packs(glances, packs, alone),
+                ),
                 from,
             )
         } else {
@@ -258,8 +278,8 @@ pub fn item_rest(table: &[u32], s: &[u8], set: bool, alone: bool, from: Quick) -
 }
 
 // The packs of a series, from where the quick way over them ended.
-pub fn pack_walk(table: &[u32], s: &[u8], alone: bool, q: Quick) -> Walked
-    requires { ⌜ (now table ≡ itemTable) × (length (now s) ≤ 8192) × SeriesGoing (formOf alone) (now s) (q .at) (q .sizes) (q .top) (q .low) ⌝ }
+pub fn pack_walk(table: &[u32], glances: &[u32], s: &[u8], alone: bool, q: Quick) -> Walked
+    requires { ⌜ (now table ≡ itemTable) × (length (now s) ≤ 8192) × SeriesGoing (formOf alone) (now s) (q .at) (q .sizes) (q .top) (q .low) × (now glances ≡ glanceTable) ⌝ }
     ensures { λ r. ⌜ (r ≡ seriesWalk (formOf alone) (now (s .entry))) × Within r (length (now (s .entry))) ⌝ }
 {
     let mut p = q.at;
@@ -289,10 +309,11 @@ pub fn pack_walk(table: &[u32], s: &[u8], alone: bool, q: Quick) -> Walked
         let items = &s[from..next];
         let w = item_rest(
             table,
+            glances,
             items,
             false,
             alone,
-            quick::run(table, items, false, alone),
+            quick::run(glances, items, false, alone),
         );
         let Walked::Good { sizes, mark } = w else {
             return later(w, from);

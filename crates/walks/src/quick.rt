@@ -4,7 +4,7 @@ ghost use mathlib.Core.Path.{_≡_};
 ghost use mathlib.Core.Bool.{true, false};
 ghost use Prim.Native.Nat.{_+_, _*_, _-_, _≤_, _<_};
 ghost use lib.ListN.{length, getD};
-ghost use Rattle.items.specs.Meet.{formOf, itemTable};
+ghost use Rattle.items.specs.Meet.{formOf, glanceTable};
 ghost use Rattle.walks.specs.Meet.{noSizes, sizes};
 ghost use Rattle.walks.specs.Going.{LevelGoing, SeriesGoing, quickAt, Begun, Glanced, New, Plain};
 use super::Sizes;
@@ -25,8 +25,8 @@ fn span(s: &[u8], set: bool, alone: bool) -> usize
 }
 
 // Where such an item at p ends by its length, its tag above top; 0 where it is no such item.
-fn glance(table: &[u32], s: &[u8], p: usize, most: usize, set: bool, alone: bool, top: u64) -> usize
-    requires { ⌜ (now table ≡ itemTable) × (length (now s) ≤ 8192) × (most ≤ length (now s) - 2) × (0 < most → Begun set (formOf alone) 0 (getD (now s) 0 0)) ⌝ }
+fn glance(glances: &[u32], s: &[u8], p: usize, most: usize, set: bool, alone: bool, top: u64) -> usize
+    requires { ⌜ (now glances ≡ glanceTable) × (length (now s) ≤ 8192) × (most ≤ length (now s) - 2) × (0 < most → Begun set (formOf alone) 0 (getD (now s) 0 0)) ⌝ }
     ensures { λ r. ⌜ (0 < r → Glanced set (formOf alone) (now (s .entry)) p top r) ⌝ }
 {
     if most <= p {
@@ -37,7 +37,7 @@ fn glance(table: &[u32], s: &[u8], p: usize, most: usize, set: bool, alone: bool
         return 0;
     }
     let n = coding::wide(s[p + 1]);
-    if items::quick::is_quick(table, set, alone, tag, n, s[p + 2]) {
+    if items::quick::is_quick(glances, set, alone, tag, n, s[p + 2]) {
         return p + 2 + (n as usize);
     }
     0
@@ -79,8 +79,8 @@ fn nothing() -> Sizes
 }
 
 // The items told at a glance, one after another. If the last goes past the end, which is seen once for all, the walk begins anew.
-pub fn run(table: &[u32], s: &[u8], set: bool, alone: bool) -> Quick
-    requires { ⌜ (now table ≡ itemTable) × (length (now s) ≤ 8192) ⌝ }
+pub fn run(glances: &[u32], s: &[u8], set: bool, alone: bool) -> Quick
+    requires { ⌜ (now glances ≡ glanceTable) × (length (now s) ≤ 8192) ⌝ }
     ensures { λ r. ⌜ LevelGoing set (formOf alone) (now (s .entry)) (r .at) (r .sizes) (r .mark) (r .top) (r .low) × (r .sizes ≡ sizes (4 * (r .sizes .rows) + r .at) (r .sizes .rows) (r .at) 0) ⌝ }
 {
     let most = span(s, set, alone);
@@ -90,7 +90,7 @@ pub fn run(table: &[u32], s: &[u8], set: bool, alone: bool) -> Quick
     let mut mark = false;
     let mut top: u64 = 0;
     loop {
-        let next = glance(table, s, p, most, set, alone, top);
+        let next = glance(glances, s, p, most, set, alone, top);
         if next == 0 {
             if s.len() < p {
                 return stands(0, nothing(), false, 0, low);
@@ -208,8 +208,8 @@ fn passed(p: usize, rows: usize, more: usize, top: u64, low: u64) -> Quick
 
 // The packs whose length has one byte and whose id has one or two, ids rising or falling, and whose items are all told at a glance, one after
 // another, from a series' start. Beside as many bytes as such a pack has, its sheet has four for each row, and five less those of its id.
-pub fn packs(table: &[u32], s: &[u8], alone: bool) -> Quick
-    requires { ⌜ (now table ≡ itemTable) × (length (now s) ≤ 8192) ⌝ }
+pub fn packs(glances: &[u32], s: &[u8], alone: bool) -> Quick
+    requires { ⌜ (now glances ≡ glanceTable) × (length (now s) ≤ 8192) ⌝ }
     ensures { λ r. ⌜ SeriesGoing (formOf alone) (now (s .entry)) (r .at) (r .sizes) (r .top) (r .low) ⌝ }
 {
     let mut p: usize = 0;
@@ -243,7 +243,7 @@ pub fn packs(table: &[u32], s: &[u8], alone: bool) -> Quick
         let from = p + width + used;
         let next = p + width + size;
         let items = &s[from..next];
-        let q = run(table, items, false, alone);
+        let q = run(glances, items, false, alone);
         if q.at != items.len() {
             return passed(p, rows, more, top, low);
         }

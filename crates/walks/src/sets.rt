@@ -4,9 +4,10 @@ ghost use Prim.Native.Nat.{_≤_, _<_};
 ghost use mathlib.Core.Bool.{true};
 ghost use lib.ListN.{length};
 ghost use Rattle.format.specs.Table.{set};
-ghost use Rattle.items.specs.Meet.{formOf, itemTable};
-ghost use Rattle.walks.specs.Meet.{levelWalk, seriesWalk, Within};
-ghost use Rattle.walks.specs.Going.{LevelGoing, HeadIf};
+ghost use Rattle.items.specs.Meet.{formOf, glanceTable};
+ghost use Rattle.walks.specs.Meet.{Small, seriesSizes, plusSizes, levelWalk, seriesWalk, Within};
+ghost use Rattle.walks.specs.Going.{LevelGoing, SeriesGoing, quickAt, HeadIf};
+use super::Sizes;
 use super::Walked;
 use super::quick;
 use super::quick::Quick;
@@ -41,23 +42,28 @@ fn is_series_next(p: usize, top: u64, tag: u64, size: usize) -> bool
     tag == 101
 }
 
-// The packs of a series: as far as they are told at a glance, then one by one.
-fn series_walk(table: &[u32], s: &[u8], alone: bool) -> Walked
-    requires { ⌜ (now table ≡ itemTable) × (length (now s) ≤ 8192) ⌝ }
+// The packs of a series one by one, from where the quick way over them ended.
+fn packs_rest(glances: &[u32], s: &[u8], alone: bool, q: Quick) -> Walked
+    requires { ⌜ (now glances ≡ glanceTable) × (length (now s) ≤ 8192) × SeriesGoing (formOf alone) (now s) (q .at) (q .sizes) (q .top) (q .low) ⌝ }
     ensures { λ r. ⌜ (r ≡ seriesWalk (formOf alone) (now (s .entry))) × Within r (length (now (s .entry))) ⌝ }
 {
-    let q = quick::packs(table, s, alone);
-    if q.at == s.len() {
-        let sizes = q.sizes;
-        return Walked::Good { sizes, mark: false };
-    }
+    let table = items::table();
     // lent on as a part, so that the compiler keeps the slice itself in registers
-    super::pack_walk(table, &s[0..], alone, q)
+    super::pack_walk(&table, glances, &s[0..], alone, q)
+}
+
+// Where the set goes on after its series, whose packs have these sizes.
+fn after_series(q: Quick, next: usize, sizes: Sizes) -> Quick
+    requires { ⌜ Small sizes × Small (q .sizes) × Small (seriesSizes sizes) ⌝ }
+    ensures { λ r. ⌜ (r .low ≤ q .low) × (r .low ≤ 101) × (r ≡ quickAt next (plusSizes (q .sizes) (seriesSizes sizes)) (q .mark) 101 (r .low)) ⌝ }
+{
+    let sum = super::weights::plus(q.sizes, super::weights::series_sizes(sizes));
+    quick::stands(next, sum, q.mark, 101, super::smaller(q.low, 101))
 }
 
 // On over the series, if it stands next. A refusal in it is left to the item walk.
-fn series(table: &[u32], s: &[u8], alone: bool, q: Quick) -> Quick
-    requires { ⌜ (now table ≡ itemTable) × (length (now s) ≤ 8192) × LevelGoing true (formOf alone) (now s) (q .at) (q .sizes) (q .mark) (q .top) (q .low) ⌝ }
+fn series(glances: &[u32], s: &[u8], alone: bool, q: Quick) -> Quick
+    requires { ⌜ (now glances ≡ glanceTable) × (length (now s) ≤ 8192) × LevelGoing true (formOf alone) (now s) (q .at) (q .sizes) (q .mark) (q .top) (q .low) ⌝ }
     ensures { λ r. ⌜ LevelGoing true (formOf alone) (now (s .entry)) (r .at) (r .sizes) (r .mark) (r .top) (r .low) ⌝ }
 {
     let p = q.at;
@@ -76,12 +82,17 @@ fn series(table: &[u32], s: &[u8], alone: bool, q: Quick) -> Quick
     }
     let from = p + used + width;
     let next = from + size;
-    let w = series_walk(table, &s[from..next], alone);
+    let packs = &s[from..next];
+    let d = quick::packs(glances, packs, alone);
+    // no enum goes through memory where all are told at a glance
+    if d.at == packs.len() {
+        return after_series(q, next, d.sizes);
+    }
+    let w = packs_rest(glances, packs, alone, d);
     let Walked::Good { sizes, mark: _ } = w else {
         return q;
     };
-    let sum = super::weights::plus(q.sizes, super::weights::series_sizes(sizes));
-    quick::stands(next, sum, q.mark, 101, super::smaller(q.low, 101))
+    after_series(q, next, sizes)
 }
 
 // Whether a tag and a length are the checksum's, where it may stand, and the tag is told to be new.
@@ -140,26 +151,27 @@ pub fn walked(q: Quick) -> Walked
 }
 
 // The rest of the set, from where the quick way ended: its checksum, or whatever is left, one by one.
-fn set_rest(table: &[u32], s: &[u8], alone: bool, from: Quick) -> Walked
-    requires { ⌜ (now table ≡ itemTable) × (length (now s) ≤ 8192) × LevelGoing true (formOf alone) (now s) (from .at) (from .sizes) (from .mark) (from .top) (from .low) ⌝ }
+fn set_rest(glances: &[u32], s: &[u8], alone: bool, from: Quick) -> Walked
+    requires { ⌜ (now glances ≡ glanceTable) × (length (now s) ≤ 8192) × LevelGoing true (formOf alone) (now s) (from .at) (from .sizes) (from .mark) (from .top) (from .low) ⌝ }
     ensures { λ r. ⌜ (r ≡ levelWalk set (formOf alone) (now (s .entry))) × Within r (length (now (s .entry))) ⌝ }
 {
     let q = seal(s, alone, from);
     if q.at == s.len() {
         return walked(q);
     }
-    super::item_rest(table, s, true, alone, q)
+    let table = items::table();
+    super::item_rest(&table, glances, s, true, alone, q)
 }
 
 // The items of the set. An embedded one often ends with its series.
-pub fn set_walk(table: &[u32], s: &[u8], alone: bool) -> Walked
-    requires { ⌜ (now table ≡ itemTable) × (length (now s) ≤ 8192) ⌝ }
+pub fn set_walk(glances: &[u32], s: &[u8], alone: bool) -> Walked
+    requires { ⌜ (now glances ≡ glanceTable) × (length (now s) ≤ 8192) ⌝ }
     ensures { λ r. ⌜ (r ≡ levelWalk set (formOf alone) (now (s .entry))) × Within r (length (now (s .entry))) ⌝ }
 {
-    let q = series(table, s, alone, quick::run(table, s, true, alone));
+    let q = series(glances, s, alone, quick::run(glances, s, true, alone));
     if q.at == s.len() {
         return walked(q);
     }
     // as a part here too
-    set_rest(table, &s[0..], alone, q)
+    set_rest(glances, &s[0..], alone, q)
 }

@@ -8,7 +8,7 @@ ghost use Rattle.format.specs.Coding.{bytesNumber};
 ghost use Rattle.format.specs.Packet.{checksum};
 ghost use Rattle.format.specs.Table.{standalone};
 ghost use Rattle.format.specs.Read.{opening, start, parse};
-ghost use Rattle.items.specs.Meet.{formOf, itemTable};
+ghost use Rattle.items.specs.Meet.{formOf, glanceTable};
 ghost use Rattle.walks.specs.Meet.{checkedOf, Within};
 ghost use Rattle.walks.specs.Whole.{widthOf, numFault, walkFault, closingBy, fineOf};
 use super::Checked;
@@ -136,8 +136,8 @@ fn wrong_set(w: Walked, k: usize) -> Checked
 }
 
 // The sizes of what a packet says, or the refusal: 1, what opens it, the set, what closes it.
-pub fn check(table: &[u32], s: &[u8], alone: bool) -> Checked
-    requires { ⌜ now table ≡ itemTable ⌝ }
+pub fn check(glances: &[u32], s: &[u8], alone: bool) -> Checked
+    requires { ⌜ now glances ≡ glanceTable ⌝ }
     ensures { λ r. ⌜ r ≡ checkedOf (parse (formOf alone) (now (s .entry))) ⌝ }
 {
     if 8192 < s.len() {
@@ -155,7 +155,7 @@ pub fn check(table: &[u32], s: &[u8], alone: bool) -> Checked
         return wrong_num(a);
     };
     let from = start_of(alone, width);
-    let w = super::sets::set_walk(table, &s[from..], alone);
+    let w = super::sets::set_walk(glances, &s[from..], alone);
     let Walked::Good { sizes, mark } = w else {
         return wrong_set(w, from);
     };

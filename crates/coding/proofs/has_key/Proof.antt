@@ -1,33 +1,32 @@
--- `coding::has_key` meets its contract: after i bytes, the whole comparison is the one from here.
+-- `coding::has_key` meets its contract: after i bytes, the whole comparison is that of those and the one from here.
 use Prim.Native.Nat.{_-_}
 use native.Mathlib.Omega.{arith}
 use borrow.Author.Needs.{needs}
 use Rattle.format.specs.Packet.{theKey}
-use Rattle.coding.proofs.TheKey.{KeyLeft, key-start, key-cut, key-differs, key-more, key-done}
+use Rattle.coding.proofs.TheKey.{KeyLeft, key-start, key-short, key-more, key-done}
 use Rattle.coding.proofs.has_key.Statement.{statement}
 use Rattle.coding.proofs.has_key.Tie as tie
 
 abbrev Inv-loop : tie.InvT-loop
-Inv-loop s i₀ i = KeyLeft s i
+Inv-loop s alike₀ i₀ alike i = KeyLeft s i alike
 
 abbrev μ-loop : tie.MeasureT-loop
-μ-loop s i₀ i = 16 - i
+μ-loop s alike₀ i₀ alike i = 16 - i
+
+returns : tie.Need-returns Inv-loop μ-loop
+returns c = key-short (c .before .before .args .s .now) (omega arith)
 
 loop-holds : tie.Need-loop-holds Inv-loop μ-loop
 loop-holds c = key-start _
 
-returns : tie.Need-returns Inv-loop μ-loop
-returns c = key-cut _ _ (c .before .before .loop .inv) (omega arith) (omega arith)
+shared-slice-read-both : tie.Need-shared-slice-read-both Inv-loop μ-loop
+shared-slice-read-both c = search needs
 
-shared-slice-read-if2 : tie.Need-shared-slice-read-if2 Inv-loop μ-loop
-shared-slice-read-if2 c = search needs
+array-read-both : tie.Need-array-read-both Inv-loop μ-loop
+array-read-both c = search needs
 
-array-read-if2 : tie.Need-array-read-if2 Inv-loop μ-loop
-array-read-if2 c = search needs
-
-returns-2 : tie.Need-returns-2 Inv-loop μ-loop
-unfolding theKey
-returns-2 c = key-differs _ _ (c .before .before .before .before .loop .inv) (omega arith) (omega arith) (c .if2 .taken)
+both-requires : tie.Need-both-requires Inv-loop μ-loop
+both-requires c κs = search needs
 
 add-i : tie.Need-add-i Inv-loop μ-loop
 add-i c = search needs
@@ -37,10 +36,10 @@ loop-less c = search needs
 
 loop-again : tie.Need-loop-again Inv-loop μ-loop
 unfolding theKey
-loop-again c = key-more _ _ (c .before .before .before .before .loop .inv) (omega arith) (omega arith) (c .if2 .left)
+loop-again c = rw (c .both .ensures) (key-more _ _ _ (c .before .before .before .loop .inv) (omega arith) (omega arith))
 
-returns-3 : tie.Need-returns-3 Inv-loop μ-loop
-returns-3 c = key-done _ _ (c .before .loop .inv) (omega arith)
+returns-2 : tie.Need-returns-2 Inv-loop μ-loop
+returns-2 c = key-done _ _ _ (c .before .loop .inv) (omega arith)
 
 pub has-key-spec : {M : Type 1} → statement M
 has-key-spec =
@@ -48,12 +47,12 @@ has-key-spec =
     (tie.spec
     Inv-loop
     μ-loop
-    loop-holds
     returns
-    shared-slice-read-if2
-    array-read-if2
-    returns-2
+    loop-holds
+    shared-slice-read-both
+    array-read-both
+    both-requires
     add-i
     loop-less
     loop-again
-    returns-3)
+    returns-2)

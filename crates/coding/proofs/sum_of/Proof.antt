@@ -1,4 +1,5 @@
--- `coding::sum_of` meets its contract: after i bytes, an even count, high and low are what they add up to; the last byte of an odd count stands alone.
+-- `coding::sum_of` meets its contract: after i bytes, an even count, the two sums are what they add up to; the last byte of an odd count stands alone.
+use mathlib.Core.Path.{refl}
 use Prim.Native.Nat.{_-_}
 use native.Mathlib.Omega.{arith}
 use borrow.Author.Needs.{needs}
@@ -7,10 +8,10 @@ use Rattle.coding.proofs.sum_of.Statement.{statement}
 use Rattle.coding.proofs.sum_of.Tie as tie
 
 abbrev Inv-loop : tie.InvT-loop
-Inv-loop s n high₀ low₀ i₀ high low i = SumLeft s n high low i
+Inv-loop s n pairs₀ odd₀ i₀ pairs odd i = SumLeft s n pairs odd i
 
 abbrev μ-loop : tie.MeasureT-loop
-μ-loop s n high₀ low₀ i₀ high low i = n - i
+μ-loop s n pairs₀ odd₀ i₀ pairs odd i = n - i
 
 loop-holds : tie.Need-loop-holds Inv-loop μ-loop
 loop-holds c = sum-start _ _
@@ -18,26 +19,23 @@ loop-holds c = sum-start _ _
 add-loop : tie.Need-add-loop Inv-loop μ-loop
 add-loop c = search needs
 
-shared-slice-read-wide32 : tie.Need-shared-slice-read-wide32 Inv-loop μ-loop
-shared-slice-read-wide32 c = search needs
+shared-slice-read-pair-of : tie.Need-shared-slice-read-pair-of Inv-loop μ-loop
+shared-slice-read-pair-of c = search needs
 
-wide32-requires : tie.Need-wide32-requires Inv-loop μ-loop
-wide32-requires c κs = search needs
+add-pair-of : tie.Need-add-pair-of Inv-loop μ-loop
+add-pair-of c = search needs
 
-add-high : tie.Need-add-high Inv-loop μ-loop
-add-high c = search needs
+shared-slice-read-pair-of-2 : tie.Need-shared-slice-read-pair-of-2 Inv-loop μ-loop
+shared-slice-read-pair-of-2 c = search needs
 
-add-wide32 : tie.Need-add-wide32 Inv-loop μ-loop
-add-wide32 c = search needs
+pair-of-requires : tie.Need-pair-of-requires Inv-loop μ-loop
+pair-of-requires c κs = search needs
 
-shared-slice-read-wide32-2 : tie.Need-shared-slice-read-wide32-2 Inv-loop μ-loop
-shared-slice-read-wide32-2 c = search needs
+wrapping-add-u16-requires : tie.Need-wrapping-add-u16-requires Inv-loop μ-loop
+wrapping-add-u16-requires c κs = search needs
 
-wide32-requires-2 : tie.Need-wide32-requires-2 Inv-loop μ-loop
-wide32-requires-2 c κs = search needs
-
-add-low : tie.Need-add-low Inv-loop μ-loop
-add-low c = search needs
+wrapping-add-u16-requires-2 : tie.Need-wrapping-add-u16-requires-2 Inv-loop μ-loop
+wrapping-add-u16-requires-2 c κs = search needs
 
 add-i : tie.Need-add-i Inv-loop μ-loop
 add-i c = search needs
@@ -46,11 +44,7 @@ loop-less : tie.Need-loop-less Inv-loop μ-loop
 loop-less c = search needs
 
 loop-again : tie.Need-loop-again Inv-loop μ-loop
-loop-again c =
-    let l = c .before .before .before .before .before .loop .inv in
-    let a = c .before .before .wide32 .ensures in
-    let b = c .wide322 .ensures in
-    sum-more _ _ _ _ _ l (omega arith) (omega arith) _ _ (a .0) (b .0) (a .1) (b .1)
+loop-again c = let w = c .before .before .pair-of .ensures in sum-more _ _ _ _ _ (c .before .before .before .before .before .before .loop .inv) (omega arith) (omega arith) _ _ _ _ _ refl refl (w .1) (w .0) (c .before .wrapping-add-u16 .ensures) (c .wrapping-add-u162 .ensures)
 
 cast-t : tie.Need-cast-t Inv-loop μ-loop
 cast-t c = search needs
@@ -90,13 +84,12 @@ sum-of-spec =
     μ-loop
     loop-holds
     add-loop
-    shared-slice-read-wide32
-    wide32-requires
-    add-high
-    add-wide32
-    shared-slice-read-wide32-2
-    wide32-requires-2
-    add-low
+    shared-slice-read-pair-of
+    add-pair-of
+    shared-slice-read-pair-of-2
+    pair-of-requires
+    wrapping-add-u16-requires
+    wrapping-add-u16-requires-2
     add-i
     loop-less
     loop-again

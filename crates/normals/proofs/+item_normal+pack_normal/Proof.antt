@@ -30,23 +30,23 @@ use Rattle.normals.proofs.+item_normal+pack_normal.{statement}
 use Rattle.normals.proofs.+item_normal+pack_normal.Tie.{close}
 
 -- the item walk of the set calls the pack walk, and that the item walk of a pack
-abbrev μ-item-normal : Measures 3 item-normal-kinds.ps ℕ
-μ-item-normal κs a = depth (a .1 .1 .0)
+abbrev μ-item-normal : Measures 4 item-normal-kinds.ps ℕ
+μ-item-normal κs a = depth (a .1 .1 .1 .0)
 
-abbrev μ-pack-normal : Measures 3 pack-normal-kinds.ps ℕ
+abbrev μ-pack-normal : Measures 4 pack-normal-kinds.ps ℕ
 μ-pack-normal κs a = 1
 
-abbrev item-normal-at : ℕ → In 3 item-normal-kinds.ps
-item-normal-at t = and 3 item-normal-kinds.ps (is 3 item-normal-kinds.ps μ-item-normal t) item-normal.Pre
+abbrev item-normal-at : ℕ → In 4 item-normal-kinds.ps
+item-normal-at t = and 4 item-normal-kinds.ps (is 4 item-normal-kinds.ps μ-item-normal t) item-normal.Pre
 
-abbrev item-normal-below : ℕ → In 3 item-normal-kinds.ps
-item-normal-below t = and 3 item-normal-kinds.ps (falls 3 item-normal-kinds.ps _<_ μ-item-normal t) item-normal.Pre
+abbrev item-normal-below : ℕ → In 4 item-normal-kinds.ps
+item-normal-below t = and 4 item-normal-kinds.ps (falls 4 item-normal-kinds.ps _<_ μ-item-normal t) item-normal.Pre
 
-abbrev pack-normal-at : ℕ → In 3 pack-normal-kinds.ps
-pack-normal-at t = and 3 pack-normal-kinds.ps (is 3 pack-normal-kinds.ps μ-pack-normal t) pack-normal.Pre
+abbrev pack-normal-at : ℕ → In 4 pack-normal-kinds.ps
+pack-normal-at t = and 4 pack-normal-kinds.ps (is 4 pack-normal-kinds.ps μ-pack-normal t) pack-normal.Pre
 
-abbrev pack-normal-below : ℕ → In 3 pack-normal-kinds.ps
-pack-normal-below t = and 3 pack-normal-kinds.ps (falls 3 pack-normal-kinds.ps _<_ μ-pack-normal t) pack-normal.Pre
+abbrev pack-normal-below : ℕ → In 4 pack-normal-kinds.ps
+pack-normal-below t = and 4 pack-normal-kinds.ps (falls 4 pack-normal-kinds.ps _<_ μ-pack-normal t) pack-normal.Pre
 
 -- what is known of the callees, the other walk's at a smaller measure
 abbrev item-claims : ℕ → item-normal-lts.Claims
@@ -58,14 +58,14 @@ pack-claims t = (quick-pack-head-reads.Asked, quick-pack-head-reads.Learnt, item
 -- ---- the item walk
 
 abbrev item-normal-Inv-loop : item-normal-lts.InvT-loop
-item-normal-Inv-loop table s set alone inner out₀ p₀ k₀ out p k = LevelNormals inner set (formOf alone) s out₀ out p k
+item-normal-Inv-loop table glances s set alone inner out₀ p₀ k₀ out p k = LevelNormals inner set (formOf alone) s out₀ out p k
 
 abbrev item-normal-μ-loop : item-normal-lts.MeasureT-loop
-item-normal-μ-loop table s set alone inner out₀ p₀ k₀ out p k = length s - p
+item-normal-μ-loop table glances s set alone inner out₀ p₀ k₀ out p k = length s - p
 
 -- the entry at the head that was read
 item-here : (t : ℕ) (a : item-normal-lts.After-h (item-claims t) (item-normal-at t) item-normal.Post item-normal-Inv-loop item-normal-μ-loop)
-    → NormalEntry (a .before .before .before .before .before .before .before .before .before .args .inner) (a .before .before .before .before .before .before .before .before .before .args .set) (formOf (a .before .before .before .before .before .before .before .before .before .args .alone)) (a .before .before .before .before .before .before .before .before .before .args .s .now) (a .before .before .before .before .before .before .before .before .before .args .out .now)
+    → NormalEntry (a .before .before .before .before .before .before .before .before .before .before .args .inner) (a .before .before .before .before .before .before .before .before .before .before .args .set) (formOf (a .before .before .before .before .before .before .before .before .before .before .args .alone)) (a .before .before .before .before .before .before .before .before .before .before .args .s .now) (a .before .before .before .before .before .before .before .before .before .before .args .out .now)
     (a .before .before .before .before .before .loop .out) (a .before .before .before .before .before .loop .p) (a .before .before .before .before .before .loop .k) (a .h .given .0 .0) (a .h .given .0 .1 .0) (a .h .given .0 .1 .1 .0) (a .h .given .0 .1 .1 .1 .0)
 item-here t a = record {
   is = record {
@@ -74,15 +74,15 @@ item-here t a = record {
     head = _;
     reads = a .before .before .item-head .ensures;
     whole = a .h .given .1;
-    bytes = λ i. a .before .before .before .before .before .before .before .shared-slice-known2 .given i .fits;
-    most = a .before .before .before .before .before .before .before .before .before .pre .1 .1 .0;
-    room = level-room (a .before .before .before .before .before .before .before .before .before .args .inner) (a .before .before .before .before .before .before .before .before .before .args .set) (formOf (a .before .before .before .before .before .before .before .before .before .args .alone)) (a .before .before .before .before .before .before .before .before .before .args .s .now) (a .before .before .before .before .before .before .before .before .before .args .out .now) (a .before .before .before .before .before .before .before .before .before .pre .1 .1 .3) (a .before .before .before .before .before .before .before .before .before .pre .1 .1 .4);
+    bytes = λ i. a .before .before .before .before .before .before .before .shared-slice-known3 .given i .fits;
+    most = a .before .before .before .before .before .before .before .before .before .before .pre .1 .1 .0;
+    room = level-room (a .before .before .before .before .before .before .before .before .before .before .args .inner) (a .before .before .before .before .before .before .before .before .before .before .args .set) (formOf (a .before .before .before .before .before .before .before .before .before .before .args .alone)) (a .before .before .before .before .before .before .before .before .before .before .args .s .now) (a .before .before .before .before .before .before .before .before .before .before .args .out .now) (a .before .before .before .before .before .before .before .before .before .before .pre .1 .1 .3) (a .before .before .before .before .before .before .before .before .before .before .pre .1 .1 .4);
   };
-  few = a .before .before .before .before .before .before .before .before .before .pre .1 .1 .2;
+  few = a .before .before .before .before .before .before .before .before .before .before .pre .1 .1 .2;
 }
 
 item-normal-loop-holds : (t : ℕ) → item-normal-lts.Need-loop-holds (item-claims t) (item-normal-at t) item-normal.Post item-normal-Inv-loop item-normal-μ-loop
-item-normal-loop-holds t c = level-begins _ _ _ _ _ (c .before .before .before .pre .1 .1 .1)
+item-normal-loop-holds t c = level-begins _ _ _ _ _ (c .before .before .before .before .pre .1 .1 .1)
 
 item-normal-sub-item-head : (t : ℕ) → item-normal-lts.Need-sub-item-head (item-claims t) (item-normal-at t) item-normal.Post item-normal-Inv-loop item-normal-μ-loop
 item-normal-sub-item-head t c = search needs
@@ -142,10 +142,10 @@ item-normal-part-pack-normal-end-2 : (t : ℕ) → item-normal-lts.Need-part-pac
 item-normal-part-pack-normal-end-2 t c = search needs
 
 item-normal-pack-normal-requires : (t : ℕ) → item-normal-lts.Need-pack-normal-requires (item-claims t) (item-normal-at t) item-normal.Post item-normal-Inv-loop item-normal-μ-loop
-item-normal-pack-normal-requires t c κs = (omega (arith, series-deep (c .before .before .before .before .before .before .before .before .before .before .before .before .before .before .before .before .before .before .args .set) (c .before .before .before .before .before .before .before .before .before .h .given .0 .0) (c .before .before .before .before .before .before .before .is-series .ensures) (c .before .before .before .before .before .before .if1 .taken), c .before .before .before .before .before .before .before .before .before .before .before .before .before .before .before .before .before .before .pre .0), (c .before .before .before .before .before .before .before .before .before .before .before .before .before .before .before .before .before .before .pre .1 .0, series-asked (item-here t (c .before .before .before .before .before .before .before .before .before)) (c .before .before .before .before .before .before .before .is-series .ensures) (c .before .before .before .before .before .before .if1 .taken) (c .before .before .before .before .put-series .ensures)))
+item-normal-pack-normal-requires t c κs = (omega (arith, series-deep (c .before .before .before .before .before .before .before .before .before .before .before .before .before .before .before .before .before .before .before .args .set) (c .before .before .before .before .before .before .before .before .before .h .given .0 .0) (c .before .before .before .before .before .before .before .is-series .ensures) (c .before .before .before .before .before .before .if1 .taken), c .before .before .before .before .before .before .before .before .before .before .before .before .before .before .before .before .before .before .before .pre .0), (c .before .before .before .before .before .before .before .before .before .before .before .before .before .before .before .before .before .before .before .pre .1 .0, series-asked (item-here t (c .before .before .before .before .before .before .before .before .before)) (c .before .before .before .before .before .before .before .is-series .ensures) (c .before .before .before .before .before .before .if1 .taken) (c .before .before .before .before .put-series .ensures), c .before .before .before .before .before .before .before .before .before .before .before .before .before .before .before .before .before .before .before .pre .1 .2))
 
 item-normal-add-k : (t : ℕ) → item-normal-lts.Need-add-k (item-claims t) (item-normal-at t) item-normal.Post item-normal-Inv-loop item-normal-μ-loop
-item-normal-add-k t c = omega (arith, series-more (item-here t (c .before .before .before .before .before .before .before .before .before .before .before .before)) (c .before .before .before .before .before .before .before .before .before .before .is-series .ensures) (c .before .before .before .before .before .before .before .before .before .if1 .taken) (c .before .before .before .before .before .before .before .put-series .ensures) (c .before .before .pack-normal .ensures) .writes .sum, item-here t (c .before .before .before .before .before .before .before .before .before .before .before .before) .is .room, c .before .before .before .before .before .before .before .before .before .before .before .before .before .before .before .before .before .before .before .before .before .good)
+item-normal-add-k t c = omega (arith, series-more (item-here t (c .before .before .before .before .before .before .before .before .before .before .before .before)) (c .before .before .before .before .before .before .before .before .before .before .is-series .ensures) (c .before .before .before .before .before .before .before .before .before .if1 .taken) (c .before .before .before .before .before .before .before .put-series .ensures) (c .before .before .pack-normal .ensures) .writes .sum, item-here t (c .before .before .before .before .before .before .before .before .before .before .before .before) .is .room, c .before .before .before .before .before .before .before .before .before .before .before .before .before .before .before .before .before .before .before .before .before .before .good)
 
 item-normal-sub-put-normal : (t : ℕ) → item-normal-lts.Need-sub-put-normal (item-claims t) (item-normal-at t) item-normal.Post item-normal-Inv-loop item-normal-μ-loop
 item-normal-sub-put-normal t c = omega (arith, entry-room (item-here t (c .before .before .before .before) .is))
@@ -157,7 +157,7 @@ item-normal-part-put-normal-end : (t : ℕ) → item-normal-lts.Need-part-put-no
 item-normal-part-put-normal-end t c = omega (arith, entry-room (item-here t (c .before .before .before .before) .is))
 
 item-normal-put-normal-requires : (t : ℕ) → item-normal-lts.Need-put-normal-requires (item-claims t) (item-normal-at t) item-normal.Post item-normal-Inv-loop item-normal-μ-loop
-item-normal-put-normal-requires t c κs = (c .before .before .before .before .before .before .before .before .before .before .before .before .before .before .pre .1 .0, one-asked (item-here t (c .before .before .before .before .before)) (c .before .before .before .is-series .ensures) (c .before .before .if1 .left))
+item-normal-put-normal-requires t c κs = (c .before .before .before .before .before .before .before .before .before .before .before .before .before .before .before .pre .1 .0, one-asked (item-here t (c .before .before .before .before .before)) (c .before .before .before .is-series .ensures) (c .before .before .if1 .left))
 
 item-normal-loop-less : (t : ℕ) → item-normal-lts.Need-loop-less (item-claims t) (item-normal-at t) item-normal.Post item-normal-Inv-loop item-normal-μ-loop
 item-normal-loop-less t c = omega (arith, entry-room (item-here t (c .before .before .before .before .before .before .before .before .before .before .before .before) .is))
@@ -175,19 +175,19 @@ item-normal-same-length-2 : (t : ℕ) → item-normal-lts.Need-same-length-2 (it
 item-normal-same-length-2 t c = c .before .loop .inv .writes .same
 
 item-normal-returns-2 : (t : ℕ) → item-normal-lts.Need-returns-2 (item-claims t) (item-normal-at t) item-normal.Post item-normal-Inv-loop item-normal-μ-loop
-item-normal-returns-2 t c = level-ends _ _ _ _ _ (c .before .before .before .before .before .pre .1 .1 .3) (c .before .loop .inv) (c .loop-test .left)
+item-normal-returns-2 t c = level-ends _ _ _ _ _ (c .before .before .before .before .before .before .pre .1 .1 .3) (c .before .loop .inv) (c .loop-test .left)
 
 -- ---- the pack walk
 
 abbrev pack-normal-Inv-loop : pack-normal-lts.InvT-loop
-pack-normal-Inv-loop table s alone out₀ p₀ k₀ out p k = SeriesNormals (formOf alone) s out₀ out p k
+pack-normal-Inv-loop table glances s alone out₀ p₀ k₀ out p k = SeriesNormals (formOf alone) s out₀ out p k
 
 abbrev pack-normal-μ-loop : pack-normal-lts.MeasureT-loop
-pack-normal-μ-loop table s alone out₀ p₀ k₀ out p k = length s - p
+pack-normal-μ-loop table glances s alone out₀ p₀ k₀ out p k = length s - p
 
 -- the pack at the head that was read
 pack-at : (t : ℕ) (a : pack-normal-lts.After-h (pack-claims t) (pack-normal-at t) pack-normal.Post pack-normal-Inv-loop pack-normal-μ-loop)
-    → NormalPack (formOf (a .before .before .before .before .before .before .before .before .before .args .alone)) (a .before .before .before .before .before .before .before .before .before .args .s .now) (a .before .before .before .before .before .before .before .before .before .args .out .now)
+    → NormalPack (formOf (a .before .before .before .before .before .before .before .before .before .before .args .alone)) (a .before .before .before .before .before .before .before .before .before .before .args .s .now) (a .before .before .before .before .before .before .before .before .before .before .args .out .now)
     (a .before .before .before .before .before .loop .out) (a .before .before .before .before .before .loop .p) (a .before .before .before .before .before .loop .k) (a .h .given .0 .0) (a .h .given .0 .1 .0) (a .h .given .0 .1 .1 .0) (a .h .given .0 .1 .1 .1 .0)
 pack-at t a = record {
   going = a .before .before .before .before .before .loop .inv;
@@ -195,13 +195,13 @@ pack-at t a = record {
   head = _;
   reads = a .before .before .quick-pack-head .ensures;
   whole = a .h .given .1;
-  bytes = λ i. a .before .before .before .before .before .before .before .shared-slice-known2 .given i .fits;
-  most = a .before .before .before .before .before .before .before .before .before .pre .1 .1 .0;
-  room = a .before .before .before .before .before .before .before .before .before .pre .1 .1 .2;
+  bytes = λ i. a .before .before .before .before .before .before .before .shared-slice-known3 .given i .fits;
+  most = a .before .before .before .before .before .before .before .before .before .before .pre .1 .1 .0;
+  room = a .before .before .before .before .before .before .before .before .before .before .pre .1 .1 .2;
 }
 
 pack-normal-loop-holds : (t : ℕ) → pack-normal-lts.Need-loop-holds (pack-claims t) (pack-normal-at t) pack-normal.Post pack-normal-Inv-loop pack-normal-μ-loop
-pack-normal-loop-holds t c = series-start (each packNormal) _ tt _ _ (c .before .before .before .pre .1 .1 .1)
+pack-normal-loop-holds t c = series-start (each packNormal) _ tt _ _ (c .before .before .before .before .pre .1 .1 .1)
 
 pack-normal-sub-quick-pack-head : (t : ℕ) → pack-normal-lts.Need-sub-quick-pack-head (pack-claims t) (pack-normal-at t) pack-normal.Post pack-normal-Inv-loop pack-normal-μ-loop
 pack-normal-sub-quick-pack-head t c = search needs
@@ -249,7 +249,7 @@ pack-normal-part-item-walk-end : (t : ℕ) → pack-normal-lts.Need-part-item-wa
 pack-normal-part-item-walk-end t c = omega (arith, pack-room (pack-at t (c .before)))
 
 pack-normal-item-walk-requires : (t : ℕ) → pack-normal-lts.Need-item-walk-requires (pack-claims t) (pack-normal-at t) pack-normal.Post pack-normal-Inv-loop pack-normal-μ-loop
-pack-normal-item-walk-requires t c κs = (c .before .before .before .before .before .before .before .before .before .before .before .pre .1 .0, items-asked (pack-at t (c .before .before)) .0)
+pack-normal-item-walk-requires t c κs = (c .before .before .before .before .before .before .before .before .before .before .before .before .pre .1 .0, items-asked (pack-at t (c .before .before)) .0, c .before .before .before .before .before .before .before .before .before .before .before .before .pre .1 .2)
 
 pack-normal-enum-known-w : (t : ℕ) → pack-normal-lts.Need-enum-known-w (pack-claims t) (pack-normal-at t) pack-normal.Post pack-normal-Inv-loop pack-normal-μ-loop
 pack-normal-enum-known-w t c = search needs
@@ -300,10 +300,10 @@ pack-normal-part-item-normal-end-2 : (t : ℕ) → pack-normal-lts.Need-part-ite
 pack-normal-part-item-normal-end-2 t c = search needs
 
 pack-normal-item-normal-requires : (t : ℕ) → pack-normal-lts.Need-item-normal-requires (pack-claims t) (pack-normal-at t) pack-normal.Post pack-normal-Inv-loop pack-normal-μ-loop
-pack-normal-item-normal-requires t c κs = (omega (arith, c .before .before .before .before .before .before .before .before .before .before .before .before .before .before .before .before .before .before .before .before .before .before .before .pre .0), (c .before .before .before .before .before .before .before .before .before .before .before .before .before .before .before .before .before .before .before .before .before .before .before .pre .1 .0, level-asked (pack-at t (c .before .before .before .before .before .before .before .before .before .before .before .before .before .before)) (c .before .before .before .before .before .before .before .before .before .before .before .item-walk .ensures) (c .before .before .before .before .before .before .before .before .before .w .given .1) (c .before .before .before .before .before .put-pack .ensures)))
+pack-normal-item-normal-requires t c κs = (omega (arith, c .before .before .before .before .before .before .before .before .before .before .before .before .before .before .before .before .before .before .before .before .before .before .before .before .pre .0), (c .before .before .before .before .before .before .before .before .before .before .before .before .before .before .before .before .before .before .before .before .before .before .before .before .pre .1 .0, level-asked (pack-at t (c .before .before .before .before .before .before .before .before .before .before .before .before .before .before)) (c .before .before .before .before .before .before .before .before .before .before .before .item-walk .ensures) (c .before .before .before .before .before .before .before .before .before .w .given .1) (c .before .before .before .before .before .put-pack .ensures), c .before .before .before .before .before .before .before .before .before .before .before .before .before .before .before .before .before .before .before .before .before .before .before .before .pre .1 .2))
 
 pack-normal-add-k : (t : ℕ) → pack-normal-lts.Need-add-k (pack-claims t) (pack-normal-at t) pack-normal.Post pack-normal-Inv-loop pack-normal-μ-loop
-pack-normal-add-k t c = omega (arith, items-more (pack-at t (c .before .before .before .before .before .before .before .before .before .before .before .before .before .before .before .before .before)) (c .before .before .before .before .before .before .before .before .before .before .before .before .before .before .item-walk .ensures) (c .before .before .before .before .before .before .before .before .before .before .before .before .w .given .1) (c .before .before .before .before .before .before .before .before .put-pack .ensures) (c .before .before .item-normal .ensures) .writes .sum, pack-at t (c .before .before .before .before .before .before .before .before .before .before .before .before .before .before .before .before .before) .room, c .before .before .before .before .before .before .before .before .before .before .before .before .before .before .before .before .before .before .before .before .before .before .before .before .before .before .good)
+pack-normal-add-k t c = omega (arith, items-more (pack-at t (c .before .before .before .before .before .before .before .before .before .before .before .before .before .before .before .before .before)) (c .before .before .before .before .before .before .before .before .before .before .before .before .before .before .item-walk .ensures) (c .before .before .before .before .before .before .before .before .before .before .before .before .w .given .1) (c .before .before .before .before .before .before .before .before .put-pack .ensures) (c .before .before .item-normal .ensures) .writes .sum, pack-at t (c .before .before .before .before .before .before .before .before .before .before .before .before .before .before .before .before .before) .room, c .before .before .before .before .before .before .before .before .before .before .before .before .before .before .before .before .before .before .before .before .before .before .before .before .before .before .before .good)
 
 pack-normal-loop-less : (t : ℕ) → pack-normal-lts.Need-loop-less (pack-claims t) (pack-normal-at t) pack-normal.Post pack-normal-Inv-loop pack-normal-μ-loop
 pack-normal-loop-less t c = omega (arith, pack-room (pack-at t (c .before .before .before .before .before .before .before .before .before .before .before .before .before .before .before .before .before)))

@@ -53,38 +53,38 @@ use Rattle.records.proofs.+item_records+target_records.{statement}
 use Rattle.records.proofs.+item_records+target_records.Tie.{close}
 
 -- the records of the set call the targets, and those the records of a target
-abbrev μ-item-records : Measures 2 item-records-kinds.ps ℕ
-μ-item-records κs a = depth (a .1 .1 .0)
+abbrev μ-item-records : Measures 3 item-records-kinds.ps ℕ
+μ-item-records κs a = depth (a .1 .1 .1 .0)
 
-abbrev μ-target-records : Measures 2 target-records-kinds.ps ℕ
+abbrev μ-target-records : Measures 3 target-records-kinds.ps ℕ
 μ-target-records κs a = 1
 
-abbrev item-records-at : ℕ → In 2 item-records-kinds.ps
+abbrev item-records-at : ℕ → In 3 item-records-kinds.ps
 item-records-at t =
-    and 2 item-records-kinds.ps (is 2 item-records-kinds.ps μ-item-records t) item-records.Pre
+    and 3 item-records-kinds.ps (is 3 item-records-kinds.ps μ-item-records t) item-records.Pre
 
-abbrev item-records-below : ℕ → In 2 item-records-kinds.ps
+abbrev item-records-below : ℕ → In 3 item-records-kinds.ps
 item-records-below t =
     and
-    2
+    3
     item-records-kinds.ps
-    (falls 2 item-records-kinds.ps _<_ μ-item-records t)
+    (falls 3 item-records-kinds.ps _<_ μ-item-records t)
     item-records.Pre
 
-abbrev target-records-at : ℕ → In 2 target-records-kinds.ps
+abbrev target-records-at : ℕ → In 3 target-records-kinds.ps
 target-records-at t =
     and
-    2
+    3
     target-records-kinds.ps
-    (is 2 target-records-kinds.ps μ-target-records t)
+    (is 3 target-records-kinds.ps μ-target-records t)
     target-records.Pre
 
-abbrev target-records-below : ℕ → In 2 target-records-kinds.ps
+abbrev target-records-below : ℕ → In 3 target-records-kinds.ps
 target-records-below t =
     and
-    2
+    3
     target-records-kinds.ps
-    (falls 2 target-records-kinds.ps _<_ μ-target-records t)
+    (falls 3 target-records-kinds.ps _<_ μ-target-records t)
     target-records.Pre
 
 -- what is known of the callees, the other walk's at a smaller measure
@@ -95,14 +95,14 @@ abbrev target-claims : ℕ → target-records-lts.Claims
 target-claims t = (targets-reads.Asked, targets-reads.Learnt, is-mark-reads.Asked, is-mark-reads.Learnt, target-at-reads.Asked, target-at-reads.Learnt, stop-reads.Asked, stop-reads.Learnt, run-reads.Asked, run-reads.Learnt, goes-on-reads.Asked, goes-on-reads.Learnt, item-records-below t, item-records.Post, later-reads.Asked, later-reads.Learnt, either-reads.Asked, either-reads.Learnt, oid-width-reads.Asked, oid-width-reads.Learnt, pack-sizes-reads.Asked, pack-sizes-reads.Learnt, plus-reads.Asked, plus-reads.Learnt, after-reads.Asked, after-reads.Learnt, higher-reads.Asked, higher-reads.Learnt, smaller-reads.Asked, smaller-reads.Learnt)
 
 abbrev item-records-Inv-loop : item-records-lts.InvT-loop
-item-records-Inv-loop table s set alone p₀ sum₀ mark₀ top₀ low₀ clear₀ p sum mark top low clear = RecordsGoing set (formOf alone) s p sum mark top low × Clear (peek true false set) s clear
+item-records-Inv-loop table glances s set alone p₀ sum₀ mark₀ top₀ low₀ clear₀ p sum mark top low clear = RecordsGoing set (formOf alone) s p sum mark top low × Clear (peek true false set) s clear
 
 abbrev item-records-μ-loop : item-records-lts.MeasureT-loop
-item-records-μ-loop table s set alone p₀ sum₀ mark₀ top₀ low₀ clear₀ p sum mark top low clear = length s - p
+item-records-μ-loop table glances s set alone p₀ sum₀ mark₀ top₀ low₀ clear₀ p sum mark top low clear = length s - p
 
 -- a record, where it was read
 part-here : (t : ℕ) (a : item-records-lts.After-a (item-claims t) (item-records-at t) item-records.Post item-records-Inv-loop item-records-μ-loop)
-    → PartAt (a .before .before .before .before .before .before .before .before .before .args .set) (formOf (a .before .before .before .before .before .before .before .before .before .args .alone)) (a .before .before .before .before .before .before .before .before .before .args .s .now) (a .before .before .before .before .before .before .loop .p) (a .before .before .before .before .before .before .loop .sum) (a .before .before .before .before .before .before .loop .mark) (a .before .before .before .before .before .before .loop .top) (a .before .before .before .before .before .before .loop .low) (a .a .given .0 .0) (a .a .given .0 .1 .0) (a .a .given .0 .1 .1 .0) (a .a .given .0 .1 .1 .1 .0)
+    → PartAt (a .before .before .before .before .before .before .before .before .before .before .args .set) (formOf (a .before .before .before .before .before .before .before .before .before .before .args .alone)) (a .before .before .before .before .before .before .before .before .before .before .args .s .now) (a .before .before .before .before .before .before .loop .p) (a .before .before .before .before .before .before .loop .sum) (a .before .before .before .before .before .before .loop .mark) (a .before .before .before .before .before .before .loop .top) (a .before .before .before .before .before .before .loop .low) (a .a .given .0 .0) (a .a .given .0 .1 .0) (a .a .given .0 .1 .1 .0) (a .a .given .0 .1 .1 .1 .0)
 part-here t a = record {
   going = a .before .before .before .before .before .before .loop .inv .0;
   here = a .before .before .before .before .before .loop-test .taken;
@@ -110,8 +110,8 @@ part-here t a = record {
   it = a .before .before .part-at .result;
   told = a .before .before .part-at .ensures;
   whole = a .a .given .1;
-  bytes = λ i. a .before .before .before .before .before .before .before .shared-slice-known2 .given i .fits;
-  most = a .before .before .before .before .before .before .before .before .before .pre .1 .1;
+  bytes = λ i. a .before .before .before .before .before .before .before .shared-slice-known3 .given i .fits;
+  most = a .before .before .before .before .before .before .before .before .before .before .pre .1 .1;
 }
 
 -- what it says, whichever way it was walked
@@ -133,7 +133,7 @@ item-records-returns : (t : ℕ) → item-records-lts.Need-returns (item-claims 
 item-records-returns t c = turn-over (c .before .before .before .loop .inv .0) (c .before .before .loop-test .taken) (sym (c .before .goes-on .ensures) ∙ not-true _ (c .if1 .taken))
 
 item-records-part-at-requires : (t : ℕ) → item-records-lts.Need-part-at-requires (item-claims t) (item-records-at t) item-records.Post item-records-Inv-loop item-records-μ-loop
-item-records-part-at-requires t c κs = (c .before .before .before .before .before .before .pre .1 .0, c .before .before .before .before .before .before .pre .1 .1, omega (arith, c .before .before .loop-test .taken), c .before .before .before .loop .inv .1)
+item-records-part-at-requires t c κs = (c .before .before .before .before .before .before .before .pre .1 .0, c .before .before .before .before .before .before .before .pre .1 .1, omega (arith, c .before .before .loop-test .taken), c .before .before .before .loop .inv .1, c .before .before .before .before .before .before .before .pre .1 .2)
 
 item-records-enum-known-a : (t : ℕ) → item-records-lts.Need-enum-known-a (item-claims t) (item-records-at t) item-records.Post item-records-Inv-loop item-records-μ-loop
 item-records-enum-known-a t c = search needs
@@ -153,28 +153,28 @@ item-records-is-series-requires t c κs = search needs
 item-records-add-target-records : (t : ℕ) → item-records-lts.Need-add-target-records (item-claims t) (item-records-at t) item-records.Post item-records-Inv-loop item-records-μ-loop
 item-records-add-target-records t c =
     let a = c .before .before .before in
-    omega (arith, series-room (part-here t a) (c .before .is-series .ensures) (c .if2 .taken), a .before .before .before .before .before .before .before .before .before .pre .1 .1)
+    omega (arith, series-room (part-here t a) (c .before .is-series .ensures) (c .if2 .taken), a .before .before .before .before .before .before .before .before .before .before .pre .1 .1)
 
 item-records-sub-target-records : (t : ℕ) → item-records-lts.Need-sub-target-records (item-claims t) (item-records-at t) item-records.Post item-records-Inv-loop item-records-μ-loop
 item-records-sub-target-records t c =
     let a = c .before .before .before in
-    omega (arith, series-room (part-here t a) (c .before .is-series .ensures) (c .if2 .taken), a .before .before .before .before .before .before .before .before .before .pre .1 .1)
+    omega (arith, series-room (part-here t a) (c .before .is-series .ensures) (c .if2 .taken), a .before .before .before .before .before .before .before .before .before .before .pre .1 .1)
 
 item-records-part-target-records-start : (t : ℕ) → item-records-lts.Need-part-target-records-start (item-claims t) (item-records-at t) item-records.Post item-records-Inv-loop item-records-μ-loop
 item-records-part-target-records-start t c =
     let a = c .before .before .before in
-    omega (arith, series-room (part-here t a) (c .before .is-series .ensures) (c .if2 .taken), a .before .before .before .before .before .before .before .before .before .pre .1 .1)
+    omega (arith, series-room (part-here t a) (c .before .is-series .ensures) (c .if2 .taken), a .before .before .before .before .before .before .before .before .before .before .pre .1 .1)
 
 item-records-part-target-records-end : (t : ℕ) → item-records-lts.Need-part-target-records-end (item-claims t) (item-records-at t) item-records.Post item-records-Inv-loop item-records-μ-loop
 item-records-part-target-records-end t c =
     let a = c .before .before .before in
-    omega (arith, series-room (part-here t a) (c .before .is-series .ensures) (c .if2 .taken), a .before .before .before .before .before .before .before .before .before .pre .1 .1)
+    omega (arith, series-room (part-here t a) (c .before .is-series .ensures) (c .if2 .taken), a .before .before .before .before .before .before .before .before .before .before .pre .1 .1)
 
 item-records-target-records-requires : (t : ℕ) → item-records-lts.Need-target-records-requires (item-claims t) (item-records-at t) item-records.Post item-records-Inv-loop item-records-μ-loop
 item-records-target-records-requires t c κs =
     let a = c .before .before .before .before in (
-      omega (arith, series-deep (a .before .before .before .before .before .before .before .before .before .args .set) (a .a .given .0 .0) (c .before .before .is-series .ensures) (c .before .if2 .taken), a .before .before .before .before .before .before .before .before .before .pre .0),
-      (a .before .before .before .before .before .before .before .before .before .pre .1 .0, lent-small (part-here t a) (c .before .before .is-series .ensures) (c .before .if2 .taken)),
+      omega (arith, series-deep (a .before .before .before .before .before .before .before .before .before .before .args .set) (a .a .given .0 .0) (c .before .before .is-series .ensures) (c .before .if2 .taken), a .before .before .before .before .before .before .before .before .before .before .pre .0),
+      (a .before .before .before .before .before .before .before .before .before .before .pre .1 .0, lent-small (part-here t a) (c .before .before .is-series .ensures) (c .before .if2 .taken), a .before .before .before .before .before .before .before .before .before .before .pre .1 .2),
     )
 
 item-records-series-of-requires : (t : ℕ) → item-records-lts.Need-series-of-requires (item-claims t) (item-records-at t) item-records.Post item-records-Inv-loop item-records-μ-loop
@@ -223,7 +223,7 @@ item-records-smaller-requires t c κs = search needs
 item-records-add-p : (t : ℕ) → item-records-lts.Need-add-p (item-claims t) (item-records-at t) item-records.Post item-records-Inv-loop item-records-μ-loop
 item-records-add-p t c =
     let a = c .before .before .before .before .before .before .before .before .before .before .before .before in
-    omega (arith, part-room (part-here t a) (part-told-at t (c .before .before .before .before .before .before .before .before .before)) (c .before .before .before .before .before .before .before .w .given .1) .0, a .before .before .before .before .before .before .before .before .before .pre .1 .1)
+    omega (arith, part-room (part-here t a) (part-told-at t (c .before .before .before .before .before .before .before .before .before)) (c .before .before .before .before .before .before .before .w .given .1) .0, a .before .before .before .before .before .before .before .before .before .before .pre .1 .1)
 
 item-records-loop-less : (t : ℕ) → item-records-lts.Need-loop-less (item-claims t) (item-records-at t) item-records.Post item-records-Inv-loop item-records-μ-loop
 item-records-loop-less t c =
@@ -240,14 +240,14 @@ item-records-returns-4 : (t : ℕ) → item-records-lts.Need-returns-4 (item-cla
 item-records-returns-4 t c = turn-done (c .before .loop .inv .0) (c .loop-test .left)
 
 abbrev target-records-Inv-loop : target-records-lts.InvT-loop
-target-records-Inv-loop table s alone p₀ sum₀ top₀ low₀ clear₀ p sum top low clear = TargetsGoing (formOf alone) s p sum top low × Clear (peek true true false) s clear × (top < 2 ^ 63)
+target-records-Inv-loop table glances s alone p₀ sum₀ top₀ low₀ clear₀ p sum top low clear = TargetsGoing (formOf alone) s p sum top low × Clear (peek true true false) s clear × (top < 2 ^ 63)
 
 abbrev target-records-μ-loop : target-records-lts.MeasureT-loop
-target-records-μ-loop table s alone p₀ sum₀ top₀ low₀ clear₀ p sum top low clear = length s - p
+target-records-μ-loop table glances s alone p₀ sum₀ top₀ low₀ clear₀ p sum top low clear = length s - p
 
 -- a target, where it was found
 target-here : (t : ℕ) (a : target-records-lts.After-a (target-claims t) (target-records-at t) target-records.Post target-records-Inv-loop target-records-μ-loop)
-    → TargetAt (formOf (a .before .before .before .before .before .before .before .before .before .before .before .args .alone)) (a .before .before .before .before .before .before .before .before .before .before .before .args .s .now) (a .before .before .before .before .before .before .loop .p) (a .before .before .before .before .before .before .loop .sum) (a .before .before .before .before .before .before .loop .top) (a .before .before .before .before .before .before .loop .low) (a .a .given .0 .0) (a .a .given .0 .1 .0) (a .a .given .0 .1 .1 .0) (a .a .given .0 .1 .1 .1 .0)
+    → TargetAt (formOf (a .before .before .before .before .before .before .before .before .before .before .before .before .args .alone)) (a .before .before .before .before .before .before .before .before .before .before .before .before .args .s .now) (a .before .before .before .before .before .before .loop .p) (a .before .before .before .before .before .before .loop .sum) (a .before .before .before .before .before .before .loop .top) (a .before .before .before .before .before .before .loop .low) (a .a .given .0 .0) (a .a .given .0 .1 .0) (a .a .given .0 .1 .1 .0) (a .a .given .0 .1 .1 .1 .0)
 target-here t a = record {
   going = a .before .before .before .before .before .before .loop .inv .0;
   here = a .before .before .before .before .before .loop-test .taken;
@@ -255,12 +255,12 @@ target-here t a = record {
   it = a .before .before .target-at .result;
   told = a .before .before .target-at .ensures;
   whole = a .a .given .1;
-  bytes = λ i. a .before .before .before .before .before .before .before .before .before .shared-slice-known2 .given i .fits;
-  most = a .before .before .before .before .before .before .before .before .before .before .before .pre .1 .1;
+  bytes = λ i. a .before .before .before .before .before .before .before .before .before .shared-slice-known3 .given i .fits;
+  most = a .before .before .before .before .before .before .before .before .before .before .before .before .pre .1 .1;
 }
 
 target-records-targets-requires : (t : ℕ) → target-records-lts.Need-targets-requires (target-claims t) (target-records-at t) target-records.Post target-records-Inv-loop target-records-μ-loop
-target-records-targets-requires t c κs = c .before .before .pre .1
+target-records-targets-requires t c κs = let k = c .before .before .before .pre .1 in (k .2, k .1)
 
 target-records-loop-holds : (t : ℕ) → target-records-lts.Need-loop-holds (target-claims t) (target-records-at t) target-records.Post target-records-Inv-loop target-records-μ-loop
 target-records-loop-holds t c = (c .before .targets .ensures .0, clear-none _ _, c .before .targets .ensures .1)
@@ -289,27 +289,27 @@ target-records-returns-2 t c = head-fault _ (c .before .before .before .before .
 target-records-add-from : (t : ℕ) → target-records-lts.Need-add-from (target-claims t) (target-records-at t) target-records.Post target-records-Inv-loop target-records-μ-loop
 target-records-add-from t c =
     let a = c .before in
-    omega (arith, target-room (target-here t a) .0, a .before .before .before .before .before .before .before .before .before .before .before .pre .1 .1)
+    omega (arith, target-room (target-here t a) .0, a .before .before .before .before .before .before .before .before .before .before .before .before .pre .1 .1)
 
 target-records-sub-items : (t : ℕ) → target-records-lts.Need-sub-items (target-claims t) (target-records-at t) target-records.Post target-records-Inv-loop target-records-μ-loop
 target-records-sub-items t c =
     let a = c .before in
-    omega (arith, target-room (target-here t a) .0, a .before .before .before .before .before .before .before .before .before .before .before .pre .1 .1)
+    omega (arith, target-room (target-here t a) .0, a .before .before .before .before .before .before .before .before .before .before .before .before .pre .1 .1)
 
 target-records-part-items-start : (t : ℕ) → target-records-lts.Need-part-items-start (target-claims t) (target-records-at t) target-records.Post target-records-Inv-loop target-records-μ-loop
 target-records-part-items-start t c =
     let a = c .before in
-    omega (arith, target-room (target-here t a) .0, a .before .before .before .before .before .before .before .before .before .before .before .pre .1 .1)
+    omega (arith, target-room (target-here t a) .0, a .before .before .before .before .before .before .before .before .before .before .before .before .pre .1 .1)
 
 target-records-part-items-end : (t : ℕ) → target-records-lts.Need-part-items-end (target-claims t) (target-records-at t) target-records.Post target-records-Inv-loop target-records-μ-loop
 target-records-part-items-end t c =
     let a = c .before in
-    omega (arith, target-room (target-here t a) .0, a .before .before .before .before .before .before .before .before .before .before .before .pre .1 .1)
+    omega (arith, target-room (target-here t a) .0, a .before .before .before .before .before .before .before .before .before .before .before .before .pre .1 .1)
 
 target-records-run-requires : (t : ℕ) → target-records-lts.Need-run-requires (target-claims t) (target-records-at t) target-records.Post target-records-Inv-loop target-records-μ-loop
 target-records-run-requires t c κs =
     let a = c .before .before in
-    (a .before .before .before .before .before .before .before .before .before .before .before .pre .1 .0, target-turns.lent-small (target-here t a), refl)
+    (a .before .before .before .before .before .before .before .before .before .before .before .before .pre .1 .2, target-turns.lent-small (target-here t a), refl)
 
 target-records-goes-on-requires : (t : ℕ) → target-records-lts.Need-goes-on-requires (target-claims t) (target-records-at t) target-records.Post target-records-Inv-loop target-records-μ-loop
 target-records-goes-on-requires t c κs = search needs
@@ -317,11 +317,11 @@ target-records-goes-on-requires t c κs = search needs
 target-records-item-records-requires : (t : ℕ) → target-records-lts.Need-item-records-requires (target-claims t) (target-records-at t) target-records.Post target-records-Inv-loop target-records-μ-loop
 target-records-item-records-requires t c κs =
     let a = c .before .before .before .before .before .before in
-    (omega (arith, a .before .before .before .before .before .before .before .before .before .before .before .pre .0), (a .before .before .before .before .before .before .before .before .before .before .before .pre .1 .0, target-turns.lent-small (target-here t a)))
+    (omega (arith, a .before .before .before .before .before .before .before .before .before .before .before .before .pre .0), (a .before .before .before .before .before .before .before .before .before .before .before .before .pre .1 .0, target-turns.lent-small (target-here t a), a .before .before .before .before .before .before .before .before .before .before .before .before .pre .1 .2))
 
 -- what the records of a target say, whichever way they were walked
 target-told : (t : ℕ) (j : target-records-lts.Joined2 (target-claims t) (target-records-at t) target-records.Post target-records-Inv-loop target-records-μ-loop)
-    → (Good (j .if2 .sizes) (j .if2 .mark) ≡ recordsWalk pack (formOf (j .before .before .before .before .before .before .before .before .before .before .before .before .before .before .before .before .before .args .alone)) (target-turns.lent (target-here t (j .before .before .before .before .before .before)))) × Within (Good (j .if2 .sizes) (j .if2 .mark)) (length (target-turns.lent (target-here t (j .before .before .before .before .before .before))))
+    → (Good (j .if2 .sizes) (j .if2 .mark) ≡ recordsWalk pack (formOf (j .before .before .before .before .before .before .before .before .before .before .before .before .before .before .before .before .before .before .args .alone)) (target-turns.lent (target-here t (j .before .before .before .before .before .before)))) × Within (Good (j .if2 .sizes) (j .if2 .mark)) (length (target-turns.lent (target-here t (j .before .before .before .before .before .before))))
 target-told t j =
     ⊎-elim
     (λ x. told-as _ (same-good (x .5) (x .6) ∙ sym (x .3 .given .1)) (x .1 .ensures))
@@ -374,7 +374,7 @@ target-records-smaller-requires t c κs = search needs
 target-records-add-p : (t : ℕ) → target-records-lts.Need-add-p (target-claims t) (target-records-at t) target-records.Post target-records-Inv-loop target-records-μ-loop
 target-records-add-p t c =
     let a = c .before .before .before .before .before .before .before .before .before .before .before .before .before .before .before in
-    omega (arith, next-room (target-here t a) (target-told t (c .before .before .before .before .before .before .before .before .before)) refl, a .before .before .before .before .before .before .before .before .before .before .before .pre .1 .1)
+    omega (arith, next-room (target-here t a) (target-told t (c .before .before .before .before .before .before .before .before .before)) refl, a .before .before .before .before .before .before .before .before .before .before .before .before .pre .1 .1)
 
 target-records-loop-less : (t : ℕ) → target-records-lts.Need-loop-less (target-claims t) (target-records-at t) target-records.Post target-records-Inv-loop target-records-μ-loop
 target-records-loop-less t c =
@@ -385,12 +385,12 @@ target-records-loop-again : (t : ℕ) → target-records-lts.Need-loop-again (ta
 target-records-loop-again t c =
     let a = c .before .before .before .before .before .before .before .before .before .before .before .before .before .before .before in
     let u = c .before .before .higher .ensures in
-    (target-more (target-here t a) (target-told t (c .before .before .before .before .before .before .before .before .before)) refl (c .before .before .before .before .before .before .oid-width .ensures) (either-is (a .before .before .before .before .before .before .before .before .before .before .before .args .alone) _ (c .before .before .before .before .before .before .before .before .either .ensures)) (c .before .before .before .before .before .before .before .if3 .taken) (c .before .before .before .before .plus .ensures ∙ ap (plusSizes _) (c .before .before .before .before .before .pack-sizes .ensures)) (u .0, u .1) (c .before .smaller .ensures), c .before .before .before .after .ensures, u .2 (target-room (target-here t a) .1))
+    (target-more (target-here t a) (target-told t (c .before .before .before .before .before .before .before .before .before)) refl (c .before .before .before .before .before .before .oid-width .ensures) (either-is (a .before .before .before .before .before .before .before .before .before .before .before .before .args .alone) _ (c .before .before .before .before .before .before .before .before .either .ensures)) (c .before .before .before .before .before .before .before .if3 .taken) (c .before .before .before .before .plus .ensures ∙ ap (plusSizes _) (c .before .before .before .before .before .pack-sizes .ensures)) (u .0, u .1) (c .before .smaller .ensures), c .before .before .before .after .ensures, u .2 (target-room (target-here t a) .1))
 
 target-records-returns-4 : (t : ℕ) → target-records-lts.Need-returns-4 (target-claims t) (target-records-at t) target-records.Post target-records-Inv-loop target-records-μ-loop
 target-records-returns-4 t c =
     let a = c .before .before .before .before .before .before .before .before in
-    no-location (target-here t a) (target-told t (c .before .before)) refl (either-is (a .before .before .before .before .before .before .before .before .before .before .before .args .alone) _ (c .before .either .ensures)) (c .if3 .left) refl
+    no-location (target-here t a) (target-told t (c .before .before)) refl (either-is (a .before .before .before .before .before .before .before .before .before .before .before .before .args .alone) _ (c .before .either .ensures)) (c .if3 .left) refl
 
 target-records-returns-5 : (t : ℕ) → target-records-lts.Need-returns-5 (target-claims t) (target-records-at t) target-records.Post target-records-Inv-loop target-records-μ-loop
 target-records-returns-5 t c = turn-done (c .before .loop .inv .0) (c .loop-test .left)

@@ -46,25 +46,25 @@ use Rattle.walks.proofs.+item_rest+pack_walk.{statement}
 use Rattle.walks.proofs.+item_rest+pack_walk.Tie.{close}
 
 -- the item walk of the set calls the pack walk, and that the item walk of a pack
-abbrev μ-item-rest : Measures 2 item-rest-kinds.ps ℕ
-μ-item-rest κs a = depth (a .1 .1 .0)
+abbrev μ-item-rest : Measures 3 item-rest-kinds.ps ℕ
+μ-item-rest κs a = depth (a .1 .1 .1 .0)
 
-abbrev μ-pack-walk : Measures 2 pack-walk-kinds.ps ℕ
+abbrev μ-pack-walk : Measures 3 pack-walk-kinds.ps ℕ
 μ-pack-walk κs a = 1
 
-abbrev item-rest-at : ℕ → In 2 item-rest-kinds.ps
-item-rest-at t = and 2 item-rest-kinds.ps (is 2 item-rest-kinds.ps μ-item-rest t) item-rest.Pre
+abbrev item-rest-at : ℕ → In 3 item-rest-kinds.ps
+item-rest-at t = and 3 item-rest-kinds.ps (is 3 item-rest-kinds.ps μ-item-rest t) item-rest.Pre
 
-abbrev item-rest-below : ℕ → In 2 item-rest-kinds.ps
+abbrev item-rest-below : ℕ → In 3 item-rest-kinds.ps
 item-rest-below t =
-    and 2 item-rest-kinds.ps (falls 2 item-rest-kinds.ps _<_ μ-item-rest t) item-rest.Pre
+    and 3 item-rest-kinds.ps (falls 3 item-rest-kinds.ps _<_ μ-item-rest t) item-rest.Pre
 
-abbrev pack-walk-at : ℕ → In 2 pack-walk-kinds.ps
-pack-walk-at t = and 2 pack-walk-kinds.ps (is 2 pack-walk-kinds.ps μ-pack-walk t) pack-walk.Pre
+abbrev pack-walk-at : ℕ → In 3 pack-walk-kinds.ps
+pack-walk-at t = and 3 pack-walk-kinds.ps (is 3 pack-walk-kinds.ps μ-pack-walk t) pack-walk.Pre
 
-abbrev pack-walk-below : ℕ → In 2 pack-walk-kinds.ps
+abbrev pack-walk-below : ℕ → In 3 pack-walk-kinds.ps
 pack-walk-below t =
-    and 2 pack-walk-kinds.ps (falls 2 pack-walk-kinds.ps _<_ μ-pack-walk t) pack-walk.Pre
+    and 3 pack-walk-kinds.ps (falls 3 pack-walk-kinds.ps _<_ μ-pack-walk t) pack-walk.Pre
 
 -- what is known of the callees, the other walk's at a smaller measure
 abbrev item-claims : ℕ → item-rest-lts.Claims
@@ -76,27 +76,27 @@ pack-claims t = (quick-pack-head-reads.Asked, quick-pack-head-reads.Learnt, piec
 -- ---- the item walk
 
 abbrev item-rest-Inv-loop : item-rest-lts.InvT-loop
-item-rest-Inv-loop table s set alone p₀ sum₀ mark₀ top₀ low₀ clear₀ p sum mark top low clear = LevelGoing set (formOf alone) s p sum mark top low × Clear (peek false false set) s clear
+item-rest-Inv-loop table glances s set alone p₀ sum₀ mark₀ top₀ low₀ clear₀ p sum mark top low clear = LevelGoing set (formOf alone) s p sum mark top low × Clear (peek false false set) s clear
 
 abbrev item-rest-μ-loop : item-rest-lts.MeasureT-loop
-item-rest-μ-loop table s set alone p₀ sum₀ mark₀ top₀ low₀ clear₀ p sum mark top low clear = length s - p
+item-rest-μ-loop table glances s set alone p₀ sum₀ mark₀ top₀ low₀ clear₀ p sum mark top low clear = length s - p
 
 -- an item, where it was read
 item-here : (t : ℕ) (a : item-rest-lts.After-a (item-claims t) (item-rest-at t) item-rest.Post item-rest-Inv-loop item-rest-μ-loop)
-    → ItemAt (a .before .before .before .before .before .before .before .before .before .args .set) (formOf (a .before .before .before .before .before .before .before .before .before .args .alone)) (a .before .before .before .before .before .before .before .before .before .args .s .now) (a .before .before .before .before .loop .p) (a .before .before .before .before .loop .sum) (a .before .before .before .before .loop .mark) (a .before .before .before .before .loop .top) (a .before .before .before .before .loop .low) (a .a .given .0 .0) (a .a .given .0 .1 .0) (a .a .given .0 .1 .1 .0) (a .a .given .0 .1 .1 .1 .0)
+    → ItemAt (a .before .before .before .before .before .before .before .before .before .before .args .set) (formOf (a .before .before .before .before .before .before .before .before .before .before .args .alone)) (a .before .before .before .before .before .before .before .before .before .before .args .s .now) (a .before .before .before .before .loop .p) (a .before .before .before .before .loop .sum) (a .before .before .before .before .loop .mark) (a .before .before .before .before .loop .top) (a .before .before .before .before .loop .low) (a .a .given .0 .0) (a .a .given .0 .1 .0) (a .a .given .0 .1 .1 .0) (a .a .given .0 .1 .1 .1 .0)
 item-here t a = record {
   going = a .before .before .before .before .loop .inv .0;
   here = a .before .before .before .loop-test .taken;
   it = a .before .before .item-at .result;
   told = a .before .before .item-at .ensures;
   whole = a .a .given .1;
-  bytes = λ i. a .before .before .before .before .before .before .before .shared-slice-known2 .given i .fits;
-  most = a .before .before .before .before .before .before .before .before .before .pre .1 .1;
+  bytes = λ i. a .before .before .before .before .before .before .before .shared-slice-known3 .given i .fits;
+  most = a .before .before .before .before .before .before .before .before .before .before .pre .1 .1;
 }
 
 -- it lies within the bytes lent
 item-room : (t : ℕ) (a : item-rest-lts.After-a (item-claims t) (item-rest-at t) item-rest.Post item-rest-Inv-loop item-rest-μ-loop)
-    → a .before .before .before .before .loop .p + a .a .given .0 .1 .0 + a .a .given .0 .1 .1 .0 ≤ length (a .before .before .before .before .before .before .before .before .before .args .s .now)
+    → a .before .before .before .before .loop .p + a .a .given .0 .1 .0 + a .a .given .0 .1 .1 .0 ≤ length (a .before .before .before .before .before .before .before .before .before .before .args .s .now)
 item-room t a = piece-room (item-here t a)
 
 -- what one entry says, whichever way it was walked
@@ -109,13 +109,13 @@ item-told-at t j =
     (j .if1 .came)
 
 item-rest-onward-requires : (t : ℕ) → item-rest-lts.Need-onward-requires (item-claims t) (item-rest-at t) item-rest.Post item-rest-Inv-loop item-rest-μ-loop
-item-rest-onward-requires t c κs = (c .before .before .pre .1 .1, c .before .before .pre .1 .2)
+item-rest-onward-requires t c κs = (c .before .before .before .pre .1 .1, c .before .before .before .pre .1 .2)
 
 item-rest-loop-holds : (t : ℕ) → item-rest-lts.Need-loop-holds (item-claims t) (item-rest-at t) item-rest.Post item-rest-Inv-loop item-rest-μ-loop
 item-rest-loop-holds t c = (c .before .onward .ensures, clear-none _ _)
 
 item-rest-item-at-requires : (t : ℕ) → item-rest-lts.Need-item-at-requires (item-claims t) (item-rest-at t) item-rest.Post item-rest-Inv-loop item-rest-μ-loop
-item-rest-item-at-requires t c κs = (c .before .before .before .before .before .before .pre .1 .0, omega (arith, c .loop-test .taken), c .before .loop .inv .1)
+item-rest-item-at-requires t c κs = (c .before .before .before .before .before .before .before .pre .1 .0, omega (arith, c .loop-test .taken), c .before .loop .inv .1)
 
 item-rest-enum-known-a : (t : ℕ) → item-rest-lts.Need-enum-known-a (item-claims t) (item-rest-at t) item-rest.Post item-rest-Inv-loop item-rest-μ-loop
 item-rest-enum-known-a t c = search needs
@@ -130,10 +130,10 @@ item-rest-returns : (t : ℕ) → item-rest-lts.Need-returns (item-claims t) (it
 item-rest-returns t c = item-fault _ _ (c .before .before .before .before .before .loop .inv .0) (c .before .before .before .before .loop-test .taken) (c .before .before .before .item-at .ensures) (c .before .enum-told .given .1) (c .stop .ensures)
 
 item-rest-add-at : (t : ℕ) → item-rest-lts.Need-add-at (item-claims t) (item-rest-at t) item-rest.Post item-rest-Inv-loop item-rest-μ-loop
-item-rest-add-at t c = omega (arith, item-room t (c .before), c .before .before .before .before .before .before .before .before .before .before .pre .1 .1)
+item-rest-add-at t c = omega (arith, item-room t (c .before), c .before .before .before .before .before .before .before .before .before .before .before .pre .1 .1)
 
 item-rest-add-next : (t : ℕ) → item-rest-lts.Need-add-next (item-claims t) (item-rest-at t) item-rest.Post item-rest-Inv-loop item-rest-μ-loop
-item-rest-add-next t c = omega (arith, item-room t (c .before), c .before .before .before .before .before .before .before .before .before .before .pre .1 .1)
+item-rest-add-next t c = omega (arith, item-room t (c .before), c .before .before .before .before .before .before .before .before .before .before .before .pre .1 .1)
 
 item-rest-is-series-requires : (t : ℕ) → item-rest-lts.Need-is-series-requires (item-claims t) (item-rest-at t) item-rest.Post item-rest-Inv-loop item-rest-μ-loop
 item-rest-is-series-requires t c κs = search needs
@@ -150,13 +150,13 @@ item-rest-part-packs-end t c = omega (arith, item-room t (c .before .before .bef
 item-rest-packs-requires : (t : ℕ) → item-rest-lts.Need-packs-requires (item-claims t) (item-rest-at t) item-rest.Post item-rest-Inv-loop item-rest-μ-loop
 item-rest-packs-requires t c κs =
     let a = c .before .before .before .before in
-    (a .before .before .before .before .before .before .before .before .before .pre .1 .0, omega (arith, value-long (item-here t a), item-room t a, a .before .before .before .before .before .before .before .before .before .pre .1 .1))
+    (a .before .before .before .before .before .before .before .before .before .before .pre .1 .3, omega (arith, value-long (item-here t a), item-room t a, a .before .before .before .before .before .before .before .before .before .before .pre .1 .1))
 
 item-rest-pack-walk-requires : (t : ℕ) → item-rest-lts.Need-pack-walk-requires (item-claims t) (item-rest-at t) item-rest.Post item-rest-Inv-loop item-rest-μ-loop
 item-rest-pack-walk-requires t c κs =
     let a = c .before .before .before .before .before in
-    let (b, l) = item-rest-packs-requires t (c .before) κs in
-    (omega (arith, series-deep (a .before .before .before .before .before .before .before .before .before .args .set) (a .a .given .0 .0) (c .before .before .before .is-series .ensures) (c .before .before .if1 .taken), a .before .before .before .before .before .before .before .before .before .pre .0), (b, l, c .packs2 .ensures))
+    let (b, l) = item-rest-packs-requires t (c .before) (κs .0, (κs .1 .0, tt)) in
+    (omega (arith, series-deep (a .before .before .before .before .before .before .before .before .before .before .args .set) (a .a .given .0 .0) (c .before .before .before .is-series .ensures) (c .before .before .if1 .taken), a .before .before .before .before .before .before .before .before .before .before .pre .0), (a .before .before .before .before .before .before .before .before .before .before .pre .1 .0, l, c .packs2 .ensures, b))
 
 item-rest-series-of-requires : (t : ℕ) → item-rest-lts.Need-series-of-requires (item-claims t) (item-rest-at t) item-rest.Post item-rest-Inv-loop item-rest-μ-loop
 item-rest-series-of-requires t c κs =
@@ -167,7 +167,7 @@ item-rest-one-item-requires : (t : ℕ) → item-rest-lts.Need-one-item-requires
 item-rest-one-item-requires t c κs =
     let a = c .before .before .before in
     let k = piece-stood (item-here t a) in
-    (k .tag-small, omega (arith, k .short-less, item-room t a, a .before .before .before .before .before .before .before .before .before .pre .1 .1))
+    (k .tag-small, omega (arith, k .short-less, item-room t a, a .before .before .before .before .before .before .before .before .before .before .pre .1 .1))
 
 item-rest-enum-known-w : (t : ℕ) → item-rest-lts.Need-enum-known-w (item-claims t) (item-rest-at t) item-rest.Post item-rest-Inv-loop item-rest-μ-loop
 item-rest-enum-known-w t c = search needs
@@ -219,31 +219,31 @@ item-rest-returns-3 t c = turn-done (c .before .loop .inv .0) (c .loop-test .lef
 -- ---- the pack walk
 
 abbrev pack-walk-Inv-loop : pack-walk-lts.InvT-loop
-pack-walk-Inv-loop table s alone p₀ sum₀ top₀ low₀ clear₀ p sum top low clear = SeriesGoing (formOf alone) s p sum top low × Clear (peek false true false) s clear
+pack-walk-Inv-loop table glances s alone p₀ sum₀ top₀ low₀ clear₀ p sum top low clear = SeriesGoing (formOf alone) s p sum top low × Clear (peek false true false) s clear
 
 abbrev pack-walk-μ-loop : pack-walk-lts.MeasureT-loop
-pack-walk-μ-loop table s alone p₀ sum₀ top₀ low₀ clear₀ p sum top low clear = length s - p
+pack-walk-μ-loop table glances s alone p₀ sum₀ top₀ low₀ clear₀ p sum top low clear = length s - p
 
 -- a pack, where its head was read
 pack-here : (t : ℕ) (a : pack-walk-lts.After-h (pack-claims t) (pack-walk-at t) pack-walk.Post pack-walk-Inv-loop pack-walk-μ-loop)
-    → PackAt (formOf (a .before .before .before .before .before .before .before .before .before .args .alone)) (a .before .before .before .before .before .before .before .before .before .args .s .now) (a .before .before .before .before .before .loop .p) (a .before .before .before .before .before .loop .sum) (a .before .before .before .before .before .loop .top) (a .before .before .before .before .before .loop .low) (a .h .given .0 .0) (a .h .given .0 .1 .0) (a .h .given .0 .1 .1 .0) (a .h .given .0 .1 .1 .1 .0)
+    → PackAt (formOf (a .before .before .before .before .before .before .before .before .before .before .args .alone)) (a .before .before .before .before .before .before .before .before .before .before .args .s .now) (a .before .before .before .before .before .loop .p) (a .before .before .before .before .before .loop .sum) (a .before .before .before .before .before .loop .top) (a .before .before .before .before .before .loop .low) (a .h .given .0 .0) (a .h .given .0 .1 .0) (a .h .given .0 .1 .1 .0) (a .h .given .0 .1 .1 .1 .0)
 pack-here t a = record {
   going = a .before .before .before .before .before .loop .inv .0;
   here = a .before .before .before .before .loop-test .taken;
   it = a .before .before .quick-pack-head .result;
   told = a .before .before .quick-pack-head .ensures;
   is = a .h .given .1;
-  bytes = λ i. a .before .before .before .before .before .before .before .shared-slice-known2 .given i .fits;
-  most = a .before .before .before .before .before .before .before .before .before .pre .1 .1;
+  bytes = λ i. a .before .before .before .before .before .before .before .shared-slice-known3 .given i .fits;
+  most = a .before .before .before .before .before .before .before .before .before .before .pre .1 .1;
 }
 
 -- it lies within the bytes lent, and its id within the pack
 pack-room : (t : ℕ) (a : pack-walk-lts.After-h (pack-claims t) (pack-walk-at t) pack-walk.Post pack-walk-Inv-loop pack-walk-μ-loop)
-    → (a .before .before .before .before .before .loop .p + a .h .given .0 .1 .1 .0 + a .h .given .0 .1 .1 .1 .0 ≤ length (a .before .before .before .before .before .before .before .before .before .args .s .now)) × (a .h .given .0 .1 .0 ≤ a .h .given .0 .1 .1 .1 .0) × (length (a .before .before .before .before .before .before .before .before .before .args .s .now) ≤ 8192)
-pack-room t a = (head-room (pack-here t a), head-stood (pack-here t a) .body, a .before .before .before .before .before .before .before .before .before .pre .1 .1)
+    → (a .before .before .before .before .before .loop .p + a .h .given .0 .1 .1 .0 + a .h .given .0 .1 .1 .1 .0 ≤ length (a .before .before .before .before .before .before .before .before .before .before .args .s .now)) × (a .h .given .0 .1 .0 ≤ a .h .given .0 .1 .1 .1 .0) × (length (a .before .before .before .before .before .before .before .before .before .before .args .s .now) ≤ 8192)
+pack-room t a = (head-room (pack-here t a), head-stood (pack-here t a) .body, a .before .before .before .before .before .before .before .before .before .before .pre .1 .1)
 
 pack-walk-loop-holds : (t : ℕ) → pack-walk-lts.Need-loop-holds (pack-claims t) (pack-walk-at t) pack-walk.Post pack-walk-Inv-loop pack-walk-μ-loop
-pack-walk-loop-holds t c = (c .before .before .before .pre .1 .2, clear-none _ _)
+pack-walk-loop-holds t c = (c .before .before .before .before .pre .1 .2, clear-none _ _)
 
 pack-walk-sub-quick-pack-head : (t : ℕ) → pack-walk-lts.Need-sub-quick-pack-head (pack-claims t) (pack-walk-at t) pack-walk.Post pack-walk-Inv-loop pack-walk-μ-loop
 pack-walk-sub-quick-pack-head t c = search needs
@@ -273,7 +273,7 @@ pack-walk-returns : (t : ℕ) → pack-walk-lts.Need-returns (pack-claims t) (pa
 pack-walk-returns t c = head-fault _ (c .before .before .before .before .before .before .before .loop .inv .0) (c .before .before .before .before .before .before .loop-test .taken) _ (c .before .before .before .before .quick-pack-head .ensures) (c .before .before .enum-told .given .1) (c .before .piece-fault .ensures) (c .stop .ensures)
 
 pack-walk-is-seen-requires : (t : ℕ) → pack-walk-lts.Need-is-seen-requires (pack-claims t) (pack-walk-at t) pack-walk.Post pack-walk-Inv-loop pack-walk-μ-loop
-pack-walk-is-seen-requires t c κs = (c .before .before .before .before .before .before .loop .inv .0 .to, c .before .before .before .before .before .before .loop .inv .1, pack-key _ (c .before .before .before .before .before .before .before .before .before .before .args .s .now) (c .before .before .before .before .before .before .loop .p) (c .before .h .given .1) (c .before .before .before .quick-pack-head .ensures))
+pack-walk-is-seen-requires t c κs = (c .before .before .before .before .before .before .loop .inv .0 .to, c .before .before .before .before .before .before .loop .inv .1, pack-key _ (c .before .before .before .before .before .before .before .before .before .before .before .args .s .now) (c .before .before .before .before .before .before .loop .p) (c .before .h .given .1) (c .before .before .before .quick-pack-head .ensures))
 
 pack-walk-returns-2 : (t : ℕ) → pack-walk-lts.Need-returns-2 (pack-claims t) (pack-walk-at t) pack-walk.Post pack-walk-Inv-loop pack-walk-μ-loop
 pack-walk-returns-2 t c = id-again (pack-here t (c .before .before .before)) (c .before .is-seen .ensures) (c .if1 .taken) refl
@@ -300,12 +300,12 @@ pack-walk-part-items-end : (t : ℕ) → pack-walk-lts.Need-part-items-end (pack
 pack-walk-part-items-end t c = omega (arith, pack-room t (c .before .before .before))
 
 pack-walk-run-requires : (t : ℕ) → pack-walk-lts.Need-run-requires (pack-claims t) (pack-walk-at t) pack-walk.Post pack-walk-Inv-loop pack-walk-μ-loop
-pack-walk-run-requires t c κs = (c .before .before .before .before .before .before .before .before .before .before .before .before .before .pre .1 .0, omega (arith, lent-long (pack-here t (c .before .before .before .before)) (c .before .before .is-seen .ensures) (c .before .if1 .left), pack-room t (c .before .before .before .before)))
+pack-walk-run-requires t c κs = (c .before .before .before .before .before .before .before .before .before .before .before .before .before .before .pre .1 .3, omega (arith, lent-long (pack-here t (c .before .before .before .before)) (c .before .before .is-seen .ensures) (c .before .if1 .left), pack-room t (c .before .before .before .before)))
 
 pack-walk-item-rest-requires : (t : ℕ) → pack-walk-lts.Need-item-rest-requires (pack-claims t) (pack-walk-at t) pack-walk.Post pack-walk-Inv-loop pack-walk-μ-loop
 pack-walk-item-rest-requires t c κs =
-    let (a, b) = pack-walk-run-requires t (c .before) κs in
-    (omega (arith, c .before .before .before .before .before .before .before .before .before .before .before .before .before .before .pre .0), (a, b, c .run .ensures .0))
+    let (a, b) = pack-walk-run-requires t (c .before) (κs .0, (κs .1 .0, tt)) in
+    (omega (arith, c .before .before .before .before .before .before .before .before .before .before .before .before .before .before .before .pre .0), (c .before .before .before .before .before .before .before .before .before .before .before .before .before .before .before .pre .1 .0, b, c .run .ensures .0, a))
 
 pack-walk-enum-known-w : (t : ℕ) → pack-walk-lts.Need-enum-known-w (pack-claims t) (pack-walk-at t) pack-walk.Post pack-walk-Inv-loop pack-walk-μ-loop
 pack-walk-enum-known-w t c = search needs
@@ -323,10 +323,10 @@ pack-walk-either-requires : (t : ℕ) → pack-walk-lts.Need-either-requires (pa
 pack-walk-either-requires t c κs = search needs
 
 pack-walk-pack-sizes-requires : (t : ℕ) → pack-walk-lts.Need-pack-sizes-requires (pack-claims t) (pack-walk-at t) pack-walk.Post pack-walk-Inv-loop pack-walk-μ-loop
-pack-walk-pack-sizes-requires t c κs = (head-stood (pack-here t (c .before .before .before .before .before .before .before .before .before .before .before)) .id-few, items-small (pack-here t (c .before .before .before .before .before .before .before .before .before .before .before)) (c .before .before .before .before .before .before .before .before .before .is-seen .ensures) (c .before .before .before .before .before .before .before .before .if1 .left) (c .before .before .before .before .before .item-rest .ensures) (c .before .before .before .w .given .1) (either-is (c .before .before .before .before .before .before .before .before .before .before .before .before .before .before .before .before .before .before .before .before .args .alone) _ (c .before .either .ensures)))
+pack-walk-pack-sizes-requires t c κs = (head-stood (pack-here t (c .before .before .before .before .before .before .before .before .before .before .before)) .id-few, items-small (pack-here t (c .before .before .before .before .before .before .before .before .before .before .before)) (c .before .before .before .before .before .before .before .before .before .is-seen .ensures) (c .before .before .before .before .before .before .before .before .if1 .left) (c .before .before .before .before .before .item-rest .ensures) (c .before .before .before .w .given .1) (either-is (c .before .before .before .before .before .before .before .before .before .before .before .before .before .before .before .before .before .before .before .before .before .args .alone) _ (c .before .either .ensures)))
 
 pack-walk-plus-requires : (t : ℕ) → pack-walk-lts.Need-plus-requires (pack-claims t) (pack-walk-at t) pack-walk.Post pack-walk-Inv-loop pack-walk-μ-loop
-pack-walk-plus-requires t c κs = pack-small (pack-here t (c .before .before .before .before .before .before .before .before .before .before .before .before)) (c .before .before .before .before .before .before .before .before .before .before .is-seen .ensures) (c .before .before .before .before .before .before .before .before .before .if1 .left) (c .before .before .before .before .before .before .item-rest .ensures) (c .before .before .before .before .w .given .1) (either-is (c .before .before .before .before .before .before .before .before .before .before .before .before .before .before .before .before .before .before .before .before .before .args .alone) _ (c .before .before .either .ensures)) (c .pack-sizes .ensures)
+pack-walk-plus-requires t c κs = pack-small (pack-here t (c .before .before .before .before .before .before .before .before .before .before .before .before)) (c .before .before .before .before .before .before .before .before .before .before .is-seen .ensures) (c .before .before .before .before .before .before .before .before .before .if1 .left) (c .before .before .before .before .before .before .item-rest .ensures) (c .before .before .before .before .w .given .1) (either-is (c .before .before .before .before .before .before .before .before .before .before .before .before .before .before .before .before .before .before .before .before .before .before .args .alone) _ (c .before .before .either .ensures)) (c .pack-sizes .ensures)
 
 pack-walk-after-requires : (t : ℕ) → pack-walk-lts.Need-after-requires (pack-claims t) (pack-walk-at t) pack-walk.Post pack-walk-Inv-loop pack-walk-μ-loop
 pack-walk-after-requires t c κs = c .before .before .before .before .before .before .before .before .before .before .before .before .before .before .before .before .before .before .loop .inv .1
@@ -341,10 +341,10 @@ pack-walk-loop-less : (t : ℕ) → pack-walk-lts.Need-loop-less (pack-claims t)
 pack-walk-loop-less t c = omega (arith, head-stood (pack-here t (c .before .before .before .before .before .before .before .before .before .before .before .before .before .before .before .before)) .len, c .before .before .before .before .before .before .before .before .before .before .before .before .before .before .before .before .before .before .before .before .loop-test .taken)
 
 pack-walk-loop-again : (t : ℕ) → pack-walk-lts.Need-loop-again (pack-claims t) (pack-walk-at t) pack-walk.Post pack-walk-Inv-loop pack-walk-μ-loop
-pack-walk-loop-again t c = (pack-more (pack-here t (c .before .before .before .before .before .before .before .before .before .before .before .before .before .before .before .before)) (c .before .before .before .before .before .before .before .before .before .before .before .before .before .before .is-seen .ensures) (c .before .before .before .before .before .before .before .before .before .before .before .before .before .if1 .left) (c .before .before .before .before .before .before .before .before .before .before .item-rest .ensures) (c .before .before .before .before .before .before .before .before .w .given .1) (either-is (c .before .before .before .before .before .before .before .before .before .before .before .before .before .before .before .before .before .before .before .before .before .before .before .before .before .args .alone) _ (c .before .before .before .before .before .before .either .ensures)) (c .before .before .before .before .before .if2 .taken) (c .before .before .before .plus .ensures ∙ ap (plusSizes _) (c .before .before .before .before .pack-sizes .ensures)) (c .before .larger .ensures) (c .smaller .ensures), c .before .before .after .ensures)
+pack-walk-loop-again t c = (pack-more (pack-here t (c .before .before .before .before .before .before .before .before .before .before .before .before .before .before .before .before)) (c .before .before .before .before .before .before .before .before .before .before .before .before .before .before .is-seen .ensures) (c .before .before .before .before .before .before .before .before .before .before .before .before .before .if1 .left) (c .before .before .before .before .before .before .before .before .before .before .item-rest .ensures) (c .before .before .before .before .before .before .before .before .w .given .1) (either-is (c .before .before .before .before .before .before .before .before .before .before .before .before .before .before .before .before .before .before .before .before .before .before .before .before .before .before .args .alone) _ (c .before .before .before .before .before .before .either .ensures)) (c .before .before .before .before .before .if2 .taken) (c .before .before .before .plus .ensures ∙ ap (plusSizes _) (c .before .before .before .before .pack-sizes .ensures)) (c .before .larger .ensures) (c .smaller .ensures), c .before .before .after .ensures)
 
 pack-walk-returns-4 : (t : ℕ) → pack-walk-lts.Need-returns-4 (pack-claims t) (pack-walk-at t) pack-walk.Post pack-walk-Inv-loop pack-walk-μ-loop
-pack-walk-returns-4 t c = no-location (pack-here t (c .before .before .before .before .before .before .before .before .before .before .before)) (c .before .before .before .before .before .before .before .before .before .is-seen .ensures) (c .before .before .before .before .before .before .before .before .if1 .left) (c .before .before .before .before .before .item-rest .ensures) (c .before .before .before .w .given .1) (either-is (c .before .before .before .before .before .before .before .before .before .before .before .before .before .before .before .before .before .before .before .before .args .alone) _ (c .before .either .ensures)) (c .if2 .left) refl
+pack-walk-returns-4 t c = no-location (pack-here t (c .before .before .before .before .before .before .before .before .before .before .before)) (c .before .before .before .before .before .before .before .before .before .is-seen .ensures) (c .before .before .before .before .before .before .before .before .if1 .left) (c .before .before .before .before .before .item-rest .ensures) (c .before .before .before .w .given .1) (either-is (c .before .before .before .before .before .before .before .before .before .before .before .before .before .before .before .before .before .before .before .before .before .args .alone) _ (c .before .either .ensures)) (c .if2 .left) refl
 
 pack-walk-returns-5 : (t : ℕ) → pack-walk-lts.Need-returns-5 (pack-claims t) (pack-walk-at t) pack-walk.Post pack-walk-Inv-loop pack-walk-μ-loop
 pack-walk-returns-5 t c = turn-done (c .before .loop .inv .0) (c .loop-test .left)

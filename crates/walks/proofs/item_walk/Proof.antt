@@ -3,10 +3,10 @@ use Rattle.walks.proofs.item_walk.Statement.{statement}
 use Rattle.walks.proofs.item_walk.Tie as tie
 
 run-requires : tie.Need-run-requires
-run-requires c κs = c .before .before .pre
+run-requires c κs = (c .before .before .before .pre .2, c .before .before .before .pre .1)
 
 item-rest-requires : tie.Need-item-rest-requires
-item-rest-requires c κs = (c .before .before .before .pre .0, c .before .before .before .pre .1, c .run .ensures .0)
+item-rest-requires c κs = (c .before .before .before .before .pre .0, c .before .before .before .before .pre .1, c .run .ensures .0, c .before .before .before .before .pre .2)
 
 returns : tie.Need-returns
 returns c = c .item-rest .ensures

@@ -3,28 +3,23 @@ use native.Mathlib.Omega.{arith}
 use borrow.Author.Needs.{needs}
 use Rattle.items.specs.Meet.{levelOf}
 use Rattle.stores.proofs.Shortest.{short-less}
-use Rattle.edits.proofs.Storing.{item-none, some-bytes, item-sized}
+use Rattle.edits.proofs.Storing.{item-none, some-bytes, short-put, item-sized}
 use Rattle.edits.proofs.puts.item_size.Statement.{statement}
 use Rattle.edits.proofs.puts.item_size.Tie as tie
 
 returns : tie.Need-returns
-returns c = let i = c .before .before .before .args in item-none (levelOf (i .set)) (i .tag) (i .v .now) (c .if1 .taken)
-
-rule-of-requires : tie.Need-rule-of-requires
-rule-of-requires c κs = search needs
-
-short-size-requires : tie.Need-short-size-requires
-short-size-requires c κs = let i = c .before .before .before .before .args in some-bytes (levelOf (i .set)) (i .tag) (i .v .now) (c .before .if1 .left) (c .before .before .before .before .pre .2) .0
+returns c = let i = c .before .before .args in item-none (levelOf (i .set)) (i .tag) (i .v .now) (c .if1 .taken)
 
 short-total-requires : tie.Need-short-total-requires
 short-total-requires c κs =
-    let i = c .before .before .before .before .before .args in
-    (c .before .before .before .before .before .pre .1, omega (arith, short-less _ _ (c .short-size .ensures), some-bytes (levelOf (i .set)) (i .tag) (i .v .now) (c .before .before .if1 .left) (c .before .before .before .before .before .pre .2)))
+    let i = c .before .before .args in
+    let (t, q, m) = c .before .before .pre in
+    (t, omega (arith, short-less _ _ (short-put (levelOf (i .set)) (i .tag) (i .v .now) (c .if1 .left) m), some-bytes (levelOf (i .set)) (i .tag) (i .v .now) (c .if1 .left) q))
 
 returns-2 : tie.Need-returns-2
 returns-2 c =
-    let i = c .before .before .before .before .before .before .args in
-    item-sized (levelOf (i .set)) (i .tag) (i .v .now) (c .before .before .before .if1 .left) (c .before .before .rule-of .ensures) (c .before .short-size .ensures) (c .short-total .ensures)
+    let i = c .before .before .before .args in
+    item-sized (levelOf (i .set)) (i .tag) (i .v .now) (c .before .if1 .left) (c .before .before .before .pre .2) (c .short-total .ensures)
 
 pub item-size-spec : {M : Type 1} → statement M
-item-size-spec = tie.close (tie.spec returns rule-of-requires short-size-requires short-total-requires returns-2)
+item-size-spec = tie.close (tie.spec returns short-total-requires returns-2)

@@ -2,8 +2,7 @@
 use native.Mathlib.Omega.{arith}
 use borrow.Author.Needs.{needs}
 use Rattle.format.proofs.words.Answers.{no-bool}
-use Rattle.items.proofs.Rows.{table-long}
-use Rattle.items.proofs.Glances.{row-in, quick-from, quick-other}
+use Rattle.items.proofs.Glances.{glances-long, row-in, quick-from, quick-other}
 use Rattle.items.proofs.quick.is_quick.Statement.{statement}
 use Rattle.items.proofs.quick.is_quick.Tie as tie
 
@@ -26,7 +25,7 @@ mul-row : tie.Need-mul-row
 mul-row c = omega (arith, row-in (c .before .before .before .before .args .set) _ (c .before .before .most-tag .ensures) (c .before .if1 .left) (c .rows-from .ensures))
 
 shared-slice-read-row : tie.Need-shared-slice-read-row
-shared-slice-read-row c = omega (arith, row-in (c .before .before .before .before .before .args .set) _ (c .before .before .before .most-tag .ensures) (c .before .before .if1 .left) (c .before .rows-from .ensures), table-long _ (c .before .before .before .before .before .pre))
+shared-slice-read-row c = omega (arith, row-in (c .before .before .before .before .before .args .set) _ (c .before .before .before .most-tag .ensures) (c .before .before .if1 .left) (c .before .rows-from .ensures), glances-long _ (c .before .before .before .before .before .pre))
 
 least-row-requires : tie.Need-least-row-requires
 least-row-requires c κs = search needs

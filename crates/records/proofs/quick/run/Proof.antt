@@ -12,10 +12,10 @@ use Rattle.records.proofs.quick.run.Statement.{statement}
 use Rattle.records.proofs.quick.run.Tie as tie
 
 abbrev Inv-loop : tie.InvT-loop
-Inv-loop table s set alone p₀ count₀ mark₀ top₀ p count mark top = RecordsGoing set (formOf alone) s p (quickSizes count p) mark top 0 × (4 * count ≤ p)
+Inv-loop glances s set alone p₀ count₀ mark₀ top₀ p count mark top = RecordsGoing set (formOf alone) s p (quickSizes count p) mark top 0 × (4 * count ≤ p)
 
 abbrev μ-loop : tie.MeasureT-loop
-μ-loop table s set alone p₀ count₀ mark₀ top₀ p count mark top = length s - p
+μ-loop glances s set alone p₀ count₀ mark₀ top₀ p count mark top = length s - p
 
 loop-holds : tie.Need-loop-holds Inv-loop μ-loop
 loop-holds c = (records-start _ _ _, omega arith)

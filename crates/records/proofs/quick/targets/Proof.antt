@@ -34,10 +34,10 @@ use Rattle.records.proofs.quick.run.Reads as run-reads
 use Rattle.walks.proofs.either.Reads as either-reads
 
 abbrev Inv-loop : tie.InvT-loop
-Inv-loop table s alone p₀ rows₀ normal₀ top₀ low₀ p rows normal top low = TargetsGoing (formOf alone) s p (sizes p rows normal 0) top low × (p < length s → is TG (drop p s) ≡ true) × (p ≡ 0 → low ≡ 18446744073709551615) × (0 < p → low ≤ top) × (top ≤ 16383)
+Inv-loop glances s alone p₀ rows₀ normal₀ top₀ low₀ p rows normal top low = TargetsGoing (formOf alone) s p (sizes p rows normal 0) top low × (p < length s → is TG (drop p s) ≡ true) × (p ≡ 0 → low ≡ 18446744073709551615) × (0 < p → low ≤ top) × (top ≤ 16383)
 
 abbrev μ-loop : tie.MeasureT-loop
-μ-loop table s alone p₀ rows₀ normal₀ top₀ low₀ p rows normal top low = length s - p
+μ-loop glances s alone p₀ rows₀ normal₀ top₀ low₀ p rows normal top low = length s - p
 
 abbrev claims : lts.Claims
 claims = (is-mark-reads.Asked, is-mark-reads.Learnt, passed-reads.Asked, passed-reads.Learnt, eight-of-reads.Asked, eight-of-reads.Learnt, run-reads.Asked, run-reads.Learnt, either-reads.Asked, either-reads.Learnt, oid-width-reads.Asked, oid-width-reads.Learnt)

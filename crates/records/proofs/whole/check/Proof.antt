@@ -40,8 +40,8 @@ returns-4 c = check-form _ (c .before .before .before .before .before .before .i
 shared-slice-read-alone : tie.Need-shared-slice-read-alone
 shared-slice-read-alone c = search needs
 
-table-requires : tie.Need-table-requires
-table-requires c κs = search needs
+glances-requires : tie.Need-glances-requires
+glances-requires c κs = search needs
 
 slice-aggregate-set-records : tie.Need-slice-aggregate-set-records
 slice-aggregate-set-records c = search needs
@@ -103,7 +103,7 @@ check-spec =
     wrong-requires-4
     returns-4
     shared-slice-read-alone
-    table-requires
+    glances-requires
     slice-aggregate-set-records
     sub-set-records
     part-set-records-start

@@ -16,6 +16,12 @@ walked-requires c κs = search needs
 returns : tie.Need-returns
 returns c = told-as (length (c .before .before .before .before .before .before .args .s .now)) (c .walked .ensures) (turn-done (c .before .before .before .glanced .ensures) (omega (arith, c .before .if1 .taken)))
 
+table-requires : tie.Need-table-requires
+table-requires c κs = search needs
+
+slice-aggregate-item-records : tie.Need-slice-aggregate-item-records
+slice-aggregate-item-records c = search needs
+
 sub-item-records : tie.Need-sub-item-records
 sub-item-records c = search needs
 
@@ -38,6 +44,8 @@ set-records-spec =
     glanced-requires
     walked-requires
     returns
+    table-requires
+    slice-aggregate-item-records
     sub-item-records
     part-item-records-start
     part-item-records-end

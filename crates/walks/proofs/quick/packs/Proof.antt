@@ -23,10 +23,10 @@ use Rattle.walks.proofs.quick.passed.Reads as passed-reads
 use Rattle.walks.proofs.quick.run.Reads as run-reads
 
 abbrev Inv-loop : tie.InvT-loop
-Inv-loop table s alone p₀ rows₀ more₀ top₀ low₀ p rows more top low = SeriesGoing (formOf alone) s p (packedSizes p rows more) top low × (p ≡ 0 → low ≡ 18446744073709551615) × (0 < p → low ≤ top)
+Inv-loop glances s alone p₀ rows₀ more₀ top₀ low₀ p rows more top low = SeriesGoing (formOf alone) s p (packedSizes p rows more) top low × (p ≡ 0 → low ≡ 18446744073709551615) × (0 < p → low ≤ top)
 
 abbrev μ-loop : tie.MeasureT-loop
-μ-loop table s alone p₀ rows₀ more₀ top₀ low₀ p rows more top low = length s - p
+μ-loop glances s alone p₀ rows₀ more₀ top₀ low₀ p rows more top low = length s - p
 
 abbrev Head-read : Type 0
 Head-read = lts.After-h (short-pack-head-reads.Asked, short-pack-head-reads.Learnt, passed-reads.Asked, passed-reads.Learnt, run-reads.Asked, run-reads.Learnt, either-reads.Asked, either-reads.Learnt) reads.Pre reads.Post Inv-loop μ-loop

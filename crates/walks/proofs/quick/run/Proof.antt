@@ -13,11 +13,11 @@ use Rattle.walks.proofs.quick.run.Tie as tie
 
 -- past the end nothing is said
 abbrev Inv-loop : tie.InvT-loop
-Inv-loop table s set alone most low p₀ count₀ mark₀ top₀ p count mark top =
+Inv-loop glances s set alone most low p₀ count₀ mark₀ top₀ p count mark top =
     (p ≤ length s → LevelGoing set (formOf alone) s p (quickSizes count p) mark top low) × (p < length s → top < getD s p 0 → getD s p 0 < 128 → low ≤ getD s p 0)
 
 abbrev μ-loop : tie.MeasureT-loop
-μ-loop table s set alone most low p₀ count₀ mark₀ top₀ p count mark top = length s - p
+μ-loop glances s set alone most low p₀ count₀ mark₀ top₀ p count mark top = length s - p
 
 span-requires : tie.Need-span-requires Inv-loop μ-loop
 span-requires c κs = search needs

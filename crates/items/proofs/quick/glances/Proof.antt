@@ -1,0 +1,12 @@
+-- `items::quick::glances` meets its contract: the rows are those of `glanceTable`.
+use mathlib.Core.Path.{refl}
+use Rattle.items.specs.Meet.{glanceTable}
+use Rattle.items.proofs.quick.glances.Statement.{statement}
+use Rattle.items.proofs.quick.glances.Tie as tie
+
+returns : tie.Need-returns
+unfolding glanceTable
+returns c = refl
+
+pub glances-spec : {M : Type 1} → statement M
+glances-spec = tie.close (tie.spec returns)

@@ -8,9 +8,10 @@ use lib.ListN.{length, drop, length-drop}
 use lib.Dec.{leb, eqb}
 use borrow.Author.Tests.{leb-true}
 use Rattle.format.specs.Answer.{ok, refused}
+use Rattle.format.specs.Coding.{Bytes}
 use Rattle.format.specs.Table.{Form, embedded, standalone, Level, set, pack, Rule, Most, upTo, any, isNumber, within, rules, find, ruleOf, sized, short}
 use Rattle.format.specs.Packet.{Entry, Packet, closed}
-use Rattle.format.specs.Read.{start, unsealed, closing, parse}
+use Rattle.format.specs.Read.{opening, start, unsealed, closing, parse}
 use Rattle.format.specs.Sheet.{Sheet, partOf, content}
 use Rattle.format.specs.Calls.{packed}
 use Rattle.format.specs.Edit.{Holder, Change, put, editRules, editEntries, editPacket, edit}
@@ -20,8 +21,13 @@ use Rattle.format.proofs.edits.Rules.{rules-then}
 use Rattle.coding.proofs.Counts.{len-most}
 use Rattle.items.specs.Meet.{levelOf}
 use Rattle.items.proofs.Tests.{bind-so, bind-not}
+use Rattle.walks.specs.declared.Sizes.{Sizes}
+use Rattle.walks.specs.declared.Checked.{Checked}
+use Rattle.walks.specs.declared.Checked.the-variants.{Fine}
+use Rattle.walks.specs.Meet.{checkedOf}
 use Rattle.walks.specs.Runs.{levelRun}
 use Rattle.walks.proofs.Parsed.{Sealing, Parsed}
+use Rattle.walks.proofs.Opened.{fine, opened, lentSet, lent-is}
 use Rattle.spots.specs.Meet.{entriesOf, thingsOf}
 use Rattle.spots.proofs.Seeks.{ran-ok}
 use Rattle.edits.specs.declared.Place.{Place}
@@ -76,6 +82,11 @@ module _ (f : Form) (s : List ℕ) (p : Packet) (k : Parsed f s p) where
         bind-so _ _ p e ∙ bind-so _ _ tt (rules-of ∙ r)
         ∙ ap (λ q. packed (closed (q .form) (editEntries h tag c (q .entries)))) (k .packet-is)
         ∙ ap (λ es. packed (closed f (editEntries h tag c (unsealed es)))) (sym entries-are)
+
+-- the set that is lent
+module _ (f : Form) (s : List ℕ) {c : Checked} (ec : c ≡ checkedOf (parse f s)) (b : Bytes s) {a : Sizes} (t : c ≡ Fine a) {k : ℕ} (ek : (w : ℕ) → opening f s ≡ ok w → k ≡ start f w) where
+  pub set-is : SetOf f (lentSet f s ec b t ek)
+  set-is = rw (lent-is f s ec b t ek) (set-of f s (fine f s ec b t .0) (opened f s ec b t))
 
 -- ---- what was judged
 

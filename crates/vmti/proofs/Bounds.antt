@@ -1,10 +1,10 @@
--- What a call's contract fixes: any two results that it allows are equal, and number and count are small.
+-- What the one number for C needs: a call's number and place or count are small.
 use mathlib.Core.Path.{_≡_, refl, sym, ap, _∙_}
 use Prim.Native.Nat.{ℕ, _+_, _*_, _≤_}
 use native.Mathlib.Omega.{arith}
 use mathlib.Core.Bool.{Bool, true, false}
-use mathlib.Core.List.{List, _++_}
-use lib.ListN.{length, drop, length-append}
+use mathlib.Core.List.{List}
+use lib.ListN.{length}
 use lib.Dec.{leb}
 use borrow.Author.Tests.{leb-true}
 use Rattle.format.specs.Answer.{Ans, ok, refused, _>>=_, need}
@@ -15,65 +15,14 @@ use Rattle.format.specs.Read.{parse, limit}
 use Rattle.format.specs.Sheet.{content, sheetBytes, sheetLimit, unsheet}
 use Rattle.format.specs.Calls.{packetOf, packed, read, write, normalise}
 use Rattle.format.specs.Edit.{Holder, theSet, Change, remove, editPacket, edit}
-use Rattle.format.specs.Rows.{Row, rowsOf, locate}
 use Rattle.format.specs.Room.{Left, leaves, oneNumber}
-use Rattle.format.proofs.bounds.Packets.{parse-answers}
 use Rattle.format.proofs.words.Answers.{bind-then}
 use Rattle.format.proofs.demands.Demand1.{numbered}
 use Rattle.format.proofs.demands.Demand2.{packed-then, write-then, normal}
 use Rattle.format.proofs.demands.Sizes.{sizes}
-use Rattle.rows.specs.Meet.{numbers}
-use Rattle.rows.proofs.Numbers.{numbers-long}
-use Rattle.vmti.specs.declared.Answer.{Answer}
-use Rattle.vmti.specs.declared.show.Part.{Part}
-use Rattle.vmti.specs.Meet.{leftOf, leavesRows, isDetectors, partShown}
-use Rattle.vmti.specs.Shows.{Names, Shows}
-use Rattle.vmti.proofs.Showing.{side-is}
-
--- for `leaves`, `leavesRows` and `leavesTable` alike, whatever is lent
-pub one-result : {A : Type 0} (a b : Answer) (x y : List A) (l : Left A) → leftOf a x ≡ l → leftOf b y ≡ l → (a ≡ b) × (x ≡ y)
-one-result a b x y l p q =
-    let e : leftOf a x ≡ leftOf b y = p ∙ sym q in
-    (λ i. record { number = e i .number; place = e i .place }, ap (λ z. z .lent) e)
-
--- `shown` names one part, and `show` hands back one list of bytes, at one place
-pub one-part : (f : Form) (r d : List ℕ) (h : Holder) (tag : ℕ) (a b : Part) → Names f r d h tag a → Names f r d h tag b → a ≡ b
-one-part f r d h tag a b p q =
-    let e : partShown a ≡ partShown b = p .0 ∙ sym (q .0) in
-    let s : a .detectors ≡ b .detectors = sym (side-is (a .detectors)) ∙ ap (λ x. isDetectors (x .side)) e ∙ side-is (b .detectors) in
-    λ i. record { detectors = s i; offset = e i .offset; size = e i .size }
-
-pub one-show : (f : Form) (r d : List ℕ) (pr pd : ℕ × ℕ) (h : Holder) (tag : ℕ) (v w : List ℕ) (j k : ℕ × ℕ) → Shows f r d pr pd h tag v j → Shows f r d pr pd h tag w k → (v ≡ w) × (j ≡ k)
-one-show f r d pr pd h tag v w j k p q = (p .0 ∙ sym (q .0), p .1 ∙ sym (q .1))
-
--- ---- a refusal
-
-refused-small : (f : Form) (s : List ℕ) (n p : ℕ) → parse f s ≡ refused n p → (1 ≤ n) × (n ≤ 19) × (p ≤ 8192)
-refused-small f s n p e = go (leb (length s) 8192) refl
-  where
-    long : leb (length s) 8192 ≡ false → parse f s ≡ refused 1 0
-    long z = unfold parse limit need _>>=_ in (rw z)
-
-    go : (b : Bool) → leb (length s) 8192 ≡ b → (1 ≤ n) × (n ≤ 19) × (p ≤ 8192)
-    go true z = let k = parse-answers f s .by n p e in (k .0, k .1, omega (arith, k .2, leb-true (length s) 8192 z))
-    go false z =
-        let q : _≡_ {A = Ans Packet} (refused 1 0) (refused n p) = sym (long z) ∙ e in
-        let a : 1 ≡ n = cc in
-        let b : 0 ≡ p = cc in
-        (omega arith, omega arith, omega arith)
-
-pub call-refused : {A : Type 0} (f : Form) (s : List ℕ) (g : Packet → A) (n p : ℕ) → (parse f s >>= λ k. ok (g k)) ≡ refused n p → (1 ≤ n) × (n ≤ 19) × (p ≤ 8192)
-unfolding _>>=_
-call-refused {A = A} f s g n p e = go (parse f s) refl e
-  where
-    go : (x : Ans Packet) → parse f s ≡ x → (x >>= λ k. ok (g k)) ≡ refused n p → (1 ≤ n) × (n ≤ 19) × (p ≤ 8192)
-    go (ok k) q e = absurd (let z : _≡_ {A = ℕ} 0 1 = cc in omega arith)
-    go (refused m j) q e =
-        let a : m ≡ n = cc in
-        let b : j ≡ p = cc in
-        refused-small f s n p (q ∙ ap (λ k. refused k j) a ∙ ap (refused n) b)
-
--- ---- what the one number for C needs
+use Rattle.answers.specs.declared.Answer.{Answer}
+use Rattle.answers.specs.Meet.{leftOf}
+use Rattle.answers.proofs.Results.{call-refused}
 
 -- a packet that is written is within its limit
 packed-long : (p : Packet) (y : List ℕ) → packed p ≡ ok y → length y ≤ 8192
@@ -165,25 +114,3 @@ module _ (lent out : List ℕ) (a : Answer) where
 pub one-number : (a : Answer) (out : List ℕ) (l : Left ℕ) → leftOf a out ≡ l → {r : ℕ} → r ≡ 256 * a .place + a .number → (r ≡ oneNumber l) × (out ≡ l .lent)
 unfolding oneNumber
 one-number a out l e q = (q ∙ ap oneNumber e, ap (λ x. x .lent) e)
-
--- ---- what a program that prints the rows needs
-
-pub located-fits : (f : Form) (s lent out : List ℕ) (a : Answer) → leftOf a out ≡ leavesRows lent (locate f s) → a .number ≡ 0 → 4 * a .place ≤ length out
-located-fits f s lent out a e z = go (locate f s) refl
-  where
-    fits : (rs : List Row) → leftOf a out ≡ leavesRows lent (ok rs) → (y : Bool) → leb (4 * length rs) (length lent) ≡ y → 4 * a .place ≤ length out
-    fits rs e true y =
-        let left : leavesRows lent (ok rs) ≡ record { number = 0; place = length rs; lent = numbers rs ++ drop (4 * length rs) lent } = unfold leavesRows in (rw (y, leavesRows)) in
-        let count : a .place ≡ length rs = ap (λ x. x .place) (e ∙ left) in
-        let size = ap (λ x. length (x .lent)) (e ∙ left) ∙ length-append (numbers rs) (drop (4 * length rs) lent) in
-        omega (arith, count, size, numbers-long rs)
-    fits rs e false y =
-        let q : leavesRows lent (ok rs) .number ≡ 16 = unfold leavesRows in (rw (y, leavesRows)) in
-        absurd (omega (arith, ap (λ x. x .number) e ∙ q, z))
-
-    go : (x : Ans (List Row)) → locate f s ≡ x → 4 * a .place ≤ length out
-    go (refused n p) q =
-        let k = call-refused f s rowsOf n p (unfold locate in q) in
-        let m : leftOf a out ≡ record { number = n; place = p; lent = lent } = e ∙ unfold leavesRows in (rw q) in
-        absurd (omega (arith, k .0, ap (λ x. x .number) m, z))
-    go (ok rs) q = fits rs (e ∙ ap (leavesRows lent) q) _ refl

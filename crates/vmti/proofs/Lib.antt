@@ -1,15 +1,2 @@
-pub mod Opened
-pub mod Leaving
-pub mod Framed
-pub mod Packing
-pub mod Reading
-pub mod Normalising
-pub mod Written
-pub mod Editing
-pub mod Locating
-pub mod Showing
 pub mod Bounds
 pub mod Promised
-pub mod Lending
-pub mod Tabled
-pub mod Shown

@@ -22,10 +22,10 @@ use Rattle.format.specs.demands.Demand1.{Answers}
 use Rattle.format.proofs.words.Answers.{ok-inj}
 use Rattle.format.proofs.demands.Demand1.{numbered}
 use Rattle.format.proofs.demands.Demand2.{normal, sheet-again}
-use Rattle.vmti.specs.declared.Answer.{Answer}
-use Rattle.vmti.specs.Meet.{leftOf, answerOf}
+use Rattle.answers.specs.declared.Answer.{Answer}
+use Rattle.answers.specs.Meet.{leftOf, answerOf}
+use Rattle.answers.proofs.Results.{one-result}
 use Rattle.vmti.specs.Promises.{Edits, written, Demand2, Edited, Demand3}
-use Rattle.vmti.proofs.Bounds.{one-result}
 
 -- a call that answered 0 wrote what it should
 record Wrote (x : Ans (List ℕ)) (a : Answer) (left : List ℕ) : Type 0 where

@@ -1,3 +1,2 @@
 pub mod Meet
 pub mod Promises
-pub mod Shows

@@ -16,8 +16,8 @@ use Rattle.format.specs.Calls.{packetOf, read, write, normalise}
 use Rattle.format.specs.Edit.{Holder, Change, editSheet, edit}
 use Rattle.format.specs.demands.Demand3.{Why, Changed}
 use Rattle.format.specs.demands.Kept.{Kept}
-use Rattle.vmti.specs.declared.Answer.{Answer}
-use Rattle.vmti.specs.Meet.{leftOf, answerOf}
+use Rattle.answers.specs.declared.Answer.{Answer}
+use Rattle.answers.specs.Meet.{leftOf, answerOf}
 
 -- the call left this answer, and this in the buffer that held `lent`
 abbrev pub Reads : Form → List ℕ → List ℕ → Answer → List ℕ → Type 0

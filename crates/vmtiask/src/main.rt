@@ -121,7 +121,7 @@ fn located(
     alone: bool,
     table: &mut [u64],
 ) -> usize {
-    let a = vmti::locate_numbers(packet, alone, table);
+    let a = locate::locate_numbers(packet, alone, table);
     let mut to = text::number(out, at, a.number, b" ");
     to = text::number(out, to, a.place as u64, b"\n");
     if a.number == 0 {
@@ -162,7 +162,7 @@ fn shown<'a>(
     let set = head[1] == 0;
     let id = coding::number_of(&head[2..], 8);
     let tag = coding::number_of(&head[10..], 8);
-    let p = vmti::show::shown(reviewer, detector, alone, set, id, tag);
+    let p = show::shown(reviewer, detector, alone, set, id, tag);
     let mut to = at;
     if p.detectors {
         to = text::word(out, to, b"detector ");
@@ -171,7 +171,7 @@ fn shown<'a>(
     }
     to = text::number(out, to, p.offset as u64, b" ");
     to = text::number(out, to, p.size as u64, b" ");
-    let v = vmti::show::show(reviewer, detector, alone, set, id, tag);
+    let v = show::show(reviewer, detector, alone, set, id, tag);
     text::hex(out, to, v)
 }
 

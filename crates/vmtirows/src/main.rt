@@ -46,7 +46,7 @@ fn rows(table: &[u64], count: usize)
 fn report(packet: &[u8]) {
     let mut table = [0u64; 16384];
     let alone = coding::has_key(packet);
-    let a = vmti::locate_numbers(packet, alone, &mut table);
+    let a = locate::locate_numbers(packet, alone, &mut table);
     if a.number != 0 {
         refused(a.number, a.place);
         return;

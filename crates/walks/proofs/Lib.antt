@@ -16,3 +16,4 @@ pub mod Closings
 pub mod Packets
 pub mod Steps
 pub mod Parsed
+pub mod Opened

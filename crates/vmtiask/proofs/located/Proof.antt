@@ -1,5 +1,5 @@
 -- `vmtiask::located` is safe: a table that was filled has four numbers for each row.
-use Rattle.vmti.proofs.Bounds.{located-fits}
+use Rattle.locate.proofs.Callers.{located-fits}
 use borrow.Author.Needs.{needs}
 use Rattle.vmtiask.proofs.located.Statement.{statement}
 use Rattle.vmtiask.proofs.located.Tie as tie

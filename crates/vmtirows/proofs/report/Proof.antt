@@ -1,6 +1,6 @@
 -- `vmtirows::report` meets its contract: a table that was filled has four numbers for each row.
 use borrow.Author.Needs.{needs}
-use Rattle.vmti.proofs.Bounds.{located-fits}
+use Rattle.locate.proofs.Callers.{located-fits}
 use Rattle.vmtirows.proofs.report.Statement.{statement}
 use Rattle.vmtirows.proofs.report.Tie as tie
 

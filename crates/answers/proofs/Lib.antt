@@ -1,0 +1,4 @@
+pub mod Leaving
+pub mod Framed
+pub mod Packing
+pub mod Results

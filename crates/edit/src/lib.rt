@@ -1,0 +1,87 @@
+// Edit: a packet is checked and the edit judged, then the packet with that one change is written.
+ghost use mathlib.Core.Path.{_≡_};
+ghost use mathlib.Core.Bool.{not, _&&_};
+ghost use lib.Dec.{ltb};
+ghost use lib.ListN.{length};
+ghost use Rattle.format.specs.Edit as Edit;
+ghost use Rattle.format.specs.Room.{leaves};
+ghost use Rattle.items.specs.Meet.{formOf};
+ghost use Rattle.edits.specs.Meet.{holderOf, changeOf};
+ghost use Rattle.answers.specs.Meet.{leftOf};
+ghost use Rattle.edit.specs.Meet.{foundRefusal};
+use answers::Answer;
+use answers::answer_of;
+use answers::refusal;
+use edits::Found;
+use walks::Checked;
+
+// A refusal of an edit passed up.
+fn edit_refusal(f: Found) -> Answer
+    ensures { λ r. ⌜ r ≡ foundRefusal f ⌝ }
+{
+    match f {
+        Found::There(_) => answer_of(0, 0),
+        Found::Not(n) => answer_of(n, 0),
+    }
+}
+
+// Whether a value to put has more bytes than a packet may have: then its packet has, too.
+fn over_long(removal: bool, value: &[u8]) -> bool
+    ensures { λ r. ⌜ r ≡ (not removal && ltb 8192 (length (now (value .entry)))) ⌝ }
+{
+    if removal { false } else { 8192 < value.len() }
+}
+
+// A packet with one item put or removed, of the set or of the target with an id.
+pub fn edit(
+    packet: &[u8],
+    alone: bool,
+    set: bool,
+    id: u64,
+    tag: u64,
+    removal: bool,
+    value: &[u8],
+    out: &mut [u8],
+) -> Answer
+    ensures { λ r. ⌜ leftOf r (now (out .exit)) ≡ leaves (now (out .entry)) (Edit.edit (formOf alone) (holderOf set id) tag (changeOf removal (now (value .entry))) (now (packet .entry))) ⌝ }
+{
+    let table = items::table();
+    let c = walks::whole::check(&table, packet, alone);
+    let Checked::Fine(_) = c else {
+        return refusal(c);
+    };
+    let from = walks::whole::set_start(packet, alone);
+    let s = &packet[from..];
+    let f = edits::judge(&table, s, alone, set, id, tag, removal, value);
+    let Found::There(p) = f else {
+        return edit_refusal(f);
+    };
+    if over_long(removal, value) {
+        return answer_of(1, 0);
+    }
+    let size = edits::puts::item_size(&table, set, tag, removal, value);
+    let n = edits::puts::edited_size(s, alone, set, id, tag, removal, value, p, size);
+    let total = frames::frame_size(alone, n);
+    if 8192 < total {
+        return answer_of(1, 0);
+    }
+    if out.len() < total {
+        return answer_of(16, total);
+    }
+    let a = frames::open(out, alone, n);
+    let k = edits::puts::put_edited(
+        &table,
+        s,
+        alone,
+        set,
+        id,
+        tag,
+        removal,
+        value,
+        p,
+        size,
+        &mut out[a..],
+    );
+    frames::close(out, alone, a + k);
+    answer_of(0, total)
+}

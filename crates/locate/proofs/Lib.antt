@@ -1,0 +1,4 @@
+pub mod Locating
+pub mod Lending
+pub mod Tabled
+pub mod Callers

@@ -1,0 +1,29 @@
+// Locate: a packet is checked and its rows are counted, then they are written.
+ghost use mathlib.Core.Path.{_≡_};
+ghost use Rattle.format.specs.Rows as Rows;
+ghost use Rattle.items.specs.Meet.{formOf};
+ghost use Rattle.answers.specs.Meet.{leftOf};
+ghost use Rattle.locate.specs.Meet.{leavesRows};
+use answers::Answer;
+use answers::answer_of;
+use answers::refusal;
+use walks::Checked;
+
+// A packet's rows, as numbers, four to a row.
+pub fn locate_numbers(packet: &[u8], alone: bool, rows: &mut [u64]) -> Answer
+    ensures { λ r. ⌜ leftOf r (now (rows .exit)) ≡ leavesRows (now (rows .entry)) (Rows.locate (formOf alone) (now (packet .entry))) ⌝ }
+{
+    let table = items::table();
+    let c = walks::whole::check(&table, packet, alone);
+    let Checked::Fine(sizes) = c else {
+        return refusal(c);
+    };
+    if rows.len() < 4 * sizes.rows {
+        return answer_of(16, sizes.rows);
+    }
+    let from = walks::whole::set_start(packet, alone);
+    rows::item_rows(&packet[from..], from, 0, true, alone, rows);
+    answer_of(0, sizes.rows)
+}
+
+pub mod table; // table.rt: rows as a lent slice of structs

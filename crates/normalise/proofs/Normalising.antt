@@ -1,0 +1,101 @@
+-- The call `normalise`, case by case: a refusal, too little room, and the normal form written.
+use mathlib.Core.Path.{_≡_, sym, ap, _∙_, subst}
+use Prim.Native.Nat.{ℕ, _≤_}
+use native.Mathlib.Omega.{arith}
+use mathlib.Core.Bool.{false}
+use mathlib.Core.List.{List, map}
+use lib.Dec.{eqb}
+use lib.ListN.{length}
+use lib.Seq.{sets}
+use Rattle.format.specs.Answer.{ok}
+use Rattle.format.specs.Coding.{Bytes}
+use Rattle.format.specs.Lists.{flatAll}
+use Rattle.format.specs.Table.{Form, set}
+use Rattle.format.specs.Packet.{Entry, Packet, tagOfEntry, flatEntry, flat, closed}
+use Rattle.format.specs.Read.{opening, start, parse}
+use Rattle.format.specs.Sheet.{content}
+use Rattle.format.specs.Calls.{entryOf, packetOf, packed, normalise}
+use Rattle.format.specs.Room.{leaves}
+use Rattle.format.proofs.reading.Packets.{parse-says}
+use Rattle.format.proofs.sheets.Normal.{entries-less}
+use Rattle.format.proofs.sheets.Same.{normal-less, normal-same}
+use Rattle.format.specs.Valid.{All}
+use Rattle.items.proofs.Tests.{bind-so, bind-not}
+use Rattle.walks.specs.declared.Sizes.{Sizes}
+use Rattle.walks.specs.declared.Checked.{Checked}
+use Rattle.walks.specs.declared.Checked.the-variants.{Fine, Wrong}
+use Rattle.walks.specs.Meet.{total, weightOfEntry, checkedOf}
+use Rattle.walks.specs.Runs.{levelRun}
+use Rattle.walks.proofs.Closings.{inner-less}
+use Rattle.walks.proofs.Parsed.{wrong-parsed}
+use Rattle.walks.proofs.Opened.{fine, opened, lentSet, lent-is}
+use Rattle.frames.specs.Meet.{frameSize}
+use Rattle.normals.specs.Meet.{levelNormal, InnerRun}
+use Rattle.normals.proofs.Packet.{normal-whole, inner-run}
+use Rattle.answers.specs.declared.Answer.{Answer}
+use Rattle.answers.specs.Meet.{leftOf, refusalOf}
+use Rattle.answers.proofs.Leaving.{left-refused}
+use Rattle.answers.proofs.Packing.{Packs, size-is}
+
+module _ (f : Form) (s : List ℕ) {c : Checked} (ec : c ≡ checkedOf (parse f s)) where
+  pub normal-refused : (lent : List ℕ) {n k : ℕ} {r : Answer} → c ≡ Wrong n k → r ≡ refusalOf c → leftOf r lent ≡ leaves lent (normalise f s)
+  unfolding normalise
+  normal-refused lent {n = n} {k = k} t e = left-refused lent (bind-not (parse f s) _ n k (wrong-parsed f s n k (sym t ∙ ec))) (e ∙ ap refusalOf t)
+
+  module _ (b : Bytes s) {a : Sizes} (t : c ≡ Fine a) where
+    abbrev packet : Packet
+    packet = fine f s ec b t .0
+
+    abbrev es : List Entry
+    es = map entryOf (content packet .parts)
+
+    normal-form : flat (packetOf (content packet)) ≡ flat (closed f es)
+    unfolding packetOf content
+    normal-form = ap (λ g. flat (closed g es)) (parse-says f s packet b (fine f s ec b t .1) .form-is)
+
+    packed-of : normalise f s ≡ packed (packetOf (content packet))
+    unfolding normalise
+    packed-of = bind-so (parse f s) _ packet (fine f s ec b t .1)
+
+    entries : length (flatAll flatEntry es) ≡ a .normal
+    entries = let e = fine f s ec b t .2 in cc
+
+    inner : a .inner ≡ total (weightOfEntry set) (packet .entries) .inner
+    inner = let e = fine f s ec b t .2 in cc
+
+    no-seal : All (λ e. eqb (tagOfEntry e) 1 ≡ false) (packet .entries)
+    no-seal = subst (λ p. All (λ e. eqb (tagOfEntry e) 1 ≡ false) (p .entries)) (sym (opened f s ec b t .packet-is)) (opened f s ec b t .no-seal)
+
+    small : length (flat (closed f es)) ≤ 8192
+    small =
+        let k = parse-says f s packet b (fine f s ec b t .1) in
+        omega (arith, ap length normal-form, normal-less packet (k .valid), ap length (k .lies-flat), opened f s ec b t .short)
+
+    pub normal-small : a .normal ≤ 8192
+    normal-small = omega (arith, entries, entries-less f es, small)
+
+    module _ {size : ℕ} (ez : size ≡ frameSize f (a .normal)) where
+      pub normal-packs : Packs (normalise f s) f es (a .normal) size
+      normal-packs = record { packet = packetOf (content packet); answers = packed-of; closes = normal-form; entries = entries; frame = ez }
+
+      -- a normal form is never over the limit
+      pub normal-within : size ≤ 8192
+      normal-within = omega (arith, size-is normal-packs, small)
+
+      -- of as many bytes it is the packet itself
+      pub normal-copied : (lent : List ℕ) → size ≡ length s → {out : List ℕ} → out ≡ sets lent 0 s → out ≡ sets lent 0 (flat (closed f es))
+      normal-copied lent e eo =
+          let k = parse-says f s packet b (fine f s ec b t .1) in
+          let n : length (flat (packetOf (content packet))) ≡ length (flat packet) = ap length normal-form ∙ size-is normal-packs ∙ e ∙ sym (ap length (k .lies-flat)) in
+          eo ∙ ap (sets lent 0) (sym (k .lies-flat) ∙ sym (normal-same packet (k .valid) n) ∙ normal-form)
+
+    -- what the walk that writes is asked for
+    module _ {k : ℕ} (ek : (w : ℕ) → opening f s ≡ ok w → k ≡ start f w) where
+      pub written-is : levelNormal set f (lentSet f s ec b t ek) ≡ flatAll flatEntry es
+      written-is = ap (levelNormal set f) (lent-is f s ec b t ek) ∙ sym (normal-whole (opened f s ec b t))
+
+      pub inner-asked : (a .inner ≤ 65536) × InnerRun (a .inner) (levelRun set f (lentSet f s ec b t ek))
+      inner-asked = (
+        omega (arith, inner, inner-less packet no-seal, entries, normal-small),
+        rw (lent-is f s ec b t ek) (inner-run (opened f s ec b t) b inner),
+      )

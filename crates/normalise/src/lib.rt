@@ -1,0 +1,42 @@
+// Normalise: a packet is checked and its sizes are added up, then its normal form is written.
+ghost use mathlib.Core.Path.{_≡_};
+ghost use Rattle.format.specs.Calls as Calls;
+ghost use Rattle.format.specs.Room.{leaves};
+ghost use Rattle.items.specs.Meet.{formOf};
+ghost use Rattle.answers.specs.Meet.{leftOf};
+use answers::Answer;
+use answers::answer_of;
+use answers::refusal;
+use walks::Checked;
+
+// A packet to its normal form: what `write` makes of its sheet, with no sheet between.
+pub fn normalise(packet: &[u8], alone: bool, out: &mut [u8]) -> Answer
+    ensures { λ r. ⌜ leftOf r (now (out .exit)) ≡ leaves (now (out .entry)) (Calls.normalise (formOf alone) (now (packet .entry))) ⌝ }
+{
+    let table = items::table();
+    let c = walks::whole::check(&table, packet, alone);
+    let Checked::Fine(sizes) = c else {
+        return refusal(c);
+    };
+    let size = frames::frame_size(alone, sizes.normal);
+    if out.len() < size {
+        return answer_of(16, size);
+    }
+    // No piece grows, so a normal form of as many bytes is the packet itself.
+    if size == packet.len() {
+        stores::copy_run(out, 0, packet);
+        return answer_of(0, size);
+    }
+    let from = walks::whole::set_start(packet, alone);
+    let a = frames::open(out, alone, sizes.normal);
+    let n = normals::item_normal(
+        &table,
+        &packet[from..],
+        true,
+        alone,
+        sizes.inner,
+        &mut out[a..],
+    );
+    frames::close(out, alone, a + n);
+    answer_of(0, size)
+}

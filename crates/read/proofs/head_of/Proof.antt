@@ -1,0 +1,16 @@
+-- `read::head_of` meets its contract, by cases of the form.
+use Rattle.read.proofs.head_of.Statement.{statement}
+use Rattle.read.proofs.head_of.Tie as tie
+
+returns : tie.Need-returns
+returns c = rw (c .if1 .taken)
+
+returns-2 : tie.Need-returns-2
+returns-2 c = rw (c .if1 .left)
+
+pub head-of-spec : {M : Type 1} → statement M
+head-of-spec =
+    tie.close
+    (tie.spec
+    returns
+    returns-2)

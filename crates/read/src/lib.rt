@@ -1,0 +1,37 @@
+// Read: a packet is checked and its sizes are added up, then its sheet is written.
+ghost use mathlib.Core.Path.{_≡_};
+ghost use Prim.Native.Nat.{_+_};
+ghost use Rattle.format.specs.Sheet.{formByte};
+ghost use Rattle.format.specs.Calls as Calls;
+ghost use Rattle.format.specs.Room.{leaves};
+ghost use Rattle.items.specs.Meet.{formOf};
+ghost use Rattle.answers.specs.Meet.{leftOf};
+use answers::Answer;
+use answers::answer_of;
+use answers::refusal;
+use walks::Checked;
+
+// `PK` and the form, as one number.
+fn head_of(alone: bool) -> u64
+    ensures { λ r. ⌜ r ≡ 5262080 + formByte (formOf alone) ⌝ }
+{
+    if alone { 5262081 } else { 5262080 }
+}
+
+// A packet to its sheet.
+pub fn read(packet: &[u8], alone: bool, sheet: &mut [u8]) -> Answer
+    ensures { λ r. ⌜ leftOf r (now (sheet .exit)) ≡ leaves (now (sheet .entry)) (Calls.read (formOf alone) (now (packet .entry))) ⌝ }
+{
+    let table = items::table();
+    let c = walks::whole::check(&table, packet, alone);
+    let Checked::Fine(sizes) = c else {
+        return refusal(c);
+    };
+    if sheet.len() < sizes.sheet {
+        return answer_of(16, sizes.sheet);
+    }
+    let from = walks::whole::set_start(packet, alone);
+    stores::put_number(sheet, 0, head_of(alone), 3);
+    sheets::item_sheet(&table, &packet[from..], true, alone, &mut sheet[3..]);
+    answer_of(0, sizes.sheet)
+}

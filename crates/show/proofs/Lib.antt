@@ -1,0 +1,3 @@
+pub mod Showing
+pub mod Promised
+pub mod Results

@@ -1,0 +1,170 @@
+-- The call `shown`, case by case: a packet refused, no item named, and the value's part of the one packet or the other.
+use mathlib.Core.Path.{_≡_, refl, sym, ap, _∙_}
+use mathlib.Core.Logic.{inl, inr}
+use Prim.Native.Nat.{ℕ, _+_, _-_, _≤_}
+use native.Mathlib.Omega.{arith}
+use mathlib.Core.Bool.{Bool, true, false, not}
+use mathlib.Core.List.{List}
+use lib.ListN.{length, take, drop, length-drop}
+use lib.Dec.{ltb, eqb}
+use borrow.Author.Tests.{lt-ltb}
+use Rattle.format.specs.Answer.{Ans, ok, refused, _>>=_}
+use Rattle.format.specs.Coding.{Bytes}
+use Rattle.format.specs.Table.{Form, embedded, standalone, set}
+use Rattle.format.specs.Packet.{Entry, Packet}
+use Rattle.format.specs.Read.{opening, start, unsealed, parse}
+use Rattle.format.specs.Rows.{Row, entryRows}
+use Rattle.format.specs.Edit.{Holder}
+use Rattle.format.specs.Show.{reviewer, detector, Shown, shown, nothing, numberOf, findRow, showable, eitherRow, showIn, show}
+use Rattle.format.specs.demands.Rows.{part}
+use Rattle.format.proofs.words.Answers.{no-bool}
+use Rattle.format.proofs.demands.Shows.{shows}
+use Rattle.format.proofs.rows.Find.{number-snoc}
+use Rattle.coding.proofs.Rooms.{tail-part}
+use Rattle.items.proofs.Tests.{bind-so}
+use Rattle.heads.proofs.Heads.{mid-part}
+use Rattle.walks.specs.declared.Sizes.{Sizes}
+use Rattle.walks.specs.declared.Checked.{Checked}
+use Rattle.walks.specs.declared.Checked.the-variants.{Fine, Wrong}
+use Rattle.walks.specs.Meet.{checkedOf}
+use Rattle.walks.proofs.Parsed.{Sealing, Parsed, wrong-parsed}
+use Rattle.walks.proofs.Opened.{fine, opened, start-is, set-room, lentSet, lent-is}
+use Rattle.spots.specs.Meet.{thingsOf, entriesOf}
+use Rattle.rows.proofs.Packet.{rows-whole}
+use Rattle.edits.specs.Meet.{holderOf}
+use Rattle.edits.proofs.Finds.{some-of}
+use Rattle.shows.specs.declared.Value.{Value}
+use Rattle.shows.specs.Meet.{valueOf, rowFor, rowIn}
+use Rattle.show.specs.declared.Part.{Part}
+use Rattle.show.specs.Meet.{rowNamed, ofTwo, sideOf, isDetectors, partShown, noPart, bytesShown, placeShown}
+use Rattle.show.specs.Shows.{Names}
+
+-- ---- in one packet
+
+-- the checksum numbers no target anew
+sealed-number : (f : Form) (h : Holder) (es : List Entry) (sum : List ℕ) → Sealing f es sum → numberOf h (unsealed es) ≡ numberOf h es
+sealed-number embedded h es sum e = ap (numberOf h) (sym e)
+sealed-number standalone h es sum (c, n, e) = sym (ap (numberOf h) e ∙ number-snoc h (unsealed es) _)
+
+row-is : (f : Form) (s : List ℕ) (p : Packet) (k : Parsed f s p) (h : Holder) (tag : ℕ) → findRow h tag p ≡ rowIn h tag (start f (k .width)) (k .es .val)
+unfolding findRow
+row-is f s p k h tag =
+    ap (λ rs. numberOf h (p .entries) >>= λ n. rowFor n tag rs) (rows-whole k)
+    ∙ ap (λ m. m >>= λ n. rowFor n tag (entryRows (start f (k .width)) (k .es .val))) (ap (λ q. numberOf h (q .entries)) (k .packet-is) ∙ sealed-number f h (k .es .val) (k .sum) (k .sealing))
+
+module _ (f : Form) (s : List ℕ) (b : Bytes s) {a : Sizes} (t : checkedOf (parse f s) ≡ Fine a) {k : ℕ} (ek : (w : ℕ) → opening f s ≡ ok w → k ≡ start f w) (h : Holder) (tag : ℕ) where
+  -- what was found in the set, as it is lent
+  pub value-found : {v : Value} → (v ≡ valueOf (rowIn h tag k (entriesOf set f (lentSet f s refl b t ek)))) × (v .offset + v .size ≤ k + length (lentSet f s refl b t ek))
+      → (v ≡ valueOf (rowNamed h tag (parse f s))) × (v .offset + v .size ≤ length s)
+  value-found (e, l) =
+      let o = opened f s refl b t in
+      let lent-long : length (lentSet f s refl b t ek) ≡ length s - k = ap length (tail-part k s) ∙ length-drop k s in
+      let entries : entriesOf set f (lentSet f s refl b t ek) ≡ o .es .val = ap (entriesOf set f) (lent-is f s refl b t ek) ∙ ap thingsOf (o .runs) in (
+        e ∙ ap (λ x. valueOf (rowIn h tag k x)) entries
+            ∙ ap (λ x. valueOf (rowIn h tag x (o .es .val))) (start-is f s refl b t ek)
+            ∙ ap valueOf (sym (bind-so (parse f s) _ (fine f s refl b t .0) (fine f s refl b t .1) ∙ row-is f s (fine f s refl b t .0) o h tag)),
+        omega (arith, set-room f s refl b t ek, lent-long),
+      )
+
+-- ---- in two
+
+module _ {v : Value} (x y : Ans Row) (ev : v ≡ valueOf x) where
+  row-first : v .there ≡ true → shown reviewer (v .offset) (v .size) ≡ eitherRow x y
+  unfolding eitherRow
+  row-first z = go x ev
+    where
+      go : (x : Ans Row) → v ≡ valueOf x → shown reviewer (v .offset) (v .size) ≡ eitherRow x y
+      go (ok r) e = rw e
+      go (refused n p) e = no-bool (sym (ap (λ q. q .there) e) ∙ z)
+
+  row-second : v .there ≡ false → {w : Value} → w ≡ valueOf y → w .there ≡ true → shown detector (w .offset) (w .size) ≡ eitherRow x y
+  unfolding eitherRow
+  row-second z {w = w} ew zw = go x y ev ew
+    where
+      go : (x y : Ans Row) → v ≡ valueOf x → w ≡ valueOf y → shown detector (w .offset) (w .size) ≡ eitherRow x y
+      go (ok r) y e g = no-bool (sym z ∙ ap (λ q. q .there) e)
+      go (refused n p) (ok r) e g = rw g
+      go (refused n p) (refused m q) e g = no-bool (sym (ap (λ q. q .there) g) ∙ zw)
+
+  row-none : v .there ≡ false → {w : Value} → w ≡ valueOf y → w .there ≡ false → nothing ≡ eitherRow x y
+  unfolding eitherRow
+  row-none z {w = w} ew zw = go x y ev ew
+    where
+      go : (x y : Ans Row) → v ≡ valueOf x → w ≡ valueOf y → nothing ≡ eitherRow x y
+      go (ok r) y e g = no-bool (sym z ∙ ap (λ q. q .there) e)
+      go (refused n p) (ok r) e g = no-bool (sym zw ∙ ap (λ q. q .there) g)
+      go (refused n p) (refused m q) e g = refl
+
+module _ (f : Form) (r d : List ℕ) (h : Holder) (tag : ℕ) (hr : Bytes r) (hd : Bytes d) where
+  none-shown : {p : Part} → p ≡ noPart → show f r d h tag ≡ nothing → Names f r d h tag p
+  none-shown e z = (ap partShown e ∙ sym z, rw e (omega arith))
+
+  module _ {a : Checked} (ea : a ≡ checkedOf (parse f r)) where
+    pub reviewer-wrong : {n k : ℕ} → a ≡ Wrong n k → {p : Part} → p ≡ noPart → Names f r d h tag p
+    reviewer-wrong {n = n} {k = k} t e = none-shown e (shows f r d h tag hr hd .on-refused n k (inl (wrong-parsed f r n k (sym t ∙ ea))))
+
+  module _ {b : Checked} (eb : b ≡ checkedOf (parse f d)) where
+    pub detector-wrong : {n k : ℕ} → b ≡ Wrong n k → {p : Part} → p ≡ noPart → Names f r d h tag p
+    detector-wrong {n = n} {k = k} t e = none-shown e (shows f r d h tag hr hd .on-refused n k (inr (wrong-parsed f d n k (sym t ∙ eb))))
+
+  pub unnamed : {x : Bool} → x ≡ showable h tag → x ≡ false → {p : Part} → p ≡ noPart → Names f r d h tag p
+  unnamed ex z e = none-shown e (shows f r d h tag hr hd .on-unnamed (sym ex ∙ z))
+
+  module _ {a b : Sizes} (ta : checkedOf (parse f r) ≡ Fine a) (tb : checkedOf (parse f d) ≡ Fine b) (n : showable h tag ≡ true) where
+    in-two : show f r d h tag ≡ eitherRow (rowNamed h tag (parse f r)) (rowNamed h tag (parse f d))
+    unfolding show showIn _>>=_
+    in-two = rw (fine f r refl hr ta .1, fine f d refl hd tb .1) (rw (n, showIn))
+
+    module _ {v : Value} (ev : (v ≡ valueOf (rowNamed h tag (parse f r))) × (v .offset + v .size ≤ length r)) where
+      pub reviewers : v .there ≡ true → Names f r d h tag (record { detectors = false; offset = v .offset; size = v .size })
+      reviewers z = (row-first _ _ (ev .0) z ∙ sym in-two, ev .1)
+
+      module _ (z : v .there ≡ false) {w : Value} (ew : (w ≡ valueOf (rowNamed h tag (parse f d))) × (w .offset + w .size ≤ length d)) where
+        pub detectors : w .there ≡ true → Names f r d h tag (record { detectors = true; offset = w .offset; size = w .size })
+        detectors y = (row-second _ _ (ev .0) z (ew .0) y ∙ sym in-two, ew .1)
+
+        pub neithers : w .there ≡ false → {p : Part} → p ≡ noPart → Names f r d h tag p
+        neithers y e = none-shown e (in-two ∙ sym (row-none _ _ (ev .0) z (ew .0) y))
+
+-- ---- what may be shown
+
+module _ {tag : ℕ} where
+  pub zero-unnamed : (b : Bool) (id : ℕ) → tag ≡ 0 → false ≡ showable (holderOf b id) tag
+  unfolding showable
+  zero-unnamed b id e = rw e
+
+  some-tag : (tag ≡ 0 → ⊥) → ltb 0 tag ≡ true
+  some-tag n = lt-ltb 0 tag (some-of tag n)
+
+  module _ {b : Bool} (id : ℕ) (n : tag ≡ 0 → ⊥) where
+    pub set-named : b ≡ true → not (eqb tag 101) ≡ showable (holderOf b id) tag
+    unfolding showable
+    set-named e = rw (e, some-tag n)
+
+    pub target-named : b ≡ false → true ≡ showable (holderOf b id) tag
+    unfolding showable
+    target-named e = rw (e, some-tag n)
+
+-- ---- the part itself
+
+pub part-fits : (r d : List ℕ) (b : Bool) {m : ℕ} (n : ℕ) → m ≤ length (ofTwo b r d) → length r ≤ n → length d ≤ n → m ≤ n
+part-fits r d true n h lr ld = omega arith
+part-fits r d false n h lr ld = omega arith
+
+pub side-is : (b : Bool) → isDetectors (sideOf b) ≡ b
+side-is true = refl
+side-is false = refl
+
+module _ (p : Part) {b : Bool} (z : p .detectors ≡ b) where
+  pub part-ends : (r d : List ℕ) → p .offset + p .size ≤ length (ofTwo (p .detectors) r d) → p .offset + p .size ≤ length (ofTwo b r d)
+  part-ends r d h = rw z at h
+
+  module _ {x : Shown} (e : partShown p ≡ x) where
+    side-of : b ≡ isDetectors (x .side)
+    side-of = sym (side-is (p .detectors) ∙ z) ∙ ap (λ y. isDetectors (y .side)) e
+
+    pub part-bytes : (r d : List ℕ) → take (p .offset + p .size - p .offset) (drop (p .offset) (ofTwo b r d)) ≡ bytesShown r d x
+    part-bytes r d = mid-part (p .offset) (p .size) (ofTwo b r d) ∙ ap (λ y. part (ofTwo y r d) (p .offset) (p .size)) side-of ∙ ap (λ y. part (ofTwo (isDetectors (x .side)) r d) (y .offset) (y .size)) e
+
+    pub part-place : (r d : ℕ × ℕ) → (ofTwo b r d .0, p .offset + ofTwo b r d .1) ≡ placeShown r d x
+    part-place r d = ap (λ y. (ofTwo y r d .0, p .offset + ofTwo y r d .1)) side-of ∙ ap (λ y. (ofTwo (isDetectors (x .side)) r d .0, y .offset + ofTwo (isDetectors (x .side)) r d .1)) e

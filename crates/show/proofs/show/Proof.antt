@@ -1,0 +1,51 @@
+-- `show::show` meets its contract: the part that `shown` names.
+use native.Mathlib.Omega.{arith}
+use Rattle.show.proofs.Showing.{part-fits, part-ends, part-bytes, part-place}
+use borrow.Author.Needs.{needs}
+use Rattle.show.proofs.show.Statement.{statement}
+use Rattle.show.proofs.show.Tie as tie
+
+shown-requires : tie.Need-shown-requires
+shown-requires c κs = search needs
+
+add-to : tie.Need-add-to
+add-to c = omega (arith, part-fits (c .before .before .before .before .args .reviewer .now) (c .before .before .before .before .args .detector .now) (c .before .shown .result .detectors) 18446744073709551615 (c .before .shown .ensures .1) (omega arith) (omega arith))
+
+sub-result : tie.Need-sub-result
+sub-result c = search needs
+
+part-result-start : tie.Need-part-result-start
+part-result-start c = search needs
+
+part-result-end : tie.Need-part-result-end
+part-result-end c = omega (arith, part-ends (c .before .before .shown .result) (c .if1 .taken) (c .before .before .before .before .before .args .reviewer .now) (c .before .before .before .before .before .args .detector .now) (c .before .before .shown .ensures .1))
+
+returns : tie.Need-returns
+returns c = (part-bytes (c .before .before .before .shown .result) (c .before .if1 .taken) (c .before .before .before .shown .ensures .0) (c .before .before .before .before .before .before .args .reviewer .now) (c .before .before .before .before .before .before .args .detector .now), part-place (c .before .before .before .shown .result) (c .before .if1 .taken) (c .before .before .before .shown .ensures .0) (c .before .before .before .before .before .before .args .reviewer .ptr) (c .before .before .before .before .before .before .args .detector .ptr))
+
+sub-result-2 : tie.Need-sub-result-2
+sub-result-2 c = search needs
+
+part-result-start-2 : tie.Need-part-result-start-2
+part-result-start-2 c = search needs
+
+part-result-end-2 : tie.Need-part-result-end-2
+part-result-end-2 c = omega (arith, part-ends (c .before .before .shown .result) (c .if1 .left) (c .before .before .before .before .before .args .reviewer .now) (c .before .before .before .before .before .args .detector .now) (c .before .before .shown .ensures .1))
+
+returns-2 : tie.Need-returns-2
+returns-2 c = (part-bytes (c .before .before .before .shown .result) (c .before .if1 .left) (c .before .before .before .shown .ensures .0) (c .before .before .before .before .before .before .args .reviewer .now) (c .before .before .before .before .before .before .args .detector .now), part-place (c .before .before .before .shown .result) (c .before .if1 .left) (c .before .before .before .shown .ensures .0) (c .before .before .before .before .before .before .args .reviewer .ptr) (c .before .before .before .before .before .before .args .detector .ptr))
+
+pub show-spec : {M : Type 1} → statement M
+show-spec =
+    tie.close
+    (tie.spec
+    shown-requires
+    add-to
+    sub-result
+    part-result-start
+    part-result-end
+    returns
+    sub-result-2
+    part-result-start-2
+    part-result-end-2
+    returns-2)

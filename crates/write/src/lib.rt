@@ -1,0 +1,49 @@
+// Write: a sheet is checked and the sizes of its packet are added up, then the packet is written.
+ghost use mathlib.Core.Path.{_≡_};
+ghost use Rattle.format.specs.Calls as Calls;
+ghost use Rattle.format.specs.Room.{leaves};
+ghost use Rattle.answers.specs.Meet.{leftOf};
+ghost use Rattle.write.specs.Meet.{sheetRefusal};
+use answers::Answer;
+use answers::answer_of;
+use records::Sheeted;
+
+// A refusal of a sheet passed up.
+fn sheet_refusal(c: Sheeted) -> Answer
+    ensures { λ r. ⌜ r ≡ sheetRefusal c ⌝ }
+{
+    match c {
+        Sheeted::Fine {
+            alone: _,
+            normal: _,
+            inner: _,
+        } => answer_of(0, 0),
+        Sheeted::Wrong { number, place } => answer_of(number, place),
+    }
+}
+
+// A sheet to its packet.
+pub fn write(sheet: &[u8], packet: &mut [u8]) -> Answer
+    ensures { λ r. ⌜ leftOf r (now (packet .exit)) ≡ leaves (now (packet .entry)) (Calls.write (now (sheet .entry))) ⌝ }
+{
+    let c = records::whole::check(sheet);
+    let Sheeted::Fine {
+        alone,
+        normal,
+        inner,
+    } = c
+    else {
+        return sheet_refusal(c);
+    };
+    let size = frames::frame_size(alone, normal);
+    if 8192 < size {
+        return answer_of(1, 0);
+    }
+    if packet.len() < size {
+        return answer_of(16, size);
+    }
+    let a = frames::open(packet, alone, normal);
+    let n = packets::item_packet(&sheet[3..], true, alone, inner, &mut packet[a..]);
+    frames::close(packet, alone, a + n);
+    answer_of(0, size)
+}

@@ -45,21 +45,22 @@ pub fn edit(
 ) -> Answer
     ensures { λ r. ⌜ leftOf r (now (out .exit)) ≡ leaves (now (out .entry)) (Edit.edit (formOf alone) (holderOf set id) tag (changeOf removal (now (value .entry))) (now (packet .entry))) ⌝ }
 {
-    let table = items::table();
-    let c = walks::whole::check(&table, packet, alone);
+    let glances = items::quick::glances();
+    let c = walks::whole::check(&glances, packet, alone);
     let Checked::Fine(_) = c else {
         return refusal(c);
     };
     let from = walks::whole::set_start(packet, alone);
     let s = &packet[from..];
-    let f = edits::judge(&table, s, alone, set, id, tag, removal, value);
+    let f = edits::judge(&glances, s, alone, set, id, tag, removal, value);
     let Found::There(p) = f else {
         return edit_refusal(f);
     };
     if over_long(removal, value) {
         return answer_of(1, 0);
     }
-    let size = edits::puts::item_size(&table, set, tag, removal, value);
+    let m = edits::puts::short_size(&glances, alone, set, tag, removal, value);
+    let size = edits::puts::item_size(set, tag, removal, value, m);
     let n = edits::puts::edited_size(s, alone, set, id, tag, removal, value, p, size);
     let total = frames::frame_size(alone, n);
     if 8192 < total {
@@ -70,7 +71,6 @@ pub fn edit(
     }
     let a = frames::open(out, alone, n);
     let k = edits::puts::put_edited(
-        &table,
         s,
         alone,
         set,
@@ -79,6 +79,7 @@ pub fn edit(
         removal,
         value,
         p,
+        m,
         size,
         &mut out[a..],
     );

@@ -13,8 +13,8 @@ use walks::Checked;
 pub fn locate_numbers(packet: &[u8], alone: bool, rows: &mut [u64]) -> Answer
     ensures { λ r. ⌜ leftOf r (now (rows .exit)) ≡ leavesRows (now (rows .entry)) (Rows.locate (formOf alone) (now (packet .entry))) ⌝ }
 {
-    let table = items::table();
-    let c = walks::whole::check(&table, packet, alone);
+    let glances = items::quick::glances();
+    let c = walks::whole::check(&glances, packet, alone);
     let Checked::Fine(sizes) = c else {
         return refusal(c);
     };

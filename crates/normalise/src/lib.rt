@@ -13,8 +13,8 @@ use walks::Checked;
 pub fn normalise(packet: &[u8], alone: bool, out: &mut [u8]) -> Answer
     ensures { λ r. ⌜ leftOf r (now (out .exit)) ≡ leaves (now (out .entry)) (Calls.normalise (formOf alone) (now (packet .entry))) ⌝ }
 {
-    let table = items::table();
-    let c = walks::whole::check(&table, packet, alone);
+    let glances = items::quick::glances();
+    let c = walks::whole::check(&glances, packet, alone);
     let Checked::Fine(sizes) = c else {
         return refusal(c);
     };
@@ -29,8 +29,10 @@ pub fn normalise(packet: &[u8], alone: bool, out: &mut [u8]) -> Answer
     }
     let from = walks::whole::set_start(packet, alone);
     let a = frames::open(out, alone, sizes.normal);
+    let table = items::table();
     let n = normals::item_normal(
         &table,
+        &glances,
         &packet[from..],
         true,
         alone,

@@ -22,8 +22,8 @@ fn head_of(alone: bool) -> u64
 pub fn read(packet: &[u8], alone: bool, sheet: &mut [u8]) -> Answer
     ensures { λ r. ⌜ leftOf r (now (sheet .exit)) ≡ leaves (now (sheet .entry)) (Calls.read (formOf alone) (now (packet .entry))) ⌝ }
 {
-    let table = items::table();
-    let c = walks::whole::check(&table, packet, alone);
+    let glances = items::quick::glances();
+    let c = walks::whole::check(&glances, packet, alone);
     let Checked::Fine(sizes) = c else {
         return refusal(c);
     };
@@ -32,6 +32,7 @@ pub fn read(packet: &[u8], alone: bool, sheet: &mut [u8]) -> Answer
     }
     let from = walks::whole::set_start(packet, alone);
     stores::put_number(sheet, 0, head_of(alone), 3);
+    let table = items::table();
     sheets::item_sheet(&table, &packet[from..], true, alone, &mut sheet[3..]);
     answer_of(0, sizes.sheet)
 }

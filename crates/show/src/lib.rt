@@ -60,12 +60,12 @@ pub fn shown(reviewer: &[u8], detector: &[u8], alone: bool, set: bool, id: u64, 
     ensures { λ r. ⌜ (partShown r ≡ Show.show (formOf alone) (now (reviewer .entry)) (now (detector .entry)) (holderOf set id) tag)
         × (r .offset + r .size ≤ length (ofTwo (r .detectors) (now (reviewer .entry)) (now (detector .entry)))) ⌝ }
 {
-    let table = items::table();
-    let a = walks::whole::check(&table, reviewer, alone);
+    let glances = items::quick::glances();
+    let a = walks::whole::check(&glances, reviewer, alone);
     let Checked::Fine(_) = a else {
         return nothing();
     };
-    let b = walks::whole::check(&table, detector, alone);
+    let b = walks::whole::check(&glances, detector, alone);
     let Checked::Fine(_) = b else {
         return nothing();
     };

@@ -5,7 +5,6 @@
 use mathlib.Core.Path.{refl, sym}
 use native.Mathlib.Omega.{arith}
 use borrow.Author.Needs.{needs}
-use Rattle.items.proofs.Rows.{table-long}
 use Rattle.walks.proofs.Opened.{opened, set-room}
 use Rattle.edits.proofs.Storing.{tag-high, puttable}
 use Rattle.edits.proofs.Callers.{set-is, edited-small}
@@ -15,14 +14,14 @@ use Rattle.edit.proofs.Editing.{not-long, edit-unread, edit-ruled, edit
 use Rattle.edit.proofs.edit.Statement.{statement}
 use Rattle.edit.proofs.edit.Tie as tie
 
-table-requires : tie.Need-table-requires
-table-requires c κs = search needs
+glances-requires : tie.Need-glances-requires
+glances-requires c κs = search needs
 
 slice-aggregate-check : tie.Need-slice-aggregate-check
 slice-aggregate-check c = search needs
 
 check-requires : tie.Need-check-requires
-check-requires c κs = c .before .table .ensures
+check-requires c κs = c .before .glances .ensures
 
 enum-told : tie.Need-enum-told
 enum-told c = search needs
@@ -60,7 +59,7 @@ judge-requires : tie.Need-judge-requires
 judge-requires c κs =
     let k = c .before .before in
     let a = k .before in
-    (a .before .before .before .before .table .ensures, set-is _ _ (a .before .before .check .ensures) (λ i. a .before .before .before .before .before .before .before .shared-slice-known .given i .fits) (a .enum-told .given .1) (k .set-start .ensures))
+    (a .before .before .before .before .glances .ensures, set-is _ _ (a .before .before .check .ensures) (λ i. a .before .before .before .before .before .before .before .shared-slice-known .given i .fits) (a .enum-told .given .1) (k .set-start .ensures))
 
 enum-known-f : tie.Need-enum-known-f
 enum-known-f c = search needs
@@ -92,35 +91,45 @@ returns-3 c =
     let a = k .before in
     edit-over _ _ _ _ _ (a .before .before .check .ensures) (λ i. a .before .before .before .before .before .before .before .shared-slice-known .given i .fits) (a .enum-told .given .1) (k .set-start .ensures) (j .judge .ensures) (f .f .given .1) (a .before .before .before .before .before .before .before .before .args .removal) (a .before .before .before .before .before .before .before .before .args .value .now) refl (c .before .before .over-long .ensures) (c .before .if1 .taken) _ (c .answer-of .ensures)
 
-slice-aggregate-item-size : tie.Need-slice-aggregate-item-size
-slice-aggregate-item-size c = search needs
+slice-aggregate-short-size : tie.Need-slice-aggregate-short-size
+slice-aggregate-short-size c = search needs
 
-item-size-requires : tie.Need-item-size-requires
-item-size-requires c κs =
+short-size-requires : tie.Need-short-size-requires
+short-size-requires c κs =
     let f = c .before .before .before .before in
     let j = f .before .before in
     let k = j .before .before .before in
     let a = k .before in
     let i = a .before .before .before .before .before .before .before .before .args in
     let e = editing _ _ _ _ _ (a .before .before .check .ensures) (λ i. a .before .before .before .before .before .before .before .shared-slice-known .given i .fits) (a .enum-told .given .1) (k .set-start .ensures) (j .judge .ensures) (f .f .given .1) (not-long (a .before .before .before .before .before .before .before .before .args .removal) (a .before .before .before .before .before .before .before .before .args .value .now) (c .before .before .over-long .ensures) (c .before .if1 .left)) in
-    (a .before .before .before .before .table .ensures, tag-high _ (i .set) (i .id) (i .tag) _ _ _ e, puttable _ (i .set) (i .id) (i .tag) _ _ _ e)
+    (a .before .before .before .before .glances .ensures, puttable _ (i .set) (i .id) (i .tag) _ _ _ e)
 
-edited-size-requires : tie.Need-edited-size-requires
-edited-size-requires c κs =
+item-size-requires : tie.Need-item-size-requires
+item-size-requires c κs =
     let f = c .before .before .before .before .before in
     let j = f .before .before in
     let k = j .before .before .before in
     let a = k .before in
-    (editing _ _ _ _ _ (a .before .before .check .ensures) (λ i. a .before .before .before .before .before .before .before .shared-slice-known .given i .fits) (a .enum-told .given .1) (k .set-start .ensures) (j .judge .ensures) (f .f .given .1) (not-long (a .before .before .before .before .before .before .before .before .args .removal) (a .before .before .before .before .before .before .before .before .args .value .now) (c .before .before .before .over-long .ensures) (c .before .before .if1 .left)), c .item-size .ensures)
+    let i = a .before .before .before .before .before .before .before .before .args in
+    let e = editing _ _ _ _ _ (a .before .before .check .ensures) (λ i. a .before .before .before .before .before .before .before .shared-slice-known .given i .fits) (a .enum-told .given .1) (k .set-start .ensures) (j .judge .ensures) (f .f .given .1) (not-long (a .before .before .before .before .before .before .before .before .args .removal) (a .before .before .before .before .before .before .before .before .args .value .now) (c .before .before .before .over-long .ensures) (c .before .before .if1 .left)) in
+    (tag-high _ (i .set) (i .id) (i .tag) _ _ _ e, puttable _ (i .set) (i .id) (i .tag) _ _ _ e, c .short-size .ensures)
+
+edited-size-requires : tie.Need-edited-size-requires
+edited-size-requires c κs =
+    let f = c .before .before .before .before .before .before in
+    let j = f .before .before in
+    let k = j .before .before .before in
+    let a = k .before in
+    (editing _ _ _ _ _ (a .before .before .check .ensures) (λ i. a .before .before .before .before .before .before .before .shared-slice-known .given i .fits) (a .enum-told .given .1) (k .set-start .ensures) (j .judge .ensures) (f .f .given .1) (not-long (a .before .before .before .before .before .before .before .before .args .removal) (a .before .before .before .before .before .before .before .before .args .value .now) (c .before .before .before .before .over-long .ensures) (c .before .before .before .if1 .left)), c .item-size .ensures)
 
 frame-size-requires : tie.Need-frame-size-requires
 frame-size-requires c κs =
     let m = c in
-    let f = m .before .before .before .before .before .before in
-    let j = m .before .before .before .before .before .before .before .before in
-    let k = m .before .before .before .before .before .before .before .before .before .before .before in
+    let f = m .before .before .before .before .before .before .before in
+    let j = m .before .before .before .before .before .before .before .before .before in
+    let k = m .before .before .before .before .before .before .before .before .before .before .before .before in
     let a = k .before in
-    omega (arith, m .edited-size .ensures, edited-small _ (a .before .before .before .before .before .before .before .before .args .set) (a .before .before .before .before .before .before .before .before .args .id) _ _ _ _ (editing _ _ _ _ _ (a .before .before .check .ensures) (λ i. a .before .before .before .before .before .before .before .shared-slice-known .given i .fits) (a .enum-told .given .1) (k .set-start .ensures) (j .judge .ensures) (f .f .given .1) (not-long (a .before .before .before .before .before .before .before .before .args .removal) (a .before .before .before .before .before .before .before .before .args .value .now) (m .before .before .before .before .over-long .ensures) (m .before .before .before .if1 .left))))
+    omega (arith, m .edited-size .ensures, edited-small _ (a .before .before .before .before .before .before .before .before .args .set) (a .before .before .before .before .before .before .before .before .args .id) _ _ _ _ (editing _ _ _ _ _ (a .before .before .check .ensures) (λ i. a .before .before .before .before .before .before .before .shared-slice-known .given i .fits) (a .enum-told .given .1) (k .set-start .ensures) (j .judge .ensures) (f .f .given .1) (not-long (a .before .before .before .before .before .before .before .before .args .removal) (a .before .before .before .before .before .before .before .before .args .value .now) (m .before .before .before .before .before .over-long .ensures) (m .before .before .before .before .if1 .left))))
 
 answer-of-requires-2 : tie.Need-answer-of-requires-2
 answer-of-requires-2 c κs = search needs
@@ -129,9 +138,9 @@ returns-4 : tie.Need-returns-4
 returns-4 c =
     let z = c .before .before in
     let m = z .before in
-    let f = m .before .before .before .before .before .before in
-    let j = m .before .before .before .before .before .before .before .before in
-    let k = m .before .before .before .before .before .before .before .before .before .before .before in
+    let f = m .before .before .before .before .before .before .before in
+    let j = m .before .before .before .before .before .before .before .before .before in
+    let k = m .before .before .before .before .before .before .before .before .before .before .before .before in
     let a = k .before in
     packs-long (edit-packs _ _ _ _ _ (a .before .before .check .ensures) (λ i. a .before .before .before .before .before .before .before .shared-slice-known .given i .fits) (a .enum-told .given .1) (k .set-start .ensures) (j .judge .ensures) (f .f .given .1) (m .edited-size .ensures) (z .frame-size .ensures)) _ (c .before .if2 .taken) (c .answer-of2 .ensures)
 
@@ -143,9 +152,9 @@ returns-5 c =
     let g = c .before in
     let z = g .before .before in
     let m = z .before in
-    let f = m .before .before .before .before .before .before in
-    let j = m .before .before .before .before .before .before .before .before in
-    let k = m .before .before .before .before .before .before .before .before .before .before .before in
+    let f = m .before .before .before .before .before .before .before in
+    let j = m .before .before .before .before .before .before .before .before .before in
+    let k = m .before .before .before .before .before .before .before .before .before .before .before .before in
     let a = k .before in
     packs-short (edit-packs _ _ _ _ _ (a .before .before .check .ensures) (λ i. a .before .before .before .before .before .before .before .shared-slice-known .given i .fits) (a .enum-told .given .1) (k .set-start .ensures) (j .judge .ensures) (f .f .given .1) (m .edited-size .ensures) (z .frame-size .ensures)) _ (g .before .if2 .left) (g .if3 .taken) (c .answer-of3 .ensures)
 
@@ -154,24 +163,21 @@ open-requires c κs =
     let g = c .before in
     let z = g .before .before in
     let m = z .before in
-    let f = m .before .before .before .before .before .before in
-    let j = m .before .before .before .before .before .before .before .before in
-    let k = m .before .before .before .before .before .before .before .before .before .before .before in
+    let f = m .before .before .before .before .before .before .before in
+    let j = m .before .before .before .before .before .before .before .before .before in
+    let k = m .before .before .before .before .before .before .before .before .before .before .before .before in
     let a = k .before in
     open-asked (packs-fit (edit-packs _ _ _ _ _ (a .before .before .check .ensures) (λ i. a .before .before .before .before .before .before .before .shared-slice-known .given i .fits) (a .enum-told .given .1) (k .set-start .ensures) (j .judge .ensures) (f .f .given .1) (m .edited-size .ensures) (z .frame-size .ensures)) (a .before .before .before .before .before .before .before .before .args .out .now) (g .before .if2 .left) (g .if3 .left))
 
-slice-aggregate-put-edited : tie.Need-slice-aggregate-put-edited
-slice-aggregate-put-edited c = sym (table-long _ (c .before .before .before .before .before .before .before .before .before .before .before .before .before .before .before .before .before .before .before .before .before .before .before .before .table .ensures))
-
 sub-put-edited : tie.Need-sub-put-edited
 sub-put-edited c =
-    let o = c .before .before .before in
+    let o = c .before .before in
     let g = o .before .before in
     let z = g .before .before in
     let m = z .before in
-    let f = m .before .before .before .before .before .before in
-    let j = m .before .before .before .before .before .before .before .before in
-    let k = m .before .before .before .before .before .before .before .before .before .before .before in
+    let f = m .before .before .before .before .before .before .before in
+    let j = m .before .before .before .before .before .before .before .before .before in
+    let k = m .before .before .before .before .before .before .before .before .before .before .before .before in
     let a = k .before in
     rest-from (packs-fit (edit-packs _ _ _ _ _ (a .before .before .check .ensures) (λ i. a .before .before .before .before .before .before .before .shared-slice-known .given i .fits) (a .enum-told .given .1) (k .set-start .ensures) (j .judge .ensures) (f .f .given .1) (m .edited-size .ensures) (z .frame-size .ensures)) (a .before .before .before .before .before .before .before .before .args .out .now) (g .before .if2 .left) (g .if3 .left)) (o .«open» .ensures)
 
@@ -183,39 +189,39 @@ part-put-edited-end c = search needs
 
 put-edited-requires : tie.Need-put-edited-requires
 put-edited-requires c κs =
-    let o = c .before .before .before .before in
+    let o = c .before .before .before in
     let g = o .before .before in
     let z = g .before .before in
     let m = z .before in
-    let f = m .before .before .before .before .before .before in
-    let j = m .before .before .before .before .before .before .before .before in
-    let k = m .before .before .before .before .before .before .before .before .before .before .before in
+    let f = m .before .before .before .before .before .before .before in
+    let j = m .before .before .before .before .before .before .before .before .before in
+    let k = m .before .before .before .before .before .before .before .before .before .before .before .before in
     let a = k .before in
-    (a .before .before .before .before .table .ensures, (editing _ _ _ _ _ (a .before .before .check .ensures) (λ i. a .before .before .before .before .before .before .before .shared-slice-known .given i .fits) (a .enum-told .given .1) (k .set-start .ensures) (j .judge .ensures) (f .f .given .1) (not-long (a .before .before .before .before .before .before .before .before .args .removal) (a .before .before .before .before .before .before .before .before .args .value .now) (m .before .before .before .before .over-long .ensures) (m .before .before .before .if1 .left))), rest-room (packs-fit (edit-packs _ _ _ _ _ (a .before .before .check .ensures) (λ i. a .before .before .before .before .before .before .before .shared-slice-known .given i .fits) (a .enum-told .given .1) (k .set-start .ensures) (j .judge .ensures) (f .f .given .1) (m .edited-size .ensures) (z .frame-size .ensures)) (a .before .before .before .before .before .before .before .before .args .out .now) (g .before .if2 .left) (g .if3 .left)) (o .«open» .ensures) refl, m .before .item-size .ensures)
+    (m .before .before .short-size .ensures, (editing _ _ _ _ _ (a .before .before .check .ensures) (λ i. a .before .before .before .before .before .before .before .shared-slice-known .given i .fits) (a .enum-told .given .1) (k .set-start .ensures) (j .judge .ensures) (f .f .given .1) (not-long (a .before .before .before .before .before .before .before .before .args .removal) (a .before .before .before .before .before .before .before .before .args .value .now) (m .before .before .before .before .before .over-long .ensures) (m .before .before .before .before .if1 .left))), rest-room (packs-fit (edit-packs _ _ _ _ _ (a .before .before .check .ensures) (λ i. a .before .before .before .before .before .before .before .shared-slice-known .given i .fits) (a .enum-told .given .1) (k .set-start .ensures) (j .judge .ensures) (f .f .given .1) (m .edited-size .ensures) (z .frame-size .ensures)) (a .before .before .before .before .before .before .before .before .args .out .now) (g .before .if2 .left) (g .if3 .left)) (o .«open» .ensures) refl, m .before .item-size .ensures)
 
 add-close : tie.Need-add-close
 add-close c =
     let n = c .before .before .before in
-    let o = n .before .before .before .before .before in
+    let o = n .before .before .before .before in
     let g = o .before .before in
     let z = g .before .before in
     let m = z .before in
-    let f = m .before .before .before .before .before .before in
-    let j = m .before .before .before .before .before .before .before .before in
-    let k = m .before .before .before .before .before .before .before .before .before .before .before in
+    let f = m .before .before .before .before .before .before .before in
+    let j = m .before .before .before .before .before .before .before .before .before in
+    let k = m .before .before .before .before .before .before .before .before .before .before .before .before in
     let a = k .before in
     omega (arith, entries-end (packs-fit (edit-packs _ _ _ _ _ (a .before .before .check .ensures) (λ i. a .before .before .before .before .before .before .before .shared-slice-known .given i .fits) (a .enum-told .given .1) (k .set-start .ensures) (j .judge .ensures) (f .f .given .1) (m .edited-size .ensures) (z .frame-size .ensures)) (a .before .before .before .before .before .before .before .before .args .out .now) (g .before .if2 .left) (g .if3 .left)) (o .«open» .ensures) refl (n .put-edited .ensures))
 
 close-requires : tie.Need-close-requires
 close-requires c κs =
     let n = c .before .before .before in
-    let o = n .before .before .before .before .before in
+    let o = n .before .before .before .before in
     let g = o .before .before in
     let z = g .before .before in
     let m = z .before in
-    let f = m .before .before .before .before .before .before in
-    let j = m .before .before .before .before .before .before .before .before in
-    let k = m .before .before .before .before .before .before .before .before .before .before .before in
+    let f = m .before .before .before .before .before .before .before in
+    let j = m .before .before .before .before .before .before .before .before .before in
+    let k = m .before .before .before .before .before .before .before .before .before .before .before .before in
     let a = k .before in
     close-asked (packs-fit (edit-packs _ _ _ _ _ (a .before .before .check .ensures) (λ i. a .before .before .before .before .before .before .before .shared-slice-known .given i .fits) (a .enum-told .given .1) (k .set-start .ensures) (j .judge .ensures) (f .f .given .1) (m .edited-size .ensures) (z .frame-size .ensures)) (a .before .before .before .before .before .before .before .before .args .out .now) (g .before .if2 .left) (g .if3 .left)) (o .«open» .ensures) refl (n .put-edited .ensures)
 
@@ -228,13 +234,13 @@ same-length c = search needs
 returns-6 : tie.Need-returns-6
 returns-6 c =
     let n = c .before .before .before .before .before .before .before in
-    let o = n .before .before .before .before .before in
+    let o = n .before .before .before .before in
     let g = o .before .before in
     let z = g .before .before in
     let m = z .before in
-    let f = m .before .before .before .before .before .before in
-    let j = m .before .before .before .before .before .before .before .before in
-    let k = m .before .before .before .before .before .before .before .before .before .before .before in
+    let f = m .before .before .before .before .before .before .before in
+    let j = m .before .before .before .before .before .before .before .before .before in
+    let k = m .before .before .before .before .before .before .before .before .before .before .before .before in
     let a = k .before in
     packs-done (edit-packs _ _ _ _ _ (a .before .before .check .ensures) (λ i. a .before .before .before .before .before .before .before .shared-slice-known .given i .fits) (a .enum-told .given .1) (k .set-start .ensures) (j .judge .ensures) (f .f .given .1) (m .edited-size .ensures) (z .frame-size .ensures)) _ (g .before .if2 .left) (g .if3 .left)
     (all-written (packs-fit (edit-packs _ _ _ _ _ (a .before .before .check .ensures) (λ i. a .before .before .before .before .before .before .before .shared-slice-known .given i .fits) (a .enum-told .given .1) (k .set-start .ensures) (j .judge .ensures) (f .f .given .1) (m .edited-size .ensures) (z .frame-size .ensures)) (a .before .before .before .before .before .before .before .before .args .out .now) (g .before .if2 .left) (g .if3 .left)) (o .«open» .ensures) refl (n .put-edited .ensures) (c .before .before .before .close .ensures)) (c .answer-of4 .ensures)
@@ -243,7 +249,7 @@ pub edit-spec : {M : Type 1} → statement M
 edit-spec =
     tie.close
     (tie.spec
-    table-requires
+    glances-requires
     slice-aggregate-check
     check-requires
     enum-told
@@ -263,7 +269,8 @@ edit-spec =
     over-long-requires
     answer-of-requires
     returns-3
-    slice-aggregate-item-size
+    slice-aggregate-short-size
+    short-size-requires
     item-size-requires
     edited-size-requires
     frame-size-requires
@@ -272,7 +279,6 @@ edit-spec =
     answer-of-requires-3
     returns-5
     open-requires
-    slice-aggregate-put-edited
     sub-put-edited
     part-put-edited-start
     part-put-edited-end

@@ -7,14 +7,14 @@ use Rattle.locate.proofs.Locating.{locate-refused, found-few, locate-sh
 use Rattle.locate.proofs.locate_numbers.Statement.{statement}
 use Rattle.locate.proofs.locate_numbers.Tie as tie
 
-table-requires : tie.Need-table-requires
-table-requires c κs = search needs
+glances-requires : tie.Need-glances-requires
+glances-requires c κs = search needs
 
 slice-aggregate-check : tie.Need-slice-aggregate-check
 slice-aggregate-check c = search needs
 
 check-requires : tie.Need-check-requires
-check-requires c κs = c .before .table .ensures
+check-requires c κs = c .before .glances .ensures
 
 enum-known-c : tie.Need-enum-known-c
 enum-known-c c = search needs
@@ -82,7 +82,7 @@ pub locate-numbers-spec : {M : Type 1} → statement M
 locate-numbers-spec =
     tie.close
     (tie.spec
-    table-requires
+    glances-requires
     slice-aggregate-check
     check-requires
     enum-known-c

@@ -10,14 +10,14 @@ use Rattle.normalise.proofs.Normalising.{normal-refused, normal-small, 
 use Rattle.normalise.proofs.normalise.Statement.{statement}
 use Rattle.normalise.proofs.normalise.Tie as tie
 
-table-requires : tie.Need-table-requires
-table-requires c κs = search needs
+glances-requires : tie.Need-glances-requires
+glances-requires c κs = search needs
 
 slice-aggregate-check : tie.Need-slice-aggregate-check
 slice-aggregate-check c = search needs
 
 check-requires : tie.Need-check-requires
-check-requires c κs = c .before .table .ensures
+check-requires c κs = c .before .glances .ensures
 
 enum-known-c : tie.Need-enum-known-c
 enum-known-c c = search needs
@@ -75,12 +75,18 @@ open-requires c κs =
     let a = z .before .before in
     open-asked (packs-fit (normal-packs _ _ (a .before .before .check .ensures) (λ i. a .before .before .before .before .before .before .shared-slice-known .given i .fits) (a .c .given .1) (z .frame-size .ensures)) (a .before .before .before .before .before .before .before .args .out .now) (normal-within _ _ (a .before .before .check .ensures) (λ i. a .before .before .before .before .before .before .shared-slice-known .given i .fits) (a .c .given .1) (z .frame-size .ensures)) (k .before .before .if1 .left))
 
+table-requires : tie.Need-table-requires
+table-requires c κs = search needs
+
 slice-aggregate-item-normal : tie.Need-slice-aggregate-item-normal
 slice-aggregate-item-normal c = search needs
 
+slice-aggregate-item-normal-2 : tie.Need-slice-aggregate-item-normal-2
+slice-aggregate-item-normal-2 c = search needs
+
 sub-item-normal : tie.Need-sub-item-normal
 sub-item-normal c =
-    let k = c .before .before .before .before .before in
+    let k = c .before .before .before .before .before .before .before in
     let z = k .before .before .before in
     let a = z .before .before in
     set-room _ _ (a .before .before .check .ensures) (λ i. a .before .before .before .before .before .before .shared-slice-known .given i .fits) (a .c .given .1) (k .set-start .ensures)
@@ -93,7 +99,7 @@ part-item-normal-end c = search needs
 
 sub-item-normal-2 : tie.Need-sub-item-normal-2
 sub-item-normal-2 c =
-    let o = c .before .before .before .before in
+    let o = c .before .before .before .before .before .before in
     let k = o .before .before in
     let z = k .before .before .before in
     let a = z .before .before in
@@ -107,12 +113,12 @@ part-item-normal-end-2 c = search needs
 
 item-normal-requires : tie.Need-item-normal-requires
 item-normal-requires c κs =
-    let o = c .before .before .before .before .before in
+    let o = c .before .before .before .before .before .before .before in
     let k = o .before .before in
     let z = k .before .before .before in
     let a = z .before .before in
     let inner = inner-asked _ _ (a .before .before .check .ensures) (λ i. a .before .before .before .before .before .before .shared-slice-known .given i .fits) (a .c .given .1) (k .set-start .ensures) in (
-      a .before .before .before .before .table .ensures,
+      c .before .before .before .before .table .ensures,
       (
         omega (arith, set-long _ _ (a .before .before .check .ensures) (λ i. a .before .before .before .before .before .before .shared-slice-known .given i .fits) (a .c .given .1) (k .set-start .ensures)),
         set-ran _ _ (a .before .before .check .ensures) (λ i. a .before .before .before .before .before .before .shared-slice-known .given i .fits) (a .c .given .1) (k .set-start .ensures),
@@ -120,12 +126,13 @@ item-normal-requires c κs =
         inner .1,
         rest-room (packs-fit (normal-packs _ _ (a .before .before .check .ensures) (λ i. a .before .before .before .before .before .before .shared-slice-known .given i .fits) (a .c .given .1) (z .frame-size .ensures)) (a .before .before .before .before .before .before .before .args .out .now) (normal-within _ _ (a .before .before .check .ensures) (λ i. a .before .before .before .before .before .before .shared-slice-known .given i .fits) (a .c .given .1) (z .frame-size .ensures)) (k .before .before .if1 .left)) (o .«open» .ensures) (written-is _ _ (a .before .before .check .ensures) (λ i. a .before .before .before .before .before .before .shared-slice-known .given i .fits) (a .c .given .1) (k .set-start .ensures)),
       ),
+      a .before .before .before .before .glances .ensures,
     )
 
 add-close : tie.Need-add-close
 add-close c =
     let n = c .before .before .before in
-    let o = n .before .before .before .before .before .before in
+    let o = n .before .before .before .before .before .before .before .before in
     let k = o .before .before in
     let z = k .before .before .before in
     let a = z .before .before in
@@ -134,7 +141,7 @@ add-close c =
 close-requires : tie.Need-close-requires
 close-requires c κs =
     let n = c .before .before .before in
-    let o = n .before .before .before .before .before .before in
+    let o = n .before .before .before .before .before .before .before .before in
     let k = o .before .before in
     let z = k .before .before .before in
     let a = z .before .before in
@@ -149,7 +156,7 @@ same-length-2 c = search needs
 returns-4 : tie.Need-returns-4
 returns-4 c =
     let n = c .before .before .before .before .before .before .before in
-    let o = n .before .before .before .before .before .before in
+    let o = n .before .before .before .before .before .before .before .before in
     let k = o .before .before in
     let z = k .before .before .before in
     let a = z .before .before in
@@ -161,7 +168,7 @@ pub normalise-spec : {M : Type 1} → statement M
 normalise-spec =
     tie.close
     (tie.spec
-    table-requires
+    glances-requires
     slice-aggregate-check
     check-requires
     enum-known-c
@@ -177,7 +184,9 @@ normalise-spec =
     returns-3
     set-start-requires
     open-requires
+    table-requires
     slice-aggregate-item-normal
+    slice-aggregate-item-normal-2
     sub-item-normal
     part-item-normal-start
     part-item-normal-end

@@ -7,14 +7,14 @@ use Rattle.read.proofs.Reading.{head-bytes, read-refused, read-short, s
 use Rattle.read.proofs.read.Statement.{statement}
 use Rattle.read.proofs.read.Tie as tie
 
-table-requires : tie.Need-table-requires
-table-requires c κs = search needs
+glances-requires : tie.Need-glances-requires
+glances-requires c κs = search needs
 
 slice-aggregate-check : tie.Need-slice-aggregate-check
 slice-aggregate-check c = search needs
 
 check-requires : tie.Need-check-requires
-check-requires c κs = c .before .table .ensures
+check-requires c κs = c .before .glances .ensures
 
 enum-known-c : tie.Need-enum-known-c
 enum-known-c c = search needs
@@ -51,12 +51,15 @@ put-number-requires c κs =
     let a = k .before .before .before .before in
     omega (arith, set-size _ _ (a .before .before .before .before .before .before .before .args .sheet .now) (a .before .before .check .ensures) (λ i. a .before .before .before .before .before .before .shared-slice-known .given i .fits) (a .c .given .1) (k .set-start .ensures) _ (head-bytes (a .before .before .before .before .before .before .before .args .alone) (h .head-of .ensures)) (k .before .if1 .left), k .before .if1 .left)
 
+table-requires : tie.Need-table-requires
+table-requires c κs = search needs
+
 slice-aggregate-item-sheet : tie.Need-slice-aggregate-item-sheet
 slice-aggregate-item-sheet c = search needs
 
 sub-item-sheet : tie.Need-sub-item-sheet
 sub-item-sheet c =
-    let h = c .before .before .before .before in
+    let h = c .before .before .before .before .before in
     let k = h .before .before in
     let a = k .before .before .before .before in
     set-room _ _ (a .before .before .check .ensures) (λ i. a .before .before .before .before .before .before .shared-slice-known .given i .fits) (a .c .given .1) (k .set-start .ensures)
@@ -69,10 +72,10 @@ part-item-sheet-end c = search needs
 
 sub-item-sheet-2 : tie.Need-sub-item-sheet-2
 sub-item-sheet-2 c =
-    let h = c .before .before .before .before .before in
+    let h = c .before .before .before .before .before .before in
     let k = h .before .before in
     let a = k .before .before .before .before in
-    rest-from _ _ (a .before .before .before .before .before .before .before .args .sheet .now) (a .before .before .check .ensures) (λ i. a .before .before .before .before .before .before .shared-slice-known .given i .fits) (a .c .given .1) (k .set-start .ensures) _ (head-bytes (a .before .before .before .before .before .before .before .args .alone) (h .head-of .ensures)) (k .before .if1 .left) (c .before .before .before .before .put-number .ensures .1)
+    rest-from _ _ (a .before .before .before .before .before .before .before .args .sheet .now) (a .before .before .check .ensures) (λ i. a .before .before .before .before .before .before .shared-slice-known .given i .fits) (a .c .given .1) (k .set-start .ensures) _ (head-bytes (a .before .before .before .before .before .before .before .args .alone) (h .head-of .ensures)) (k .before .if1 .left) (c .before .before .before .before .before .put-number .ensures .1)
 
 part-item-sheet-start-2 : tie.Need-part-item-sheet-start-2
 part-item-sheet-start-2 c = sub-item-sheet-2 c
@@ -82,14 +85,14 @@ part-item-sheet-end-2 c = search needs
 
 item-sheet-requires : tie.Need-item-sheet-requires
 item-sheet-requires c κs =
-    let h = c .before .before .before .before .before .before in
+    let h = c .before .before .before .before .before .before .before in
     let k = h .before .before in
     let a = k .before .before .before .before in (
-      a .before .before .before .before .table .ensures,
+      c .before .before .before .table .ensures,
       (
         omega (arith, set-long _ _ (a .before .before .check .ensures) (λ i. a .before .before .before .before .before .before .shared-slice-known .given i .fits) (a .c .given .1) (k .set-start .ensures)),
         set-ran _ _ (a .before .before .check .ensures) (λ i. a .before .before .before .before .before .before .shared-slice-known .given i .fits) (a .c .given .1) (k .set-start .ensures),
-        rest-room _ _ (a .before .before .before .before .before .before .before .args .sheet .now) (a .before .before .check .ensures) (λ i. a .before .before .before .before .before .before .shared-slice-known .given i .fits) (a .c .given .1) (k .set-start .ensures) _ (head-bytes (a .before .before .before .before .before .before .before .args .alone) (h .head-of .ensures)) (k .before .if1 .left) (c .before .before .before .before .before .put-number .ensures .1),
+        rest-room _ _ (a .before .before .before .before .before .before .before .args .sheet .now) (a .before .before .check .ensures) (λ i. a .before .before .before .before .before .before .shared-slice-known .given i .fits) (a .c .given .1) (k .set-start .ensures) _ (head-bytes (a .before .before .before .before .before .before .before .args .alone) (h .head-of .ensures)) (k .before .if1 .left) (c .before .before .before .before .before .before .put-number .ensures .1),
       ),
     )
 
@@ -101,16 +104,16 @@ same-length c = search needs
 
 returns-3 : tie.Need-returns-3
 returns-3 c =
-    let h = c .before .before .before .before .before .before .before .before .before .before in
+    let h = c .before .before .before .before .before .before .before .before .before .before .before in
     let k = h .before .before in
     let a = k .before .before .before .before in
-    read-done _ _ _ (a .before .before .check .ensures) (λ i. a .before .before .before .before .before .before .shared-slice-known .given i .fits) (a .c .given .1) (k .set-start .ensures) _ (head-bytes (a .before .before .before .before .before .before .before .args .alone) (h .head-of .ensures)) (k .before .if1 .left) (c .before .before .before .before .before .before .before .before .before .put-number .ensures .1) (c .before .before .before .item-sheet .ensures .1) (c .answer-of2 .ensures)
+    read-done _ _ _ (a .before .before .check .ensures) (λ i. a .before .before .before .before .before .before .shared-slice-known .given i .fits) (a .c .given .1) (k .set-start .ensures) _ (head-bytes (a .before .before .before .before .before .before .before .args .alone) (h .head-of .ensures)) (k .before .if1 .left) (c .before .before .before .before .before .before .before .before .before .before .put-number .ensures .1) (c .before .before .before .item-sheet .ensures .1) (c .answer-of2 .ensures)
 
 pub read-spec : {M : Type 1} → statement M
 read-spec =
     tie.close
     (tie.spec
-    table-requires
+    glances-requires
     slice-aggregate-check
     check-requires
     enum-known-c
@@ -122,6 +125,7 @@ read-spec =
     set-start-requires
     head-of-requires
     put-number-requires
+    table-requires
     slice-aggregate-item-sheet
     sub-item-sheet
     part-item-sheet-start

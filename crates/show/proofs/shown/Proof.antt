@@ -9,14 +9,14 @@ use borrow.Author.Needs.{needs}
 use Rattle.show.proofs.shown.Statement.{statement}
 use Rattle.show.proofs.shown.Tie as tie
 
-table-requires : tie.Need-table-requires
-table-requires c κs = search needs
+glances-requires : tie.Need-glances-requires
+glances-requires c κs = search needs
 
 slice-aggregate-check : tie.Need-slice-aggregate-check
 slice-aggregate-check c = search needs
 
 check-requires : tie.Need-check-requires
-check-requires c κs = c .before .table .ensures
+check-requires c κs = c .before .glances .ensures
 
 enum-told : tie.Need-enum-told
 enum-told c = search needs
@@ -37,7 +37,7 @@ slice-aggregate-check-2 : tie.Need-slice-aggregate-check-2
 slice-aggregate-check-2 c = search needs
 
 check-requires-2 : tie.Need-check-requires-2
-check-requires-2 c κs = c .before .before .before .before .before .table .ensures
+check-requires-2 c κs = c .before .before .before .before .before .glances .ensures
 
 enum-told-3 : tie.Need-enum-told-3
 enum-told-3 c = search needs
@@ -109,7 +109,7 @@ pub shown-spec : {M : Type 1} → statement M
 shown-spec =
     tie.close
     (tie.spec
-    table-requires
+    glances-requires
     slice-aggregate-check
     check-requires
     enum-told

@@ -113,10 +113,8 @@ module _ {out₀ : List ℕ} {at : ℕ} {s out : List ℕ} {a k : ℕ} (p : Copi
         back = λ m b. ⊎-elim (λ c. brings f w fits e m b (omega arith)) (λ c. keeps f w fits e m (p .back m c)) (below-or-not m (at + (length s - k)));
       }
 
--- eight more of each, by four
-pub copy-ends : {out₀ : List ℕ} {at : ℕ} {s out : List ℕ} {k : ℕ} → Copied out₀ at s out k k → k + 8 ≤ length s
-    → {o₁ : List ℕ} → o₁ ≡ sets out (at + (length s - (k + 4))) (take 4 (drop (length s - (k + 4)) s))
-    → {o₂ : List ℕ} → o₂ ≡ sets o₁ (at + (length s - (k + 4 + 4))) (take 4 (drop (length s - (k + 4 + 4)) s))
-    → {o₃ : List ℕ} → o₃ ≡ sets o₂ (at + k) (take 4 (drop k s))
-    → {o₄ : List ℕ} → o₄ ≡ sets o₃ (at + (k + 4)) (take 4 (drop (k + 4) s)) → Copied out₀ at s o₄ (k + 4 + 4) (k + 4 + 4)
-copy-ends p h e₁ e₂ e₃ e₄ = copy-front (copy-front (copy-back (copy-back p 4 (omega arith) e₁) 4 (omega arith) e₂) 4 (omega arith) e₃) 4 (omega arith) e₄
+-- w more at each end
+pub copy-ends : {out₀ : List ℕ} {at : ℕ} {s out : List ℕ} {k : ℕ} → Copied out₀ at s out k k → (w : ℕ) → k + w ≤ length s
+    → {o₁ : List ℕ} → o₁ ≡ sets out (at + (length s - (k + w))) (take w (drop (length s - (k + w)) s))
+    → {o₂ : List ℕ} → o₂ ≡ sets o₁ (at + k) (take w (drop k s)) → Copied out₀ at s o₂ (k + w) (k + w)
+copy-ends p w h e₁ e₂ = copy-front (copy-back p w h e₁) w h e₂

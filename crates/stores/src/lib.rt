@@ -52,7 +52,7 @@ fn move_two(out: &mut [u8], at: usize, s: &[u8], f: usize)
     out[to + 1] = b;
 }
 
-// and four.
+// four,
 fn move_four(out: &mut [u8], at: usize, s: &[u8], f: usize)
     requires { ⌜ (f + 4 ≤ length (now s)) × (at + length (now s) ≤ length (now out)) ⌝ }
     ensures { λ r. ⌜ now (out .exit) ≡ sets (now (out .entry)) (at + f) (take 4 (drop f (now (s .entry)))) ⌝ }
@@ -68,25 +68,45 @@ fn move_four(out: &mut [u8], at: usize, s: &[u8], f: usize)
     out[to + 3] = d;
 }
 
-// The bytes of s; where they end. From 8 to 31 go without a loop: the last and the first, which may overlap. For a run, of any length.
+// and eight.
+fn move_eight(out: &mut [u8], at: usize, s: &[u8], f: usize)
+    requires { ⌜ (f + 8 ≤ length (now s)) × (at + length (now s) ≤ length (now out)) ⌝ }
+    ensures { λ r. ⌜ now (out .exit) ≡ sets (now (out .entry)) (at + f) (take 8 (drop f (now (s .entry)))) ⌝ }
+{
+    let to = at + f;
+    let a = s[f];
+    let b = s[f + 1];
+    let c = s[f + 2];
+    let d = s[f + 3];
+    let e = s[f + 4];
+    let g = s[f + 5];
+    let h = s[f + 6];
+    let i = s[f + 7];
+    out[to] = a;
+    out[to + 1] = b;
+    out[to + 2] = c;
+    out[to + 3] = d;
+    out[to + 4] = e;
+    out[to + 5] = g;
+    out[to + 6] = h;
+    out[to + 7] = i;
+}
+
+// The bytes of s; where they end. From 8 to 32 go without a loop: the last and the first, which may overlap. For a run, of any length.
 pub fn copy_run(out: &mut [u8], at: usize, s: &[u8]) -> usize
     requires { ⌜ at + length (now s) ≤ length (now out) ⌝ }
     ensures { λ r. ⌜ (r ≡ at + length (now (s .entry))) × (now (out .exit) ≡ sets (now (out .entry)) at (now (s .entry))) ⌝ }
 {
     let n = s.len();
     if 7 < n {
-        if n < 32 {
-            move_four(out, at, s, n - 4);
-            move_four(out, at, s, n - 8);
-            move_four(out, at, s, 0);
-            move_four(out, at, s, 4);
+        if n < 33 {
+            move_eight(out, at, s, n - 8);
+            move_eight(out, at, s, 0);
             if n < 17 {
                 return at + n;
             }
-            move_four(out, at, s, n - 12);
-            move_four(out, at, s, n - 16);
-            move_four(out, at, s, 8);
-            move_four(out, at, s, 12);
+            move_eight(out, at, s, n - 16);
+            move_eight(out, at, s, 8);
             return at + n;
         }
     }
@@ -115,6 +135,11 @@ pub fn copy(out: &mut [u8], at: usize, s: &[u8]) -> usize
     if n < 8 {
         move_four(out, at, s, n - 4);
         move_four(out, at, s, 0);
+        return at + n;
+    }
+    if n < 17 {
+        move_eight(out, at, s, n - 8);
+        move_eight(out, at, s, 0);
         return at + n;
     }
     copy_run(out, at, &s[0..])

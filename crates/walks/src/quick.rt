@@ -25,7 +25,15 @@ fn span(s: &[u8], set: bool, alone: bool) -> usize
 }
 
 // Where such an item at p ends by its length, its tag above top; 0 where it is no such item.
-fn glance(glances: &[u32], s: &[u8], p: usize, most: usize, set: bool, alone: bool, top: u64) -> usize
+fn glance(
+    glances: &[u32],
+    s: &[u8],
+    p: usize,
+    most: usize,
+    set: bool,
+    alone: bool,
+    top: u64,
+) -> usize
     requires { ⌜ (now glances ≡ glanceTable) × (length (now s) ≤ 8192) × (most ≤ length (now s) - 2) × (0 < most → Begun set (formOf alone) 0 (getD (now s) 0 0)) ⌝ }
     ensures { λ r. ⌜ (0 < r → Glanced set (formOf alone) (now (s .entry)) p top r) ⌝ }
 {

@@ -3,7 +3,7 @@ use mathlib.Core.Path.{refl}
 use native.Mathlib.Nat.{add-zero}
 use native.Mathlib.Omega.{arith}
 use Rattle.coding.proofs.Rooms.{tail-part}
-use Rattle.stores.proofs.Copies.{Copied, copy-start, copy-one, copy-front, copy-back, copy-done}
+use Rattle.stores.proofs.Copies.{Copied, copy-start, copy-one, copy-ends, copy-done}
 use borrow.Author.Needs.{needs}
 use Rattle.stores.proofs.copy.Statement.{statement}
 use Rattle.stores.proofs.copy.Tie as tie
@@ -42,9 +42,7 @@ same-length-2 : tie.Need-same-length-2
 same-length-2 c = search needs
 
 returns-3 : tie.Need-returns-3
-returns-3 c =
-    let p = copy-back (begun (c .before .before .before .before .before .before .before .before .before .before .before .before)) 2 (omega arith) (c .before .before .before .before .before .before .move-two .ensures) in
-    (refl, copy-done (copy-front p 2 (omega arith) (c .before .before .move-two2 .ensures)) (omega arith))
+returns-3 c = (refl, copy-done (copy-ends (begun (c .before .before .before .before .before .before .before .before .before .before .before .before)) 2 (omega arith) (c .before .before .before .before .before .before .move-two .ensures) (c .before .before .move-two2 .ensures)) (omega arith))
 
 move-four-requires : tie.Need-move-four-requires
 move-four-requires c κs = search needs
@@ -59,9 +57,22 @@ same-length-3 : tie.Need-same-length-3
 same-length-3 c = search needs
 
 returns-4 : tie.Need-returns-4
-returns-4 c =
-    let p = copy-back (begun (c .before .before .before .before .before .before .before .before .before .before .before .before .before)) 4 (omega arith) (c .before .before .before .before .before .before .move-four .ensures) in
-    (refl, copy-done (copy-front p 4 (omega arith) (c .before .before .move-four2 .ensures)) (omega arith))
+returns-4 c = (refl, copy-done (copy-ends (begun (c .before .before .before .before .before .before .before .before .before .before .before .before .before)) 4 (omega arith) (c .before .before .before .before .before .before .move-four .ensures) (c .before .before .move-four2 .ensures)) (omega arith))
+
+move-eight-requires : tie.Need-move-eight-requires
+move-eight-requires c κs = search needs
+
+move-eight-requires-2 : tie.Need-move-eight-requires-2
+move-eight-requires-2 c κs = search needs
+
+add-result-4 : tie.Need-add-result-4
+add-result-4 c = search needs
+
+same-length-4 : tie.Need-same-length-4
+same-length-4 c = search needs
+
+returns-5 : tie.Need-returns-5
+returns-5 c = (refl, copy-done (copy-ends (begun (c .before .before .before .before .before .before .before .before .before .before .before .before .before .before)) 8 (omega arith) (c .before .before .before .before .before .before .move-eight .ensures) (c .before .before .move-eight2 .ensures)) (omega arith))
 
 sub-copy-run : tie.Need-sub-copy-run
 sub-copy-run c = search needs
@@ -75,11 +86,11 @@ part-copy-run-end c = search needs
 copy-run-requires : tie.Need-copy-run-requires
 copy-run-requires c κs = search needs
 
-same-length-4 : tie.Need-same-length-4
-same-length-4 c = search needs
+same-length-5 : tie.Need-same-length-5
+same-length-5 c = search needs
 
-returns-5 : tie.Need-returns-5
-returns-5 c = rw (tail-part 0 (c .before .before .before .before .before .before .before .before .before .before .args .s .now)) at (c .before .before .copy-run .ensures)
+returns-6 : tie.Need-returns-6
+returns-6 c = rw (tail-part 0 (c .before .before .before .before .before .before .before .before .before .before .before .args .s .now)) at (c .before .before .copy-run .ensures)
 
 pub copy-spec : {M : Type 1} → statement M
 copy-spec =
@@ -101,9 +112,14 @@ copy-spec =
     add-result-3
     same-length-3
     returns-4
+    move-eight-requires
+    move-eight-requires-2
+    add-result-4
+    same-length-4
+    returns-5
     sub-copy-run
     part-copy-run-start
     part-copy-run-end
     copy-run-requires
-    same-length-4
-    returns-5)
+    same-length-5
+    returns-6)

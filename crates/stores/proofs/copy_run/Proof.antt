@@ -7,46 +7,27 @@ use Rattle.stores.proofs.copy_run.Statement.{statement}
 use Rattle.stores.proofs.copy_run.Tie as tie
 
 -- the first and the last eight are stored,
-abbrev begun : tie.After-slice-known5 → tie.Start
-begun d = d .before .before .before .before .before .before .before .before .before .before .before .before .before .before .before .before .before .before .before .before
+abbrev begun : tie.After-slice-known3 → tie.Start
+begun d = d .before .before .before .before .before .before .before .before .before .before .before .before
 
-ends : (d : tie.After-slice-known5) → Copied (begun d .args .out .now) (begun d .args .at) (begun d .args .s .now) (d .before .before .move-four4 .last .0) 8 8
-ends d =
-    copy-ends (copy-start _ _ _ (begun d .pre)) (omega (arith, d .before .before .before .before .before .before .before .before .before .before .before .before .before .before .before .before .before .if1 .taken))
-    (d .before .before .before .before .before .before .before .before .before .before .before .before .before .before .move-four .ensures)
-    (d .before .before .before .before .before .before .before .before .before .before .move-four2 .ensures)
-    (d .before .before .before .before .before .before .move-four3 .ensures)
-    (d .before .before .move-four4 .ensures)
+ends : (d : tie.After-slice-known3) → Copied (begun d .args .out .now) (begun d .args .at) (begun d .args .s .now) (d .before .before .move-eight2 .last .0) 8 8
+ends d = copy-ends (copy-start _ _ _ (begun d .pre)) 8 (omega (arith, d .before .before .before .before .before .before .before .before .before .if1 .taken)) (d .before .before .before .before .before .before .move-eight .ensures) (d .before .before .move-eight2 .ensures)
 
 -- and eight more of each
-abbrev before-more : tie.After-slice-known9 → tie.After-slice-known5
-before-more e = e .before .before .before .before .before .before .before .before .before .before .before .before .before .before .before .before .before
+abbrev before-more : tie.After-slice-known5 → tie.After-slice-known3
+before-more e = e .before .before .before .before .before .before .before .before .before
 
-more : (e : tie.After-slice-known9) → let a : tie.Start = begun (before-more e) in Copied (a .args .out .now) (a .args .at) (a .args .s .now) (e .before .before .move-four8 .last .0) 16 16
-more e =
-    copy-ends (ends (before-more e)) (omega (arith, e .before .before .before .before .before .before .before .before .before .before .before .before .before .before .before .before .if3 .left))
-    (e .before .before .before .before .before .before .before .before .before .before .before .before .before .before .move-four5 .ensures)
-    (e .before .before .before .before .before .before .before .before .before .before .move-four6 .ensures)
-    (e .before .before .before .before .before .before .move-four7 .ensures)
-    (e .before .before .move-four8 .ensures)
+more : (e : tie.After-slice-known5) → let a : tie.Start = begun (before-more e) in Copied (a .args .out .now) (a .args .at) (a .args .s .now) (e .before .before .move-eight4 .last .0) 16 16
+more e = copy-ends (ends (before-more e)) 8 (omega (arith, e .before .before .before .before .before .before .before .before .if3 .left)) (e .before .before .before .before .before .before .move-eight3 .ensures) (e .before .before .move-eight4 .ensures)
 
-sub-move-four : tie.Need-sub-move-four
-sub-move-four c = search needs
+sub-move-eight : tie.Need-sub-move-eight
+sub-move-eight c = search needs
 
-move-four-requires : tie.Need-move-four-requires
-move-four-requires c κs = search needs
+move-eight-requires : tie.Need-move-eight-requires
+move-eight-requires c κs = search needs
 
-sub-move-four-2 : tie.Need-sub-move-four-2
-sub-move-four-2 c = search needs
-
-move-four-requires-2 : tie.Need-move-four-requires-2
-move-four-requires-2 c κs = search needs
-
-move-four-requires-3 : tie.Need-move-four-requires-3
-move-four-requires-3 c κs = search needs
-
-move-four-requires-4 : tie.Need-move-four-requires-4
-move-four-requires-4 c κs = search needs
+move-eight-requires-2 : tie.Need-move-eight-requires-2
+move-eight-requires-2 c κs = search needs
 
 add-result : tie.Need-add-result
 add-result c = search needs
@@ -57,25 +38,14 @@ same-length c = search needs
 returns : tie.Need-returns
 returns c = (refl, copy-done (ends (c .before)) (omega arith))
 
-sub-move-four-3 : tie.Need-sub-move-four-3
-sub-move-four-3 c = search needs
+sub-move-eight-2 : tie.Need-sub-move-eight-2
+sub-move-eight-2 c = search needs
 
-move-four-requires-5 : tie.Need-move-four-requires-5
-move-four-requires-5 c κs = search needs
+move-eight-requires-3 : tie.Need-move-eight-requires-3
+move-eight-requires-3 c κs = search needs
 
-sub-move-four-4 : tie.Need-sub-move-four-4
-sub-move-four-4 c = search needs
-
-move-four-requires-6 : tie.Need-move-four-requires-6
-move-four-requires-6 c κs = search needs
-
-move-four-requires-7 : tie.Need-move-four-requires-7
-move-four-requires-7 c κs = search needs
-
-move-four-requires-8 : tie.Need-move-four-requires-8
-move-four-requires-8 c κs =
-    let p = ends (c .before .before .before .before .before .before .before .before .before .before .before .before .before .before) in
-    (omega (arith, c .before .before .before .before .before .before .before .before .before .before .before .before .before .if3 .left), omega (arith, p .room, p .same, c .before .before .before .before .before .before .before .before .before .before .before .move-four5 .kept .0, c .before .before .before .before .before .before .before .move-four6 .kept .0, c .before .before .before .move-four7 .kept .0))
+move-eight-requires-4 : tie.Need-move-eight-requires-4
+move-eight-requires-4 c κs = search needs
 
 add-result-2 : tie.Need-add-result-2
 add-result-2 c = omega (arith, more c .room, begun (before-more c) .good .0 .0)
@@ -84,7 +54,7 @@ same-length-2 : tie.Need-same-length-2
 same-length-2 c = more c .same
 
 returns-2 : tie.Need-returns-2
-returns-2 c = (refl, copy-done (more c) (omega (arith, c .before .before .before .before .before .before .before .before .before .before .before .before .before .before .before .before .before .before .before .before .before .before .before .before .before .before .before .before .before .before .before .before .before .if2 .taken)))
+returns-2 c = (refl, copy-done (more c) (omega (arith, c .before .before .before .before .before .before .before .before .before .before .before .before .before .before .before .before .before .if2 .taken)))
 
 copy-long-requires : tie.Need-copy-long-requires
 copy-long-requires c κs = search needs
@@ -99,21 +69,15 @@ pub copy-run-spec : {M : Type 1} → statement M
 copy-run-spec =
     tie.close
     (tie.spec
-    sub-move-four
-    move-four-requires
-    sub-move-four-2
-    move-four-requires-2
-    move-four-requires-3
-    move-four-requires-4
+    sub-move-eight
+    move-eight-requires
+    move-eight-requires-2
     add-result
     same-length
     returns
-    sub-move-four-3
-    move-four-requires-5
-    sub-move-four-4
-    move-four-requires-6
-    move-four-requires-7
-    move-four-requires-8
+    sub-move-eight-2
+    move-eight-requires-3
+    move-eight-requires-4
     add-result-2
     same-length-2
     returns-2

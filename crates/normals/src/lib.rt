@@ -86,13 +86,7 @@ pub fn item_normal(
 }
 
 // The packs of a series; how many bytes.
-pub fn pack_normal(
-    table: &[u32],
-    glances: &[u32],
-    s: &[u8],
-    alone: bool,
-    out: &mut [u8],
-) -> usize
+pub fn pack_normal(table: &[u32], glances: &[u32], s: &[u8], alone: bool, out: &mut [u8]) -> usize
     requires { ⌜ (now table ≡ itemTable) × ((length (now s) ≤ 8192) × Ran (seriesRun (formOf alone) (now s)) × (length (seriesNormal (formOf alone) (now s)) ≤ length (now out))) × (now glances ≡ glanceTable) ⌝ }
     ensures { λ r. ⌜ (r ≡ length (seriesNormal (formOf alone) (now (s .entry)))) × (now (out .exit) ≡ sets (now (out .entry)) 0 (seriesNormal (formOf alone) (now (s .entry)))) ⌝ }
 {
@@ -121,15 +115,16 @@ pub fn pack_normal(
         k = if n == size {
             stores::copy_run(out, m, &s[from..next])
         } else {
-            m + item_normal(
-                table,
-                glances,
-                &s[from..next],
-                false,
-                alone,
-                0,
-                &mut out[m..],
-            )
+            m
+                + item_normal(
+                    table,
+                    glances,
+                    &s[from..next],
+                    false,
+                    alone,
+                    0,
+                    &mut out[m..],
+                )
         };
         p = next;
     }

@@ -20,11 +20,12 @@ use Rattle.format.proofs.words.Answers.{no-bool}
 use Rattle.format.proofs.sheets.Normal.{entries-less}
 use Rattle.items.proofs.Tests.{bind-not}
 use Rattle.walks.specs.declared.Sizes.{Sizes}
-use Rattle.walks.specs.declared.Checked.{Checked}
-use Rattle.walks.specs.declared.Checked.the-variants.{Fine, Wrong}
-use Rattle.walks.specs.Meet.{checkedOf}
-use Rattle.walks.proofs.Parsed.{Parsed, wrong-parsed}
-use Rattle.walks.proofs.Opened.{fine, opened, lentSet, lent-is}
+use Rattle.walks.proofs.Parsed.{Parsed}
+use Rattle.checks.specs.declared.Checked.{Checked}
+use Rattle.checks.specs.declared.Checked.the-variants.{Fine, Wrong}
+use Rattle.checks.specs.Meet.{checkedOf}
+use Rattle.checks.proofs.Parsing.{wrong-parsed}
+use Rattle.checks.proofs.Opened.{fine, opened, lentSet, lent-is}
 use Rattle.frames.specs.Meet.{frameSize}
 use Rattle.edits.specs.declared.Place.{Place}
 use Rattle.edits.specs.declared.Found.{Found}

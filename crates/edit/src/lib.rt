@@ -12,8 +12,8 @@ ghost use Rattle.edit.specs.Meet.{foundRefusal};
 use answers::Answer;
 use answers::answer_of;
 use answers::refusal;
+use checks::Checked;
 use edits::Found;
-use walks::Checked;
 
 // A refusal of an edit passed up.
 fn edit_refusal(f: Found) -> Answer
@@ -46,11 +46,11 @@ pub fn edit(
     ensures { λ r. ⌜ leftOf r (now (out .exit)) ≡ leaves (now (out .entry)) (Edit.edit (formOf alone) (holderOf set id) tag (changeOf removal (now (value .entry))) (now (packet .entry))) ⌝ }
 {
     let glances = items::quick::glances();
-    let c = walks::whole::check(&glances, packet, alone);
+    let c = checks::check(&glances, packet, alone);
     let Checked::Fine(_) = c else {
         return refusal(c);
     };
-    let from = walks::whole::set_start(packet, alone);
+    let from = checks::set_start(packet, alone);
     let s = &packet[from..];
     let f = edits::judge(&glances, s, alone, set, id, tag, removal, value);
     let Found::There(p) = f else {

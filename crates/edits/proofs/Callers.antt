@@ -22,12 +22,12 @@ use Rattle.coding.proofs.Counts.{len-most}
 use Rattle.items.specs.Meet.{levelOf}
 use Rattle.items.proofs.Tests.{bind-so, bind-not}
 use Rattle.walks.specs.declared.Sizes.{Sizes}
-use Rattle.walks.specs.declared.Checked.{Checked}
-use Rattle.walks.specs.declared.Checked.the-variants.{Fine}
-use Rattle.walks.specs.Meet.{checkedOf}
 use Rattle.walks.specs.Runs.{levelRun}
 use Rattle.walks.proofs.Parsed.{Sealing, Parsed}
-use Rattle.walks.proofs.Opened.{fine, opened, lentSet, lent-is}
+use Rattle.checks.specs.declared.Checked.{Checked}
+use Rattle.checks.specs.declared.Checked.the-variants.{Fine}
+use Rattle.checks.specs.Meet.{checkedOf}
+use Rattle.checks.proofs.Opened.{fine, opened, lentSet, lent-is}
 use Rattle.spots.specs.Meet.{entriesOf, thingsOf}
 use Rattle.spots.proofs.Seeks.{ran-ok}
 use Rattle.edits.specs.declared.Place.{Place}

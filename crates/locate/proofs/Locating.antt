@@ -14,11 +14,11 @@ use Rattle.format.specs.Rows.{Row, rowsOf, locate}
 use Rattle.format.proofs.demands.Sizes.{sizes as size-law}
 use Rattle.items.proofs.Tests.{bind-so, bind-not}
 use Rattle.walks.specs.declared.Sizes.{Sizes}
-use Rattle.walks.specs.declared.Checked.{Checked}
-use Rattle.walks.specs.declared.Checked.the-variants.{Fine, Wrong}
-use Rattle.walks.specs.Meet.{checkedOf}
-use Rattle.walks.proofs.Parsed.{wrong-parsed}
-use Rattle.walks.proofs.Opened.{fine, opened, start-is, lentSet, lent-is}
+use Rattle.checks.specs.declared.Checked.{Checked}
+use Rattle.checks.specs.declared.Checked.the-variants.{Fine, Wrong}
+use Rattle.checks.specs.Meet.{checkedOf}
+use Rattle.checks.proofs.Parsing.{wrong-parsed}
+use Rattle.checks.proofs.Opened.{fine, opened, start-is, lentSet, lent-is}
 use Rattle.stores.proofs.Stores.{sets-start}
 use Rattle.rows.specs.Meet.{numbers, levelNumbers}
 use Rattle.rows.proofs.Numbers.{numbers-long, level-set}

@@ -7,21 +7,21 @@ ghost use Rattle.locate.specs.Meet.{leavesRows};
 use answers::Answer;
 use answers::answer_of;
 use answers::refusal;
-use walks::Checked;
+use checks::Checked;
 
 // A packet's rows, as numbers, four to a row.
 pub fn locate_numbers(packet: &[u8], alone: bool, rows: &mut [u64]) -> Answer
     ensures { λ r. ⌜ leftOf r (now (rows .exit)) ≡ leavesRows (now (rows .entry)) (Rows.locate (formOf alone) (now (packet .entry))) ⌝ }
 {
     let glances = items::quick::glances();
-    let c = walks::whole::check(&glances, packet, alone);
+    let c = checks::check(&glances, packet, alone);
     let Checked::Fine(sizes) = c else {
         return refusal(c);
     };
     if rows.len() < 4 * sizes.rows {
         return answer_of(16, sizes.rows);
     }
-    let from = walks::whole::set_start(packet, alone);
+    let from = checks::set_start(packet, alone);
     rows::item_rows(&packet[from..], from, 0, true, alone, rows);
     answer_of(0, sizes.rows)
 }

@@ -22,13 +22,14 @@ use Rattle.format.proofs.sheets.Same.{normal-less, normal-same}
 use Rattle.format.specs.Valid.{All}
 use Rattle.items.proofs.Tests.{bind-so, bind-not}
 use Rattle.walks.specs.declared.Sizes.{Sizes}
-use Rattle.walks.specs.declared.Checked.{Checked}
-use Rattle.walks.specs.declared.Checked.the-variants.{Fine, Wrong}
-use Rattle.walks.specs.Meet.{total, weightOfEntry, checkedOf}
+use Rattle.walks.specs.Meet.{total, weightOfEntry}
 use Rattle.walks.specs.Runs.{levelRun}
-use Rattle.walks.proofs.Closings.{inner-less}
-use Rattle.walks.proofs.Parsed.{wrong-parsed}
-use Rattle.walks.proofs.Opened.{fine, opened, lentSet, lent-is}
+use Rattle.checks.specs.declared.Checked.{Checked}
+use Rattle.checks.specs.declared.Checked.the-variants.{Fine, Wrong}
+use Rattle.checks.specs.Meet.{checkedOf}
+use Rattle.checks.proofs.Closings.{inner-less}
+use Rattle.checks.proofs.Parsing.{wrong-parsed}
+use Rattle.checks.proofs.Opened.{fine, opened, lentSet, lent-is}
 use Rattle.frames.specs.Meet.{frameSize}
 use Rattle.normals.specs.Meet.{levelNormal, InnerRun}
 use Rattle.normals.proofs.Packet.{normal-whole, inner-run}

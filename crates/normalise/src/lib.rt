@@ -7,14 +7,14 @@ ghost use Rattle.answers.specs.Meet.{leftOf};
 use answers::Answer;
 use answers::answer_of;
 use answers::refusal;
-use walks::Checked;
+use checks::Checked;
 
 // A packet to its normal form: what `write` makes of its sheet, with no sheet between.
 pub fn normalise(packet: &[u8], alone: bool, out: &mut [u8]) -> Answer
     ensures { λ r. ⌜ leftOf r (now (out .exit)) ≡ leaves (now (out .entry)) (Calls.normalise (formOf alone) (now (packet .entry))) ⌝ }
 {
     let glances = items::quick::glances();
-    let c = walks::whole::check(&glances, packet, alone);
+    let c = checks::check(&glances, packet, alone);
     let Checked::Fine(sizes) = c else {
         return refusal(c);
     };
@@ -27,7 +27,7 @@ pub fn normalise(packet: &[u8], alone: bool, out: &mut [u8]) -> Answer
         stores::copy_run(out, 0, packet);
         return answer_of(0, size);
     }
-    let from = walks::whole::set_start(packet, alone);
+    let from = checks::set_start(packet, alone);
     let a = frames::open(out, alone, sizes.normal);
     let table = items::table();
     let n = normals::item_normal(

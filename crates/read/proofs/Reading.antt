@@ -18,11 +18,11 @@ use Rattle.format.proofs.coding.Digits.{length-fixed}
 use Rattle.items.specs.Meet.{formOf}
 use Rattle.items.proofs.Tests.{bind-so, bind-not}
 use Rattle.walks.specs.declared.Sizes.{Sizes}
-use Rattle.walks.specs.declared.Checked.{Checked}
-use Rattle.walks.specs.declared.Checked.the-variants.{Fine, Wrong}
-use Rattle.walks.specs.Meet.{checkedOf}
-use Rattle.walks.proofs.Parsed.{wrong-parsed}
-use Rattle.walks.proofs.Opened.{fine, opened, lentSet, lent-is}
+use Rattle.checks.specs.declared.Checked.{Checked}
+use Rattle.checks.specs.declared.Checked.the-variants.{Fine, Wrong}
+use Rattle.checks.specs.Meet.{checkedOf}
+use Rattle.checks.proofs.Parsing.{wrong-parsed}
+use Rattle.checks.proofs.Opened.{fine, opened, lentSet, lent-is}
 use Rattle.stores.proofs.Stores.{sets-append, tail-length, tail-stored}
 use Rattle.sheets.specs.Meet.{levelSheet}
 use Rattle.sheets.proofs.Packet.{sheet-whole}

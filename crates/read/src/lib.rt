@@ -9,7 +9,7 @@ ghost use Rattle.answers.specs.Meet.{leftOf};
 use answers::Answer;
 use answers::answer_of;
 use answers::refusal;
-use walks::Checked;
+use checks::Checked;
 
 // `PK` and the form, as one number.
 fn head_of(alone: bool) -> u64
@@ -23,14 +23,14 @@ pub fn read(packet: &[u8], alone: bool, sheet: &mut [u8]) -> Answer
     ensures { λ r. ⌜ leftOf r (now (sheet .exit)) ≡ leaves (now (sheet .entry)) (Calls.read (formOf alone) (now (packet .entry))) ⌝ }
 {
     let glances = items::quick::glances();
-    let c = walks::whole::check(&glances, packet, alone);
+    let c = checks::check(&glances, packet, alone);
     let Checked::Fine(sizes) = c else {
         return refusal(c);
     };
     if sheet.len() < sizes.sheet {
         return answer_of(16, sizes.sheet);
     }
-    let from = walks::whole::set_start(packet, alone);
+    let from = checks::set_start(packet, alone);
     stores::put_number(sheet, 0, head_of(alone), 3);
     let table = items::table();
     sheets::item_sheet(&table, &packet[from..], true, alone, &mut sheet[3..]);

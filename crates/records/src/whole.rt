@@ -74,7 +74,7 @@ fn set_records(glances: &[u32], s: &[u8], alone: bool) -> Walked
 {
     let q = glanced(glances, s, alone);
     if q.at == s.len() {
-        return walks::sets::walked(q);
+        return walks::quick::walked(q);
     }
     // lent on as a part, so that the compiler keeps the slice itself in registers
     let table = items::table();

@@ -24,11 +24,12 @@ use Rattle.coding.proofs.Rooms.{tail-part}
 use Rattle.items.proofs.Tests.{bind-so}
 use Rattle.heads.proofs.Heads.{mid-part}
 use Rattle.walks.specs.declared.Sizes.{Sizes}
-use Rattle.walks.specs.declared.Checked.{Checked}
-use Rattle.walks.specs.declared.Checked.the-variants.{Fine, Wrong}
-use Rattle.walks.specs.Meet.{checkedOf}
-use Rattle.walks.proofs.Parsed.{Sealing, Parsed, wrong-parsed}
-use Rattle.walks.proofs.Opened.{fine, opened, start-is, set-room, lentSet, lent-is}
+use Rattle.walks.proofs.Parsed.{Sealing, Parsed}
+use Rattle.checks.specs.declared.Checked.{Checked}
+use Rattle.checks.specs.declared.Checked.the-variants.{Fine, Wrong}
+use Rattle.checks.specs.Meet.{checkedOf}
+use Rattle.checks.proofs.Parsing.{wrong-parsed}
+use Rattle.checks.proofs.Opened.{fine, opened, start-is, set-room, lentSet, lent-is}
 use Rattle.spots.specs.Meet.{thingsOf, entriesOf}
 use Rattle.rows.proofs.Packet.{rows-whole}
 use Rattle.edits.specs.Meet.{holderOf}

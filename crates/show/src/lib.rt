@@ -7,13 +7,13 @@ ghost use Rattle.format.specs.Read.{parse};
 ghost use Rattle.format.specs.Show as Show;
 ghost use Rattle.items.specs.Meet.{formOf};
 ghost use Rattle.walks.specs.declared.Sizes.{Sizes};
-ghost use Rattle.walks.specs.declared.Checked.the-variants.{Fine};
-ghost use Rattle.walks.specs.Meet.{checkedOf};
+ghost use Rattle.checks.specs.declared.Checked.the-variants.{Fine};
+ghost use Rattle.checks.specs.Meet.{checkedOf};
 ghost use Rattle.edits.specs.Meet.{holderOf};
 ghost use Rattle.shows.specs.Meet.{valueOf};
 ghost use Rattle.show.specs.Meet.{rowNamed, partShown, ofTwo, noPart, bytesShown, placeShown};
+use checks::Checked;
 use shows::Value;
-use walks::Checked;
 
 // Which part of which of the two packets is shown.
 pub struct Part {
@@ -51,7 +51,7 @@ fn value_in(packet: &[u8], alone: bool, set: bool, id: u64, tag: u64) -> Value
     requires { ⌜ (Show.showable (holderOf set id) tag ≡ true) × ((a : Sizes) × (checkedOf (parse (formOf alone) (now packet)) ≡ Fine a)) ⌝ }
     ensures { λ r. ⌜ (r ≡ valueOf (rowNamed (holderOf set id) tag (parse (formOf alone) (now (packet .entry))))) × (r .offset + r .size ≤ length (now (packet .entry))) ⌝ }
 {
-    let from = walks::whole::set_start(packet, alone);
+    let from = checks::set_start(packet, alone);
     shows::value_at(&packet[from..], from, alone, set, id, tag)
 }
 
@@ -61,11 +61,11 @@ pub fn shown(reviewer: &[u8], detector: &[u8], alone: bool, set: bool, id: u64, 
         × (r .offset + r .size ≤ length (ofTwo (r .detectors) (now (reviewer .entry)) (now (detector .entry)))) ⌝ }
 {
     let glances = items::quick::glances();
-    let a = walks::whole::check(&glances, reviewer, alone);
+    let a = checks::check(&glances, reviewer, alone);
     let Checked::Fine(_) = a else {
         return nothing();
     };
-    let b = walks::whole::check(&glances, detector, alone);
+    let b = checks::check(&glances, detector, alone);
     let Checked::Fine(_) = b else {
         return nothing();
     };

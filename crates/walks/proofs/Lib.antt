@@ -7,13 +7,8 @@ pub mod Turns
 pub mod ItemTurns
 pub mod Glances
 pub mod Beyond
-pub mod SetTurns
 pub mod PackTurns
 pub mod Totals
 pub mod Inners
-pub mod Openings
-pub mod Closings
-pub mod Packets
 pub mod Steps
 pub mod Parsed
-pub mod Opened

@@ -9,14 +9,12 @@ use lib.ListN.{length, drop, getD}
 use lib.Dec.{eqb}
 use Rattle.format.specs.Answer.{Ans, ok, refused, Got}
 use Rattle.format.specs.Packet.{tagOfEntry, idOfPack}
-use Rattle.format.specs.Read.{headOf, onePack}
+use Rattle.format.specs.Read.{onePack}
 use Rattle.format.specs.Run.{Step, skip, always}
-use Rattle.format.specs.Table.{Form, set, isSet, isAlone}
+use Rattle.format.specs.Table.{Form, isSet, isAlone}
 use Rattle.items.specs.Meet.{levelOf}
 use Rattle.items.specs.Quick as items
-use Rattle.heads.specs.declared.Head.{Head}
-use Rattle.heads.specs.declared.Head.the-variants as heads
-use Rattle.heads.specs.Meet.{itemHeadOf, peek, Past}
+use Rattle.heads.specs.Meet.{peek, Past}
 use Rattle.walks.specs.declared.Sizes.{Sizes}
 use Rattle.walks.specs.declared.Walked.{Walked}
 use Rattle.walks.specs.declared.quick.Quick.{Quick}
@@ -84,8 +82,3 @@ pub record Plain (b : Bool) (f : Form) (p top low tag n : ℕ) : Type 0 where
   pub new : New p top low tag
   pub begins : Begun b f p tag
   pub beyond : items.beyond b tag ≡ true
-
--- the head of an item of the set at p, if one was read
-abbrev pub HeadIf : List ℕ → ℕ → Head → Type 0
-HeadIf s p (heads.Whole k u w n) = (p < length s) × (itemHeadOf (heads.Whole k u w n) ≡ headOf set (drop p s))
-HeadIf s p (heads.Fault n) = Unit {0}

@@ -1,19 +1,16 @@
 -- Where the code that checks a packet meets document 01: what its answers mean.
 use Prim.Native.Nat.{ℕ, _+_, _-_, _*_, _≤_}
 use mathlib.Core.Bool.{Bool, true, false, _&&_, _||_}
-use mathlib.Core.List.{List, [], _∷_, map}
+use mathlib.Core.List.{List, [], _∷_}
 use lib.ListN.{length}
 use lib.Dec.{eqb}
 use Rattle.format.specs.Coding.{lenWidth, oidBytes}
-use Rattle.format.specs.Lists.{flatAll}
 use Rattle.format.specs.Answer.{Ans, ok, refused, Got, got, _>>=_}
 use Rattle.format.specs.Table.{Form, Level, set, pack, isSet, ruleOf, short}
-use Rattle.format.specs.Packet.{Item, Pack, Entry, plain, series, Packet, idOfPack, tagOfEntry, flatEntry}
+use Rattle.format.specs.Packet.{Item, Pack, Entry, plain, series, idOfPack, tagOfEntry}
 use Rattle.format.specs.Run.{Step, run, always}
 use Rattle.format.specs.Read.{item, onePack, deepen}
-use Rattle.format.specs.Sheet.{Val, Target, Part, one, targets, content, sheetBytes}
-use Rattle.format.specs.Calls.{entryOf}
-use Rattle.format.specs.Rows.{rowsOf}
+use Rattle.format.specs.Sheet.{Val, Target, Part, one, targets}
 use Rattle.heads.specs.declared.Head.{Head}
 use Rattle.heads.specs.declared.Head.the-variants as heads
 use Rattle.walks.specs.declared.Piece.{Piece}
@@ -21,8 +18,6 @@ use Rattle.walks.specs.declared.Piece.the-variants as piece
 use Rattle.walks.specs.declared.Sizes.{Sizes}
 use Rattle.walks.specs.declared.Walked.{Walked}
 use Rattle.walks.specs.declared.Walked.the-variants.{Good, Bad}
-use Rattle.walks.specs.declared.Checked.{Checked}
-use Rattle.walks.specs.declared.Checked.the-variants.{Fine, Wrong}
 
 -- an item that was read: where its value begins, how long it is, and how long in its shortest form
 abbrev pub pieceOf : Level → Ans (Got Item) → Piece
@@ -142,9 +137,3 @@ Small a = Few a 65536
 abbrev pub Within : Walked → ℕ → Type 0
 Within (Good a m) n = Few a n
 Within (Bad k p) n = p ≤ n
-
--- ---- the whole packet
-
-abbrev pub checkedOf : Ans Packet → Checked
-checkedOf (ok p) = Fine (sizes (length (sheetBytes (content p))) (length (rowsOf p)) (length (flatAll flatEntry (map entryOf (content p .parts)))) (total (weightOfEntry set) (p .entries) .inner))
-checkedOf (refused n p) = Wrong n p

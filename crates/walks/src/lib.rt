@@ -337,15 +337,5 @@ pub fn pack_walk(table: &[u32], glances: &[u32], s: &[u8], alone: bool, q: Quick
     }
 }
 
-// ---- the whole packet
-
-// The sizes of what a packet says, or the refusal.
-pub enum Checked {
-    Fine(Sizes),
-    Wrong { number: u64, place: usize },
-}
-
-pub mod whole; // whole.rt: the whole packet
-pub mod sets; // sets.rt: its set
 pub mod quick; // quick.rt: the quick way over a level
 pub mod weights; // weights.rt: the sizes of an item, a pack and the series

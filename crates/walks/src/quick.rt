@@ -8,6 +8,7 @@ ghost use Rattle.items.specs.Meet.{formOf, glanceTable};
 ghost use Rattle.walks.specs.Meet.{noSizes, sizes};
 ghost use Rattle.walks.specs.Going.{LevelGoing, SeriesGoing, quickAt, Begun, Glanced, New, Plain};
 use super::Sizes;
+use super::Walked;
 use heads::Head;
 
 // How far such an item may begin: two bytes and a value have room there, and what begins the level may.
@@ -132,6 +133,15 @@ pub fn stands(at: usize, sizes: Sizes, mark: bool, top: u64, low: u64) -> Quick
         top,
         low,
     }
+}
+
+// What was walked till there.
+pub fn walked(q: Quick) -> Walked
+    ensures { λ r. ⌜ r ≡ Walked.Good (q .sizes) (q .mark) ⌝ }
+{
+    let sizes = q.sizes;
+    let mark = q.mark;
+    Walked::Good { sizes, mark }
 }
 
 // Whether a key is told to be new without a look back: no key before p is above top or below low.

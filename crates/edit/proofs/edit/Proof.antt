@@ -5,7 +5,7 @@
 use mathlib.Core.Path.{refl, sym}
 use native.Mathlib.Omega.{arith}
 use borrow.Author.Needs.{needs}
-use Rattle.walks.proofs.Opened.{opened, set-room}
+use Rattle.checks.proofs.Opened.{opened, set-room}
 use Rattle.edits.proofs.Storing.{tag-high, puttable}
 use Rattle.edits.proofs.Callers.{set-is, edited-small}
 use Rattle.answers.proofs.Framed.{open-asked, rest-from, rest-room, entries-end, close-asked, all-written}

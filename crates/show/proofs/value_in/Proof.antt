@@ -2,7 +2,7 @@
 use mathlib.Core.Path.{refl}
 use native.Mathlib.Omega.{arith}
 use Rattle.items.specs.Meet.{formOf}
-use Rattle.walks.proofs.Opened.{opened, set-room, set-long}
+use Rattle.checks.proofs.Opened.{opened, set-room, set-long}
 use Rattle.edits.specs.Meet.{holderOf}
 use Rattle.edits.proofs.Callers.{set-is}
 use Rattle.show.proofs.Showing.{value-found}

@@ -2,19 +2,18 @@
 use mathlib.Core.Path.{_≡_, refl, sym, ap, _∙_, subst}
 use Prim.Native.Nat.{ℕ, _+_, _-_, _/_, _≤_, _<_}
 use native.Mathlib.Omega.{arith}
-use mathlib.Core.Bool.{Bool, true, false, _&&_}
+use mathlib.Core.Bool.{Bool, true, false}
 use mathlib.Core.List.{List, _++_}
-use lib.ListN.{length, take, drop, getD, length-append, length-take, length-drop}
+use lib.ListN.{length, drop, getD, length-append, length-take, length-drop}
 use lib.Seq.{sets, length-sets, length-take-le}
-use lib.Dec.{eqb}
 use Rattle.format.specs.Coding.{lenWidth, lenBytes, oidBytes}
-use Rattle.format.specs.Table.{Form, Level, set, pack, isSet, Rule, ruleOf, nameable, short}
+use Rattle.format.specs.Table.{Form, Level, set, pack, ruleOf, nameable, short}
 use Rattle.format.specs.Packet.{flatItem}
 use Rattle.format.specs.Calls.{itemOf}
 use Rattle.format.specs.Edit.{Change, put, remove, valWith}
 use Rattle.format.specs.Edit as Edit
 use Rattle.format.proofs.coding.Lengths.{length-len}
-use Rattle.format.proofs.table.Tags.{nameable-high, not-seal}
+use Rattle.format.proofs.table.Tags.{nameable-high}
 use Rattle.format.proofs.edits.Rules.{ChangeOk, rules-then}
 use Rattle.coding.proofs.Counts.{digits-most, len-most}
 use Rattle.items.specs.Meet.{levelOf}
@@ -150,9 +149,6 @@ module _ (f : Form) (b : Bool) (id tag : ℕ) (c : Change) (s : List ℕ) (p : P
 
   pub tag-high : tag ≤ 16383
   tag-high = nameable-high (levelOf b) tag named
-
-  pub tag-other : isSet (levelOf b) && eqb tag 1 ≡ false
-  tag-other = not-seal (levelOf b) tag named
 
   pub puttable : Puttable c
   puttable = rules-then (holderOf b id) tag c (sheetOf f s) tt (e .ruled) λ n k tags et pr. of-change c (e .brief) k

@@ -2,7 +2,7 @@
 -- In each answer a is where the packet was found fine, k where its set begins, j where the edit was judged, f where it was let through,
 -- m where the entries' size is known and z the packet's, g where there is room, o where the packet was opened, and n where its
 -- entries were written.
-use mathlib.Core.Path.{refl, sym}
+use mathlib.Core.Path.{refl}
 use native.Mathlib.Omega.{arith}
 use borrow.Author.Needs.{needs}
 use Rattle.checks.proofs.Opened.{opened, set-room}

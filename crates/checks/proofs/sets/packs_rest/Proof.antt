@@ -1,5 +1,4 @@
 -- `sets::packs_rest` meets its contract: the pack walk goes on.
-use native.Mathlib.Omega.{arith}
 use borrow.Author.Needs.{needs}
 use Rattle.coding.proofs.Rooms.{tail-part}
 use Rattle.checks.proofs.sets.packs_rest.Statement.{statement}

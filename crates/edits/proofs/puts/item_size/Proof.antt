@@ -1,6 +1,5 @@
 -- `edits::puts::item_size` meets its contract.
 use native.Mathlib.Omega.{arith}
-use borrow.Author.Needs.{needs}
 use Rattle.items.specs.Meet.{levelOf}
 use Rattle.stores.proofs.Shortest.{short-less}
 use Rattle.edits.proofs.Storing.{item-none, some-bytes, short-put, item-sized}

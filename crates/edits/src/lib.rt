@@ -171,7 +171,7 @@ pub fn is_told(glances: &[u32], alone: bool, set: bool, tag: u64, v: &[u8]) -> b
     items::quick::is_quick(glances, set, alone, tag, v.len() as u64, v[0])
 }
 
-// For a put 7, 13, 11 or 12; or 0. By the item table, which is laid out here alone.
+// For a put 7, 13, 11 or 12; or 0. By the item table.
 fn put_fault(alone: bool, set: bool, tag: u64, v: &[u8]) -> u64
     ensures { λ r. ⌜ ((tags : List ℕ) → answerOf r ≡ changeRules (formOf alone) (levelOf set) tag tags (put (now (v .entry)))) ⌝ }
 {

@@ -84,7 +84,7 @@ fn series(glances: &[u32], s: &[u8], alone: bool, q: Quick) -> Quick
     let from = p + used + width;
     let next = from + size;
     let packs = &s[from..next];
-    let d = quick::packs(glances, packs, alone);
+    let d = walks::packs::packs(glances, packs, alone);
     // no enum goes through memory where all are told at a glance
     if d.at == packs.len() {
         return after_series(q, next, d.sizes);

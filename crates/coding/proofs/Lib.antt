@@ -5,3 +5,4 @@ pub mod Oid
 pub mod TheKey
 pub mod Sums
 pub mod Counts
+pub mod Alikes

@@ -1,7 +1,7 @@
 // The codings of document 01 from the bytes' side: lengths, tags and ids, numbers, the key and the checksum.
 ghost use mathlib.Core.Path.{_≡_};
 ghost use Prim.Native.Nat.{_+_, _*_, _%_, _^_, _≤_, _<_};
-ghost use mathlib.Core.Bool.{_&&_};
+ghost use mathlib.Core.Bool.{_&&_, _||_};
 ghost use lib.ListN.{length, take};
 ghost use Rattle.format.specs.Coding.{bytesNumber, lenOf, oidGo, oid, tagOf, idOf};
 ghost use Rattle.format.specs.Lists.{same};
@@ -145,11 +145,17 @@ pub fn key() -> [u8; 16]
     KEY
 }
 
-// Both.
-fn both(a: bool, b: bool) -> bool
+// Both, or either: with no way around the second, so that a loop of such has none.
+pub fn both(a: bool, b: bool) -> bool
     ensures { λ r. ⌜ r ≡ (a && b) ⌝ }
 {
     if a { b } else { false }
+}
+
+pub fn either(a: bool, b: bool) -> bool
+    ensures { λ r. ⌜ r ≡ (a || b) ⌝ }
+{
+    if a { true } else { b }
 }
 
 // Whether the key opens s. No byte that differs ends the loop, so that the compiler compares all at once.
@@ -197,3 +203,4 @@ pub fn sum_of(s: &[u8], n: usize) -> u64
 }
 
 pub mod widths; // widths.rt: how many bytes what is coded takes
+pub mod alike; // alike.rt: bytes laid out as others

@@ -14,6 +14,7 @@ use Rattle.format.specs.Edit.{Change, theSet, target, mustStay, changeRules, ed
 use Rattle.format.specs.Edit as Edit
 use Rattle.items.specs.Meet.{formOf, levelOf, answerOf}
 use Rattle.items.specs.Quick.{Quick}
+use Rattle.items.proofs.Glances.{as-same}
 use Rattle.items.proofs.Tests.{bind-so, bind-not, need-so, need-not}
 use Rattle.edits.specs.declared.Place.{Place}
 use Rattle.edits.specs.declared.Found.{Found}
@@ -57,7 +58,7 @@ module _ (f : Form) (l : Level) (tag : ℕ) (tags v : List ℕ) {b : Bool} where
 
     -- a value that is told at a glance
     pub put-told : Quick l f tag (length v) (getD v 0 0) → ok tt ≡ changeRules f l tag tags (changeOf b v)
-    put-told q = put-value (q .some) (q .stands true) (sym (q .allowed v refl refl))
+    put-told q = put-value (q .some) (q .stands true) (sym (q .allowed v refl (as-same _ _ refl)))
 
 -- ---- what must stay
 

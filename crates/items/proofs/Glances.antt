@@ -5,6 +5,7 @@ use native.Mathlib.Omega.{arith}
 use native.Mathlib.Nat.{mod-one}
 use mathlib.Core.Bool.{Bool, true, false, not, _&&_, _||_}
 use mathlib.Core.List.{List, [], _∷_}
+use mathlib.Core.Logic.{inl, inr, ⊎-elim}
 use lib.ListN.{length, getD}
 use lib.Dec.{ltb, leb, eqb}
 use borrow.Author.Tests.{ltb-true, leb-true, lt-ltb, le-ltb, le-leb, eqb-true, eqb-false, ne-eqb, eq-eqb, not-true}
@@ -14,7 +15,7 @@ use Rattle.format.specs.Lists.{has}
 use Rattle.format.specs.Table.{Form, isAlone, Level, set, pack, isSet, Kind, bytes, num, pixel, Rule, unlisted, rules, find, ruleOf, mayStand, sized, notPixel, isNumber, valued, strip, short}
 use Rattle.format.proofs.words.Answers.{no-bool, and-both}
 use Rattle.items.specs.Meet.{levelOf, formOf, glanceTable, offsets, zeros}
-use Rattle.items.specs.Quick.{bit, mostTag, rowsFrom, leastRow, glanced, beyond, Quick}
+use Rattle.items.specs.Quick.{bit, mostTag, rowsFrom, leastRow, glanced, beyond, As, Quick}
 use Rattle.items.proofs.Rows.{set-over, pack-over}
 use Rattle.items.proofs.Tests.{need-so, zeros-some, offset-over}
 
@@ -91,6 +92,24 @@ module _ (r : Rule) (v : List ℕ) (long : 0 < length v) (fits : sized r (length
 
 -- ---- what is told at a glance
 
+pub as-same : (first y : ℕ) → y ≡ first → As first y
+as-same zero y e = inl refl
+as-same (suc k) y e = inr (omega (arith, e))
+
+-- an item told with one first byte, with another
+pub quick-as : {l : Level} {f : Form} {tag n first : ℕ} {y : ℕ} → As first y → Quick l f tag n first → Quick l f tag n y
+quick-as {first = first} {y = y} h q = record {
+  some = q .some;
+  no-series = q .no-series;
+  no-seal = q .no-seal;
+  stands = q .stands;
+  allowed = λ v e g. q .allowed v e (on _ g);
+  shortest = λ v e g. q .shortest v e (on _ g);
+}
+  where
+    on : (z : ℕ) → As y z → As first z
+    on z g = ⊎-elim inl (λ s. ⊎-elim (λ e. absurd (omega (arith, s, e))) inr g) h
+
 implied : (a b : Bool) → not a || b ≡ true → a ≡ true → b ≡ true
 implied true b e h = e
 implied false b e h = no-bool h
@@ -144,7 +163,7 @@ module _ (b a : Bool) (tag n first : ℕ) (small : tag ≤ mostTag b) (high : le
   some : 0 < n
   some = ltb-true 0 n (holds .0)
 
-  value : (v : List ℕ) → length v ≡ n → getD v 0 0 ≡ first → (valued rule v ≡ ok tt) × (short rule v ≡ v)
+  value : (v : List ℕ) → length v ≡ n → As first (getD v 0 0) → (valued rule v ≡ ok tt) × (short rule v ≡ v)
   value v e f = go (eqb first 0) refl
     where
       long : 0 < length v
@@ -157,7 +176,7 @@ module _ (b a : Bool) (tag n first : ℕ) (small : tag ≤ mostTag b) (high : le
       go true z =
           let low : row / 2 ^ 31 ≤ 0 = omega (arith, leb-true (row / 2 ^ 31) first (parts .2), eqb-true first 0 z) in
           plainly rule v long fits (not-true _ (rw (le-ltb 0 (row / 2 ^ 31) low) at (holds .2)))
-      go false z = briefly rule v long fits (λ y. eqb-false first 0 z (sym f ∙ y))
+      go false z = briefly rule v long fits (λ y. ⊎-elim (eqb-false first 0 z) (λ h. omega (arith, h, y)) f)
 
   pub glanced-quick : (tag < 128) × (n < 128) × Quick (levelOf b) (formOf a) tag n first
   glanced-quick = (

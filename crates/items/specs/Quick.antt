@@ -3,6 +3,7 @@ use mathlib.Core.Path.{_≡_}
 use Prim.Native.Nat.{ℕ, _/_, _%_, _^_, _<_}
 use mathlib.Core.Bool.{Bool, true, false, not, _&&_}
 use mathlib.Core.List.{List}
+use mathlib.Core.Logic.{_⊎_}
 use lib.ListN.{length, getD}
 use lib.Dec.{ltb, leb, eqb}
 use Rattle.format.specs.Answer.{ok}
@@ -33,10 +34,14 @@ abbrev pub beyond : Bool → ℕ → Bool
 beyond true tag = ltb 12 tag && not (eqb tag 101)
 beyond false tag = ltb 23 tag
 
+-- what is told of the first byte is told of y too: of any byte if that is 0, else of any but 0
+abbrev pub As : ℕ → ℕ → Type 0
+As first y = (first ≡ 0) ⊎ (0 < y)
+
 pub record Quick (l : Level) (f : Form) (tag n first : ℕ) : Type 0 where
   pub some : 0 < n
   pub no-series : isSet l && eqb tag 101 ≡ false
   pub no-seal : isSet l && eqb tag 1 ≡ false
   pub stands : (last : Bool) → mayStand l f tag last ≡ true
-  pub allowed : (v : List ℕ) → length v ≡ n → getD v 0 0 ≡ first → valued (ruleOf l tag) v ≡ ok tt
-  pub shortest : (v : List ℕ) → length v ≡ n → getD v 0 0 ≡ first → short (ruleOf l tag) v ≡ v
+  pub allowed : (v : List ℕ) → length v ≡ n → As first (getD v 0 0) → valued (ruleOf l tag) v ≡ ok tt
+  pub shortest : (v : List ℕ) → length v ≡ n → As first (getD v 0 0) → short (ruleOf l tag) v ≡ v

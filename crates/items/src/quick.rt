@@ -135,3 +135,14 @@ pub fn is_quick(glances: &[u32], set: bool, alone: bool, tag: u64, n: u64, first
     }
     fits(row, n, first)
 }
+
+// What an item laid out alike has to begin its value with, beside one that is told so: 0 anything, 1 the same byte or any but 0.
+pub fn first_mark(glances: &[u32], set: bool, alone: bool, tag: u64, n: u64) -> u8
+    requires { ⌜ now glances ≡ glanceTable ⌝ }
+    ensures { λ r. ⌜ (r ≡ 0 → Quick (levelOf set) (formOf alone) tag n 0) ⌝ }
+{
+    if is_quick(glances, set, alone, tag, n, 0) {
+        return 0;
+    }
+    1
+}

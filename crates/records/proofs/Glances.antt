@@ -17,6 +17,7 @@ use Rattle.coding.proofs.Rooms.{tail-part, bytes-room}
 use Rattle.coding.proofs.Counts.{len-one, count-start, count-done}
 use Rattle.items.specs.Meet.{levelOf}
 use Rattle.items.specs.Quick.{Quick}
+use Rattle.items.proofs.Glances.{as-same}
 use Rattle.items.proofs.Tests.{standing-0}
 use Rattle.heads.specs.Meet.{peek, Past}
 use Rattle.heads.proofs.Heads.{mid-part}
@@ -162,8 +163,8 @@ module _ {b : Bool} {f : Form} {s : List ℕ} {p top tag n : ℕ} (g : Glanced b
       (λ e. omega (arith, g .quick .some))
       {j = 0} (standing-0 (levelOf b) f seen tag true (sym (q .under tag (g .above))) (sym (g .quick .stands true)) (eqb p 0) (sym (q .first)) (sym begins))
       refl {rule = ruleOf (levelOf b) tag} refl
-      {m = 0} (sym (g .quick .allowed value value-size value-head)) refl
-      (sym (ap length (g .quick .shortest value value-size value-head) ∙ value-size))
+      {m = 0} (sym (g .quick .allowed value value-size (as-same _ _ value-head))) refl
+      (sym (ap length (g .quick .shortest value value-size (as-same _ _ value-head)) ∙ value-size))
       refl)
 
 -- where it ends

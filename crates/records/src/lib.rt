@@ -202,7 +202,7 @@ pub fn item_records(table: &[u32], glances: &[u32], s: &[u8], set: bool, alone: 
             return walks::later(w, p);
         };
         sum = walks::weights::plus(sum, sizes);
-        mark = walks::either(mark, m);
+        mark = coding::either(mark, m);
         clear = heads::clear::after(s, p, clear, top, low, tag, true, false, set);
         top = walks::larger(top, tag);
         low = walks::smaller(low, tag);
@@ -252,7 +252,7 @@ pub fn target_records(table: &[u32], glances: &[u32], s: &[u8], alone: bool) -> 
             sizes = z;
             mark = m;
         }
-        if walks::either(!alone, mark) {
+        if coding::either(!alone, mark) {
             sum = walks::weights::plus(
                 sum,
                 walks::weights::pack_sizes(coding::widths::oid_width(id), sizes),

@@ -94,7 +94,7 @@ pub fn run(glances: &[u32], s: &[u8], set: bool, alone: bool) -> Quick
             };
             return walks::quick::stands(p, sizes, mark, top, 0);
         }
-        mark = walks::either(mark, walks::is_mark(set, g.tag));
+        mark = coding::either(mark, walks::is_mark(set, g.tag));
         top = g.tag;
         count += 1;
         p = g.next;
@@ -166,7 +166,7 @@ pub fn targets(glances: &[u32], s: &[u8], alone: bool) -> Quick
                 return passed(p, rows, normal, top, low);
             }
         }
-        if !walks::either(!alone, q.mark) {
+        if !coding::either(!alone, q.mark) {
             return passed(p, rows, normal, top, low);
         }
         let body = coding::widths::oid_width(id) + q.sizes.normal;

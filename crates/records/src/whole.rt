@@ -128,7 +128,7 @@ pub fn check(s: &[u8]) -> Sheeted
     let Walked::Good { sizes, mark: _ } = w else {
         return wrong_parts(w);
     };
-    if walks::either(!alone, sizes.rows != 0) {
+    if coding::either(!alone, sizes.rows != 0) {
         return Sheeted::Fine {
             alone,
             normal: sizes.normal,

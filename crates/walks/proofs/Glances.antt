@@ -15,6 +15,7 @@ use Rattle.coding.proofs.Counts.{len-one, count-start, count-done}
 use Rattle.items.specs.Meet.{levelOf}
 use Rattle.items.specs.Quick as items
 use Rattle.items.proofs.Tests.{standing-0}
+use Rattle.items.proofs.Glances.{as-same}
 use Rattle.format.specs.Lists.{has}
 use Rattle.heads.specs.declared.Head.{Head}
 use Rattle.heads.specs.Meet.{itemHeadOf, peek, Past}
@@ -105,7 +106,7 @@ pub record Meets (b : Bool) (f : Form) (s : List ℕ) (p tag u w n : ℕ) : Type
 -- one that is told at a glance
 pub quick-meets : {b : Bool} {f : Form} {s : List ℕ} {p tag u w n : ℕ} {h : Head} → itemHeadOf h ≡ headOf (levelOf b) (drop p s) → h ≡ heads.Whole tag u w n
     → items.Quick (levelOf b) f tag n (getD s (p + (u + w)) 0) → Begun b f p tag → Meets b f s p tag u w n
-quick-meets {h = h} told is q begins = record { it = h; told = told; is = is; some = q .some; stands = q .stands _; allowed = q .allowed; shortest = q .shortest; begins = begins }
+quick-meets {h = h} told is q begins = record { it = h; told = told; is = is; some = q .some; stands = q .stands _; allowed = λ v e h. q .allowed v e (as-same _ _ h); shortest = λ v e h. q .shortest v e (as-same _ _ h); begins = begins }
 
 module _ {b : Bool} {f : Form} {s : List ℕ} {p tag u w n : ℕ} (i : Meets b f s p tag u w n) where
   abbrev value : List ℕ

@@ -1,5 +1,5 @@
 -- A turn of a walk's loop, as the code makes it: a fault ends it, a thing that was read moves on by its bytes.
-use mathlib.Core.Path.{_≡_, sym, ap, _∙_, subst}
+use mathlib.Core.Path.{_≡_, refl, sym, ap, _∙_, subst}
 use Prim.Native.Nat.{ℕ, _+_, _≤_, _<_}
 use native.Mathlib.Omega.{arith}
 use mathlib.Core.Bool.{Bool, true, false, _||_}
@@ -93,3 +93,7 @@ module _ (p top low key : ℕ) {top′ low′ : ℕ} where
 
   pub reach-under : key ≤ top → key < low → top′ ≡ top → low′ ≡ key → Reached p top low key top′ low′
   reach-under h l et el = record { new = inr (inr l); over = (omega arith, omega arith); under = (omega arith, omega arith); between = omega arith }
+
+-- the only key
+pub reach-only : (key low : ℕ) → key ≤ low → Reached 0 0 low key key key
+reach-only key low l = record { new = inl refl; over = (omega arith, omega arith); under = (omega arith, omega arith); between = omega arith }

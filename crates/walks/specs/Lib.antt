@@ -1,3 +1,4 @@
 pub mod Going
 pub mod Meet
+pub mod Packs
 pub mod Runs

@@ -149,12 +149,6 @@ pub fn smaller(a: u64, b: u64) -> u64
     if a < b { a } else { b }
 }
 
-pub fn either(a: bool, b: bool) -> bool
-    ensures { λ r. ⌜ r ≡ (a || b) ⌝ }
-{
-    if a { true } else { b }
-}
-
 pub fn is_series(set: bool, tag: u64) -> bool
     ensures { λ r. ⌜ r ≡ (set && eqb tag 101) ⌝ }
 {
@@ -257,7 +251,7 @@ pub fn item_rest(
                     glances,
                     packs,
                     alone,
-                    quick::packs(glances, packs, alone),
+                    packs::packs(glances, packs, alone),
                 ),
                 from,
             )
@@ -268,7 +262,7 @@ pub fn item_rest(
             return later(w, p);
         };
         sum = weights::plus(sum, sizes);
-        mark = either(mark, m);
+        mark = coding::either(mark, m);
         clear = heads::clear::after(s, p, clear, top, low, tag, false, false, set);
         top = larger(top, tag);
         low = smaller(low, tag);
@@ -318,7 +312,7 @@ pub fn pack_walk(table: &[u32], glances: &[u32], s: &[u8], alone: bool, q: Quick
         let Walked::Good { sizes, mark } = w else {
             return later(w, from);
         };
-        if either(!alone, mark) {
+        if coding::either(!alone, mark) {
             sum = weights::plus(sum, weights::pack_sizes(used, sizes));
             clear = heads::clear::after(s, p, clear, top, low, key, false, true, false);
             top = larger(top, key);
@@ -338,4 +332,5 @@ pub fn pack_walk(table: &[u32], glances: &[u32], s: &[u8], alone: bool, q: Quick
 }
 
 pub mod quick; // quick.rt: the quick way over a level
+pub mod packs; // packs.rt: the quick way over a series
 pub mod weights; // weights.rt: the sizes of an item, a pack and the series

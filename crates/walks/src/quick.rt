@@ -1,18 +1,18 @@
-// The quick way over a level or a series, from its start: items told at a glance, with a byte each for tag and length, tags rising; then
-// items that no table lists; and packs of items told at a glance. What stops it is left to the walks.
+// The quick way over a level, from its start: items told at a glance, with a byte each for tag and length, tags rising; then items that no
+// table lists. What stops it is left to the walks.
 ghost use mathlib.Core.Path.{_≡_};
 ghost use mathlib.Core.Bool.{true, false};
 ghost use Prim.Native.Nat.{_+_, _*_, _-_, _≤_, _<_};
 ghost use lib.ListN.{length, getD};
 ghost use Rattle.items.specs.Meet.{formOf, glanceTable};
 ghost use Rattle.walks.specs.Meet.{noSizes, sizes};
-ghost use Rattle.walks.specs.Going.{LevelGoing, SeriesGoing, quickAt, Begun, Glanced, New, Plain};
+ghost use Rattle.walks.specs.Going.{LevelGoing, quickAt, Begun, Glanced, New, Plain};
 use super::Sizes;
 use super::Walked;
 use heads::Head;
 
 // How far such an item may begin: two bytes and a value have room there, and what begins the level may.
-fn span(s: &[u8], set: bool, alone: bool) -> usize
+pub fn span(s: &[u8], set: bool, alone: bool) -> usize
     ensures { λ r. ⌜ (r ≤ length (now (s .entry)) - 2) × (0 < r → Begun set (formOf alone) 0 (getD (now (s .entry)) 0 0)) ⌝ }
 {
     if s.len() < 3 {
@@ -26,7 +26,7 @@ fn span(s: &[u8], set: bool, alone: bool) -> usize
 }
 
 // Where such an item at p ends by its length, its tag above top; 0 where it is no such item.
-fn glance(
+pub fn glance(
     glances: &[u32],
     s: &[u8],
     p: usize,
@@ -62,7 +62,7 @@ pub struct Quick {
 }
 
 // The first tag, which is the lowest where tags rise; above all where it is not in one byte, so that tags that fall are below it.
-fn first_tag(s: &[u8]) -> u64
+pub fn first_tag(s: &[u8]) -> u64
     ensures { λ r. ⌜ (0 < length (now (s .entry)) → getD (now (s .entry)) 0 0 < 128 → r ≡ getD (now (s .entry)) 0 0) ⌝ }
 {
     if s.len() == 0 {
@@ -76,13 +76,26 @@ fn first_tag(s: &[u8]) -> u64
 }
 
 // No bytes, rows or packs.
-fn nothing() -> Sizes
+pub fn nothing() -> Sizes
     ensures { λ r. ⌜ r ≡ noSizes ⌝ }
 {
     Sizes {
         sheet: 0,
         rows: 0,
         normal: 0,
+        inner: 0,
+    }
+}
+
+// Of so many items told at a glance, in p bytes.
+pub fn told_sizes(count: usize, p: usize) -> Sizes
+    requires { ⌜ 4 * count + p ≤ 65536 ⌝ }
+    ensures { λ r. ⌜ r ≡ sizes (4 * count + p) count p 0 ⌝ }
+{
+    Sizes {
+        sheet: 4 * count + p,
+        rows: count,
+        normal: p,
         inner: 0,
     }
 }
@@ -104,16 +117,10 @@ pub fn run(glances: &[u32], s: &[u8], set: bool, alone: bool) -> Quick
             if s.len() < p {
                 return stands(0, nothing(), false, 0, low);
             }
-            let sizes = Sizes {
-                sheet: 4 * count + p,
-                rows: count,
-                normal: p,
-                inner: 0,
-            };
-            return stands(p, sizes, mark, top, low);
+            return stands(p, told_sizes(count, p), mark, top, low);
         }
         let tag = coding::wide(s[p]);
-        mark = super::either(mark, super::is_mark(set, tag));
+        mark = coding::either(mark, super::is_mark(set, tag));
         top = tag;
         count += 1;
         p = next;
@@ -206,71 +213,4 @@ pub fn onward(s: &[u8], set: bool, alone: bool, q: Quick) -> Quick
         p = p + used + width + size;
     }
     stands(p, sum, q.mark, top, low)
-}
-
-// ---- packs
-
-// Where the pack walk goes on after packs of p bytes and so many rows, each with a byte for its length.
-fn passed(p: usize, rows: usize, more: usize, top: u64, low: u64) -> Quick
-    requires { ⌜ p + 4 * rows + more ≤ 65536 ⌝ }
-    ensures { λ r. ⌜ r ≡ quickAt p (sizes (p + 4 * rows + more) rows p 0) false top low ⌝ }
-{
-    let sizes = Sizes {
-        sheet: p + 4 * rows + more,
-        rows,
-        normal: p,
-        inner: 0,
-    };
-    stands(p, sizes, false, top, low)
-}
-
-// The packs whose length has one byte and whose id has one or two, ids rising or falling, and whose items are all told at a glance, one after
-// another, from a series' start. Beside as many bytes as such a pack has, its sheet has four for each row, and five less those of its id.
-pub fn packs(glances: &[u32], s: &[u8], alone: bool) -> Quick
-    requires { ⌜ (now glances ≡ glanceTable) × (length (now s) ≤ 8192) ⌝ }
-    ensures { λ r. ⌜ SeriesGoing (formOf alone) (now (s .entry)) (r .at) (r .sizes) (r .top) (r .low) ⌝ }
-{
-    let mut p: usize = 0;
-    let mut rows: usize = 0;
-    let mut more: usize = 0;
-    let mut top: u64 = 0;
-    let mut low: u64 = 18446744073709551615;
-    while p < s.len() {
-        let h = heads::short_pack_head(&s[p..]);
-        let Head::Whole {
-            key,
-            used,
-            width,
-            size,
-        } = h
-        else {
-            return passed(p, rows, more, top, low);
-        };
-        // an id above or below all before moves one bound, but for the first
-        if top < key {
-            top = key;
-            if p == 0 {
-                low = key;
-            }
-        } else {
-            if low <= key {
-                return passed(p, rows, more, top, low);
-            }
-            low = key;
-        }
-        let from = p + width + used;
-        let next = p + width + size;
-        let items = &s[from..next];
-        let q = run(glances, items, false, alone);
-        if q.at != items.len() {
-            return passed(p, rows, more, top, low);
-        }
-        if !super::either(!alone, q.mark) {
-            return passed(p, rows, more, top, low);
-        }
-        rows = rows + 1 + q.sizes.rows;
-        more = more + 5 - used;
-        p = next;
-    }
-    passed(p, rows, more, top, low)
 }

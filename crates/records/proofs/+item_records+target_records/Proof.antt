@@ -41,7 +41,7 @@ use Rattle.walks.proofs.later.Reads as later-reads
 use Rattle.records.proofs.part_at.Reads as part-at-reads
 use Rattle.walks.proofs.series_of.Reads as series-of-reads
 use Rattle.records.proofs.target_at.Reads as target-at-reads
-use Rattle.walks.proofs.either.Reads as either-reads
+use Rattle.coding.proofs.either.Reads as either-reads
 use Rattle.walks.proofs.is_series.Reads as is-series-reads
 use Rattle.walks.proofs.larger.Reads as larger-reads
 use Rattle.walks.proofs.one_item.Reads as one-item-reads

@@ -27,7 +27,7 @@ use Rattle.walks.proofs.+item_rest+pack_walk.Lts-pack_walk as pack-walk
 use Rattle.heads.proofs.clear.after.Reads as after-reads
 use Rattle.heads.proofs.is_seen.Reads as is-seen-reads
 use Rattle.heads.proofs.quick_pack_head.Reads as quick-pack-head-reads
-use Rattle.walks.proofs.either.Reads as either-reads
+use Rattle.coding.proofs.either.Reads as either-reads
 use Rattle.walks.proofs.is_series.Reads as is-series-reads
 use Rattle.walks.proofs.item_at.Reads as item-at-reads
 use Rattle.walks.proofs.larger.Reads as larger-reads
@@ -37,7 +37,7 @@ use Rattle.walks.proofs.piece_fault.Reads as piece-fault-reads
 use Rattle.walks.proofs.weights.pack_sizes.Reads as pack-sizes-reads
 use Rattle.walks.proofs.weights.plus.Reads as plus-reads
 use Rattle.walks.proofs.quick.onward.Reads as onward-reads
-use Rattle.walks.proofs.quick.packs.Reads as packs-reads
+use Rattle.walks.proofs.packs.packs.Reads as packs-reads
 use Rattle.walks.proofs.quick.run.Reads as run-reads
 use Rattle.walks.proofs.series_of.Reads as series-of-reads
 use Rattle.walks.proofs.smaller.Reads as smaller-reads

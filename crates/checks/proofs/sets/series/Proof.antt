@@ -12,7 +12,7 @@ use Rattle.checks.proofs.sets.series.Statement.{statement}
 use Rattle.checks.proofs.sets.series.Tie as tie
 use Rattle.checks.proofs.sets.series.Reads as reads
 use Rattle.checks.proofs.sets.series.Lts as lts
-use Rattle.walks.proofs.quick.packs.Reads as packs-reads
+use Rattle.walks.proofs.packs.packs.Reads as packs-reads
 use Rattle.checks.proofs.sets.after_series.Reads as after-series-reads
 use Rattle.checks.proofs.sets.head_at.Reads as head-at-reads
 use Rattle.checks.proofs.sets.is_series_next.Reads as is-series-next-reads

@@ -31,7 +31,7 @@ use Rattle.heads.proofs.records.is_mark.Reads as is-mark-reads
 use Rattle.coding.proofs.widths.oid_width.Reads as oid-width-reads
 use Rattle.records.proofs.quick.passed.Reads as passed-reads
 use Rattle.records.proofs.quick.run.Reads as run-reads
-use Rattle.walks.proofs.either.Reads as either-reads
+use Rattle.coding.proofs.either.Reads as either-reads
 
 abbrev Inv-loop : tie.InvT-loop
 Inv-loop glances s alone p₀ rows₀ normal₀ top₀ low₀ p rows normal top low = TargetsGoing (formOf alone) s p (sizes p rows normal 0) top low × (p < length s → is TG (drop p s) ≡ true) × (p ≡ 0 → low ≡ 18446744073709551615) × (0 < p → low ≤ top) × (top ≤ 16383)

@@ -40,17 +40,14 @@ stands-requires c κs = search needs
 returns : tie.Need-returns Inv-loop μ-loop
 returns c = rw (c .stands .ensures, c .before .nothing .ensures) (level-start _ _ _, refl)
 
-mul-t15 : tie.Need-mul-t15 Inv-loop μ-loop
-mul-t15 c = let i = c .before .before .before .loop .inv .0 (omega (arith, c .if2 .left)) in omega (arith, i .few .rows, i .to, c .before .before .before .before .before .before .before .before .pre .1)
-
-add-t18 : tie.Need-add-t18 Inv-loop μ-loop
-add-t18 c = let i = c .before .before .before .loop .inv .0 (omega (arith, c .if2 .left)) in omega (arith, i .few .rows, i .to, c .before .before .before .before .before .before .before .before .pre .1)
+told-sizes-requires : tie.Need-told-sizes-requires Inv-loop μ-loop
+told-sizes-requires c κs = let i = c .before .before .before .loop .inv .0 (omega (arith, c .if2 .left)) in omega (arith, i .few .rows, i .to, c .before .before .before .before .before .before .before .before .pre .1)
 
 stands-requires-2 : tie.Need-stands-requires-2 Inv-loop μ-loop
 stands-requires-2 c κs = search needs
 
 returns-2 : tie.Need-returns-2 Inv-loop μ-loop
-returns-2 c = rw (c .stands2 .ensures) (c .before .before .before .before .loop .inv .0 (omega (arith, c .before .if2 .left)), refl)
+returns-2 c = rw (c .stands2 .ensures, c .before .told-sizes .ensures) (c .before .before .before .before .before .loop .inv .0 (omega (arith, c .before .before .if2 .left)), refl)
 
 shared-slice-read-wide : tie.Need-shared-slice-read-wide Inv-loop μ-loop
 shared-slice-read-wide c = omega (arith, glanced-next (c .before .before .glance .ensures (omega (arith, c .before .if1 .left))))
@@ -93,8 +90,7 @@ run-spec =
     nothing-requires
     stands-requires
     returns
-    mul-t15
-    add-t18
+    told-sizes-requires
     stands-requires-2
     returns-2
     shared-slice-read-wide

@@ -32,7 +32,7 @@ fn some_alike(marks: &[u8], a: &[u8], b: &[u8]) -> bool
 // The first n of b beside those of a, as the marks ask; where fewer than 32 bytes are left to compare at once, the answer is no.
 pub fn are_alike(marks: &[u8], a: &[u8], b: &[u8], n: usize) -> bool
     requires { ⌜ (n + 31 ≤ length (now marks)) × (length (now b) ≤ length (now a)) ⌝ }
-    ensures { λ r. ⌜ (r ≡ true → AlikeTo (now (marks .entry)) (now (a .entry)) (now (b .entry)) n) ⌝ }
+    ensures { λ r. ⌜ (r ≡ true → AlikeTo (now (marks .entry)) (now (a .entry)) (now (b .entry)) n × (n ≤ length (now (b .entry)))) ⌝ }
 {
     let mut i: usize = 0;
     while i < n {

@@ -105,29 +105,39 @@ named l f tag n first z h q = rw (lt-ltb 0 tag z, le-leb tag 16383 (omega arith)
     neither true true z e g = sym e
     neither true false true e g = sym g
 
-pub glance-from : (b : Bool) (f : Form) (s : List ℕ) (p top : ℕ) → Bytes s
-    → {head word tag : ℕ} → head ≡ bytesNumber (take 4 (take (length s - p) (drop p s))) → word ≡ wordOf b → (tag + word) % 4294967296 ≡ head → top < tag → tag < 128
-    → {n : ℕ} → n ≡ bytesNumber (take 2 (take (length s - (p + 4)) (drop (p + 4) s))) → n < 128 → {next : ℕ} → next ≡ p + 6 + n → next ≤ length s
-    → Quick (levelOf b) f tag n (getD s (p + 6) 0) → Glanced b f s p top tag (next - (p + 6))
-glance-from b f s p top bytes {head} {word} {tag} eh ew et above th {n} en nh {next} ee room q =
+-- by its mark and its numbers
+pub glance-of : (b : Bool) (f : Form) (s : List ℕ) (p : ℕ) {top tag n : ℕ} → is (markOf (levelOf b)) (drop p s) ≡ true → tag ≡ bytesNumber (take 2 (drop 2 (drop p s))) → n ≡ bytesNumber (take 2 (drop 4 (drop p s)))
+    → p + 6 + n ≤ length s → top < tag → tag < 128 → n < 128 → Quick (levelOf b) f tag n (getD s (p + 6) 0) → Glanced b f s p top tag n
+glance-of b f s p {tag = tag} {n = n} mark is-tag is-size room above th nh q =
     let u : List ℕ = drop p s in
     let long : 6 + n ≤ length u = rw length-drop (omega arith) in
-    let e : bytesNumber (take 4 u) ≡ wordOf b + tag = sym (rw tail-part at eh) ∙ omega (arith, ew, word-small b, et) in
-    let (mark, is-tag) = head-is b u (omega arith) (bytes-drop p s bytes) e th in
-    let size : n ≡ bytesNumber (take 2 (take (length u - 4) (drop 4 u))) = rw (tail-part, drop-drop 4 p s) (rw tail-part at en) in
+    let size : n ≡ bytesNumber (take 2 (take (length u - 4) (drop 4 u))) = rw tail-part is-size in
     let tagged : tag ≡ bytesNumber (take 2 (take (length u - 2) (drop 2 u))) = rw tail-part is-tag in
     let at = a-field (levelOf b) u tag (6 + n) (val-whole u n size tag tagged long) (omega arith) (named (levelOf b) f tag n _ (omega arith) th q) in
     let z : 6 + n - 6 ≡ n = omega arith in
-    let y : next - (p + 6) ≡ n = omega arith in
-    rw y record {
+    record {
       mark = mark;
       tag-is = is-tag;
+      size-is = is-size;
       fields = rw z at at;
       quick = q;
       above = above;
       small = th;
       few = nh;
     }
+
+pub glance-from : (b : Bool) (f : Form) (s : List ℕ) (p top : ℕ) → Bytes s
+    → {head word tag : ℕ} → head ≡ bytesNumber (take 4 (take (length s - p) (drop p s))) → word ≡ wordOf b → (tag + word) % 4294967296 ≡ head → top < tag → tag < 128
+    → {n : ℕ} → n ≡ bytesNumber (take 2 (take (length s - (p + 4)) (drop (p + 4) s))) → n < 128 → {next : ℕ} → next ≡ p + 6 + n → next ≤ length s
+    → Quick (levelOf b) f tag n (getD s (p + 6) 0) → Glanced b f s p top tag (next - (p + 6))
+glance-from b f s p top bytes {head} {word} {tag} eh ew et above th {n} en nh {next} ee room q =
+    let u : List ℕ = drop p s in
+    let long : 4 ≤ length u = rw length-drop (omega arith) in
+    let e : bytesNumber (take 4 u) ≡ wordOf b + tag = sym (rw tail-part at eh) ∙ omega (arith, ew, word-small b, et) in
+    let (mark, is-tag) = head-is b u long (bytes-drop p s bytes) e th in
+    let size : n ≡ bytesNumber (take 2 (drop 4 u)) = rw (drop-drop 4 p s) (rw tail-part at en) in
+    let y : next - (p + 6) ≡ n = omega arith in
+    rw y (glance-of b f s p mark is-tag size (omega arith) above th nh q)
 
 -- the first may begin its level, and whatever comes later
 pub glance-begun : {b : Bool} {f : Form} {s : List ℕ} {p top tag n : ℕ} → Glanced b f s p top tag n → Begun b f 0 (bytesNumber (take 2 (drop 2 s))) → Begun b f p tag
@@ -137,7 +147,7 @@ glance-begun {b = b} {f = f} {p = suc p} {tag = tag} g h = begun-later b f (suc 
 -- ---- the turn
 
 module _ {b : Bool} {f : Form} {s : List ℕ} {p top tag n : ℕ} (g : Glanced b f s p top tag n) where
-  glance-room : p + 6 + n ≤ length s
+  pub glance-room : p + 6 + n ≤ length s
   glance-room = omega (arith, value-within (drop p s) (levelOf b) (g .fields) refl, length-drop p s, g .quick .some)
 
   abbrev value : List ℕ

@@ -4,7 +4,9 @@ pub mod Parts
 pub mod Runs
 pub mod PartTurns
 pub mod Glances
+pub mod Alikes
 pub mod TargetTurns
+pub mod Models
 pub mod SetTurns
 pub mod Sheeting
 pub mod Sizings

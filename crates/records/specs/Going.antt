@@ -40,6 +40,7 @@ wordOf false = 0x54490000
 pub record Glanced (b : Bool) (f : Form) (s : List ℕ) (p top tag n : ℕ) : Type 0 where
   pub mark : is (markOf (levelOf b)) (drop p s) ≡ true
   pub tag-is : tag ≡ bytesNumber (take 2 (drop 2 (drop p s)))
+  pub size-is : n ≡ bytesNumber (take 2 (drop 4 (drop p s)))
   pub fields : Whole tag n ≡ fieldAnswer (field (levelOf b) (drop 2 (drop p s)))
   pub quick : items.Quick (levelOf b) f tag n (getD s (p + 6) 0)
   pub above : top < tag

@@ -1,2 +1,3 @@
 pub mod Meet
 pub mod Going
+pub mod Targets

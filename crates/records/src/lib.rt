@@ -216,7 +216,7 @@ pub fn target_records(table: &[u32], glances: &[u32], s: &[u8], alone: bool) -> 
     requires { ⌜ (now table ≡ itemTable) × (length (now s) ≤ 65536) × (now glances ≡ glanceTable) ⌝ }
     ensures { λ r. ⌜ (r ≡ targetsWalk (formOf alone) (now (s .entry))) × Within r (length (now (s .entry))) ⌝ }
 {
-    let q = quick::targets(glances, s, alone);
+    let q = targets::targets(glances, s, alone);
     let mut p = q.at;
     let mut sum = q.sizes;
     let mut top = q.top;
@@ -290,4 +290,5 @@ pub enum Sheeted {
 }
 
 pub mod quick; // quick.rt: the quick way over a level, and over targets
+pub mod targets; // targets.rt: the quick way over the targets of a series
 pub mod whole; // whole.rt: the whole sheet

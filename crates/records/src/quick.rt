@@ -1,14 +1,12 @@
-// The quick way over a level's records: told at a glance, tags rising, from its start; and over the series' targets that hold no others.
-// What stops it is left to the walks.
+// The quick way over a level's records: told at a glance, tags rising, from its start. What stops it is left to the walks.
 ghost use mathlib.Core.Path.{_≡_};
-ghost use mathlib.Core.Bool.{false};
-ghost use Prim.Native.Nat.{_+_, _-_, _≤_, _<_};
+ghost use Prim.Native.Nat.{_+_, _*_, _-_, _≤_, _<_};
 ghost use lib.ListN.{length, take, drop};
 ghost use Rattle.format.specs.Coding.{bytesNumber};
 ghost use Rattle.items.specs.Meet.{formOf, glanceTable};
 ghost use Rattle.walks.specs.Meet.{sizes};
-ghost use Rattle.walks.specs.Going.{quickAt, Begun};
-ghost use Rattle.records.specs.Going.{RecordsGoing, TargetsPassed, Glanced, wordOf};
+ghost use Rattle.walks.specs.Going.{Begun};
+ghost use Rattle.records.specs.Going.{RecordsGoing, Glanced, wordOf};
 use walks::Sizes;
 use walks::quick::Quick;
 
@@ -73,6 +71,19 @@ pub fn glance_begun(glances: &[u32], s: &[u8], p: usize, set: bool, alone: bool,
     nothing()
 }
 
+// Of so many records told at a glance, in p bytes.
+pub fn told_sizes(count: usize, p: usize) -> Sizes
+    requires { ⌜ (4 * count ≤ p) × (p ≤ 65536) ⌝ }
+    ensures { λ r. ⌜ r ≡ sizes p count (p - 4 * count) 0 ⌝ }
+{
+    Sizes {
+        sheet: p,
+        rows: count,
+        normal: p - 4 * count,
+        inner: 0,
+    }
+}
+
 // The records of a level told at a glance, one after another; the first may begin it. That is asked once, by the caller, as the compiler would
 // split the loop by it.
 pub fn run(glances: &[u32], s: &[u8], set: bool, alone: bool) -> Quick
@@ -86,95 +97,11 @@ pub fn run(glances: &[u32], s: &[u8], set: bool, alone: bool) -> Quick
     loop {
         let g = glance(glances, s, p, set, alone, top);
         if g.next == 0 {
-            let sizes = Sizes {
-                sheet: p,
-                rows: count,
-                normal: p - 4 * count,
-                inner: 0,
-            };
-            return walks::quick::stands(p, sizes, mark, top, 0);
+            return walks::quick::stands(p, told_sizes(count, p), mark, top, 0);
         }
         mark = coding::either(mark, walks::is_mark(set, g.tag));
         top = g.tag;
         count += 1;
         p = g.next;
-    }
-}
-
-// ---- targets
-
-// Where the target walk goes on after targets of p bytes, so many rows, and so many bytes in a packet.
-pub fn passed(p: usize, rows: usize, normal: usize, top: u64, low: u64) -> Quick
-    ensures { λ r. ⌜ r ≡ quickAt p (sizes p rows normal 0) false top low ⌝ }
-{
-    let sizes = Sizes {
-        sheet: p,
-        rows,
-        normal,
-        inner: 0,
-    };
-    Quick {
-        at: p,
-        sizes,
-        mark: false,
-        top,
-        low,
-    }
-}
-
-// The targets whose ids have one or two bytes in a packet and rise or fall, whose records are all told at a glance, and whose packs have a
-// byte for their length, one after another, from the series' start.
-pub fn targets(glances: &[u32], s: &[u8], alone: bool) -> Quick
-    requires { ⌜ (now glances ≡ glanceTable) × (length (now s) ≤ 65536) ⌝ }
-    ensures { λ r. ⌜ TargetsPassed (formOf alone) (now (s .entry)) r ⌝ }
-{
-    let mut p: usize = 0;
-    let mut rows: usize = 0;
-    let mut normal: usize = 0;
-    let mut top: u64 = 0;
-    let mut low: u64 = 18446744073709551615;
-    if !heads::records::is_mark(s, p, b'T', b'G') {
-        return passed(p, rows, normal, top, low);
-    }
-    loop {
-        if s.len() - p < 10 {
-            return passed(p, rows, normal, top, low);
-        }
-        let id = coding::eight_of(&s[p + 2..]);
-        if 16383 < id {
-            return passed(p, rows, normal, top, low);
-        }
-        // an id above or below all before moves one bound, but for the first
-        if top < id {
-            top = id;
-            if p == 0 {
-                low = id;
-            }
-        } else {
-            if low <= id {
-                return passed(p, rows, normal, top, low);
-            }
-            low = id;
-        }
-        let from = p + 10;
-        let items = &s[from..];
-        let q = run(glances, items, false, alone);
-        // a target is over at the end, or where another begins
-        let next = from + q.at;
-        if next < s.len() {
-            if !heads::records::is_mark(s, next, b'T', b'G') {
-                return passed(p, rows, normal, top, low);
-            }
-        }
-        if !coding::either(!alone, q.mark) {
-            return passed(p, rows, normal, top, low);
-        }
-        let body = coding::widths::oid_width(id) + q.sizes.normal;
-        if 127 < body {
-            return passed(p, rows, normal, top, low);
-        }
-        rows = rows + 1 + q.sizes.rows;
-        normal = normal + 1 + body;
-        p = next;
     }
 }

@@ -13,6 +13,7 @@ ghost use Rattle.records.specs.Meet.{recordsWalk, sheetedOf, partsFault}
 ghost use Rattle.records.specs.Going.{RecordsGoing};
 use super::Sheeted;
 use super::quick;
+use super::targets;
 use walks::Walked;
 use walks::quick::Quick;
 
@@ -35,7 +36,7 @@ fn series(glances: &[u32], s: &[u8], alone: bool, q: Quick) -> Quick
         return q;
     }
     let t = &s[p + 2..];
-    let w = quick::targets(glances, t, alone);
+    let w = targets::targets(glances, t, alone);
     if w.at == 0 {
         return q;
     }
@@ -62,7 +63,7 @@ fn glanced(glances: &[u32], s: &[u8], alone: bool) -> Quick
     ensures { λ r. ⌜ RecordsGoing true (formOf alone) (now (s .entry)) (r .at) (r .sizes) (r .mark) (r .top) (r .low) ⌝ }
 {
     if !starts(s, alone) {
-        return quick::passed(0, 0, 0, 0, 0);
+        return targets::passed(0, 0, 0, 0, 0);
     }
     series(glances, s, alone, quick::run(glances, s, true, alone))
 }

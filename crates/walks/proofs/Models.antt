@@ -60,7 +60,7 @@ as-model {marks = marks} {s = s} {m = m} l from next ordered room few bytes (e, 
     (rw e (alike-as (drop (m .from) s) (take (next - from) (drop from s)) (λ i g. refl) (λ i g. sym (getD-take (next - from) (drop from s) i 0 g)) h))
 
 -- none, as the code says it
-pub no-items : {alone : Bool} {marks s : List ℕ} {m : Model} → (m .from ≡ 0) × (m .size ≡ 128) → length marks ≡ 160 → Modelled alone marks s m
+pub no-items : {alone : Bool} {marks s : List ℕ} {m : Model} → (m .from ≡ 0) × (m .size ≡ 128) × (m .rows ≡ 0) → length marks ≡ 160 → Modelled alone marks s m
 no-items n long = record { long = long; within = omega (arith, n .0); told = λ h. absurd (omega (arith, h, n .1)) }
 
 -- items that the quick way goes over to their end

@@ -22,9 +22,9 @@ pub struct Model {
     pub rows: usize,
 }
 
-// No pack has so many bytes of items.
-fn no_model() -> Model
-    ensures { λ r. ⌜ (r .from ≡ 0) × (r .size ≡ 128) ⌝ }
+// No pack has so many bytes of items, or so few rows.
+pub fn no_model() -> Model
+    ensures { λ r. ⌜ (r .from ≡ 0) × (r .size ≡ 128) × (r .rows ≡ 0) ⌝ }
 {
     Model {
         from: 0,

@@ -36,7 +36,7 @@ use Rattle.heads.proofs.records.is_mark.Reads as is-mark-reads
 use Rattle.records.proofs.goes_on.Reads as goes-on-reads
 use Rattle.records.proofs.higher.Reads as higher-reads
 use Rattle.records.proofs.quick.run.Reads as run-reads
-use Rattle.records.proofs.quick.targets.Reads as targets-reads
+use Rattle.records.proofs.targets.targets.Reads as targets-reads
 use Rattle.walks.proofs.later.Reads as later-reads
 use Rattle.records.proofs.part_at.Reads as part-at-reads
 use Rattle.walks.proofs.series_of.Reads as series-of-reads

@@ -74,7 +74,7 @@ loop-again c =
     (omega arith, omega arith, alike-on (c .before .before .before .before .before .before .before .loop .inv .2) (rw (tail-part _ m, tail-part _ a, tail-part _ b) at (c .before .some-alike .ensures (not-false _ (c .if2 .left)))))
 
 returns-3 : tie.Need-returns-3 Inv-loop μ-loop
-returns-3 c = λ _. alike-less (c .before .loop .inv .2) (omega arith)
+returns-3 c = λ _. (alike-less (c .before .loop .inv .2) (omega arith), omega (arith, c .before .loop .inv .0))
 
 pub are-alike-spec : {M : Type 1} → statement M
 are-alike-spec =

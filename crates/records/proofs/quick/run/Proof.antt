@@ -23,17 +23,14 @@ loop-holds c = (records-start _ _ _, omega arith)
 glance-requires : tie.Need-glance-requires Inv-loop μ-loop
 glance-requires c κs = (c .before .before .before .pre .0, c .before .before .before .pre .1, c .loop .inv .0 .to)
 
-mul-t12 : tie.Need-mul-t12 Inv-loop μ-loop
-mul-t12 c = omega (arith, c .before .before .before .loop .inv .1, c .before .before .before .loop .inv .0 .to, c .before .before .before .before .before .before .pre .1)
-
-sub-t13 : tie.Need-sub-t13 Inv-loop μ-loop
-sub-t13 c = omega (arith, c .before .before .before .loop .inv .1)
+told-sizes-requires : tie.Need-told-sizes-requires Inv-loop μ-loop
+told-sizes-requires c κs = let l = c .before .before .before .loop in (l .inv .1, omega (arith, l .inv .0 .to, c .before .before .before .before .before .before .pre .1))
 
 stands-requires : tie.Need-stands-requires Inv-loop μ-loop
 stands-requires c κs = search needs
 
 returns : tie.Need-returns Inv-loop μ-loop
-returns c = rw (c .stands .ensures) (c .before .before .before .before .loop .inv .0, refl)
+returns c = rw (c .stands .ensures, c .before .told-sizes .ensures) (c .before .before .before .before .before .loop .inv .0, refl)
 
 is-mark-requires : tie.Need-is-mark-requires Inv-loop μ-loop
 is-mark-requires c κs = search needs
@@ -61,8 +58,7 @@ run-spec =
     μ-loop
     loop-holds
     glance-requires
-    mul-t12
-    sub-t13
+    told-sizes-requires
     stands-requires
     returns
     is-mark-requires

@@ -36,7 +36,7 @@ are-alike-requires c κs = search needs
 returns-2 : tie.Need-returns-2
 returns-2 c =
     let a = c .before .before .before .before .before .before .before .args in
-    λ e. (omega (arith, c .before .before .before .if1 .left), rw (tail-part (a .m .from) (a .s .now), tail-part (a .from) (a .s .now)) at (c .are-alike .ensures e))
+    λ e. (omega (arith, c .before .before .before .if1 .left), rw (tail-part (a .m .from) (a .s .now), tail-part (a .from) (a .s .now)) at (c .are-alike .ensures e .0))
 
 pub is-as-spec : {M : Type 1} → statement M
 is-as-spec =

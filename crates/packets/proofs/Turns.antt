@@ -3,9 +3,9 @@ use mathlib.Core.Path.{_≡_, refl, sym, ap, _∙_}
 use Prim.Native.Nat.{ℕ, _+_, _-_, _≤_, _<_}
 use native.Mathlib.Omega.{arith}
 use mathlib.Core.Bool.{Bool, true, false}
-use mathlib.Core.List.{List, _++_}
+use mathlib.Core.List.{List, [], _∷_, _++_}
 use lib.ListN.{length, take, drop, getD, length-append, length-drop}
-use lib.Seq.{sets, drop-drop, length-take-le}
+use lib.Seq.{sets, drop-cons, drop-drop, length-take-le}
 use borrow.Rule.Slice.PartMut.{putMid}
 use Rattle.format.specs.Answer.{ok}
 use Rattle.format.specs.Coding.{Bytes, bytesNumber}
@@ -161,6 +161,25 @@ module _ {inner : ℕ} {b : Bool} {f : Form} {s out₀ out : List ℕ} {p k : �
 
       pub small-more : {k′ : ℕ} {out′ : List ℕ} → Puts out k (coded tag-small size-small) k′ out′ → RecordsWriting inner b f s out₀ out′ (p + 6 + n) k′
       small-more = item-more tag-small size-small
+
+      -- and the value has one too
+      module _ (o : n ≡ 1) where
+        value-one : value tag-small size-small ≡ getD s (p + 6) 0 ∷ []
+        value-one =
+            let w : p + 6 + n - (p + 6) ≡ 1 = omega (arith, o) in
+            let h : p + 6 < length s = omega (arith, small-room, o) in
+            rw (w, drop-cons s (p + 6) 0)
+
+        abbrev coded-one : List ℕ
+        coded-one = flatItem (itemOf (record { tag = getD s (p + 3) 0; value = getD s (p + 6) 0 ∷ [] }))
+
+        pub one-asked : (getD s (p + 3) 0 < 128) × (k + length coded-one ≤ length out)
+        one-asked = (m .tag-low, rw value-one at (small-asked .2))
+
+        pub one-more : {k′ : ℕ} {out′ : List ℕ} → Puts out k coded-one k′ out′ → RecordsWriting inner b f s out₀ out′ (p + 7) k′
+        one-more q =
+            let next : p + 7 ≡ p + 6 + n = omega (arith, o) in
+            rw next (small-more (rw value-one q))
 
   -- ---- the series
 

@@ -2,7 +2,7 @@
 ghost use mathlib.Core.Path.{_≡_};
 ghost use Prim.Native.Nat.{ℕ, _+_, _^_, _≤_, _<_};
 ghost use mathlib.Core.Bool.{true, false};
-ghost use mathlib.Core.List.{List};
+ghost use mathlib.Core.List.{List, [], _∷_};
 ghost use lib.ListN.{length, take, drop};
 ghost use lib.Seq.{sets};
 ghost use Rattle.items.specs.Meet.{formOf, levelOf};
@@ -48,6 +48,17 @@ fn put_small(out: &mut [u8], at: usize, tag: u8, v: &[u8]) -> usize
     stores::copy(out, a + 1, v)
 }
 
+// The item of such a record whose value has one byte, as most have: where it ends is told without waiting for the length.
+fn put_one(out: &mut [u8], at: usize, tag: u8, v: u8) -> usize
+    requires { ⌜ (tag < 128) × (at + length (flatItem (itemOf (record { tag = tag; value = v ∷ [] }))) ≤ length (now out)) ⌝ }
+    ensures { λ r. ⌜ (r ≡ at + length (flatItem (itemOf (record { tag = tag; value = v ∷ [] })))) × (now (out .exit) ≡ sets (now (out .entry)) at (flatItem (itemOf (record { tag = tag; value = v ∷ [] })))) ⌝ }
+{
+    out[at] = tag;
+    out[at + 1] = 1;
+    out[at + 2] = v;
+    at + 3
+}
+
 // The records of a target from a place on, where at bytes are written for those before it.
 fn rest_vals(s: &[u8], from: usize, at: usize, alone: bool, out: &mut [u8]) -> Passed
     requires { ⌜ RecordsAsked 0 false (formOf alone) (now s) (length (now out)) × ((o : List ℕ) × RecordsWriting 0 false (formOf alone) (now s) o (now out) from at) ⌝ }
@@ -82,9 +93,14 @@ fn put_vals(s: &[u8], alone: bool, out: &mut [u8]) -> Passed
             return rest_vals(s, p, k, alone, out);
         }
         let n = coding::wide(s[p + 5]);
-        let next = p + 6 + n as usize;
-        k = put_small(out, k, s[p + 3], &s[p + 6..next]);
-        p = next;
+        if n == 1 {
+            k = put_one(out, k, s[p + 3], s[p + 6]);
+            p = p + 7;
+        } else {
+            let next = p + 6 + n as usize;
+            k = put_small(out, k, s[p + 3], &s[p + 6..next]);
+            p = next;
+        }
     }
 }
 

@@ -5,14 +5,13 @@ use native.Mathlib.Omega.{arith}
 use lib.ListN.{length, length-set}
 use lib.Seq.{length-sets}
 use borrow.Author.Needs.{needs}
-use Rattle.coding.proofs.Counts.{len-one}
-use Rattle.stores.proofs.Codings.{short-length, short-oid, short-total, short-stored}
+use Rattle.packets.proofs.Smalls.{small-long, small-stored}
 use Rattle.packets.proofs.put_small.Statement.{statement}
 use Rattle.packets.proofs.put_small.Tie as tie
 
 -- two bytes and the value
 room : (a : tie.Start) → a .args .at + 2 + length (a .args .v .now) ≤ length (a .args .out .now)
-room a = omega (arith, a .pre .2, short-total (a .args .tag) (a .args .v .now), short-oid (a .args .tag) (a .args .out .now) (a .args .at) (a .pre .0) .0, len-one (length (a .args .v .now)) (a .pre .1))
+room a = omega (arith, a .pre .2, small-long (a .args .tag) (a .args .v .now) (a .pre .0) (a .pre .1))
 
 slice-write-out : tie.Need-slice-write-out
 slice-write-out c = omega (arith, room (c .before .before))
@@ -38,7 +37,7 @@ same-length c = ap length (c .before .before .copy .ensures .1) ∙ simp (length
 returns : tie.Need-returns
 returns c =
     let a = c .before .before .before .before .before .before in
-    short-stored (a .args .tag) (a .args .v .now) (a .args .out .now) (a .args .at) (short-oid _ _ _ (a .pre .0)) (short-length _ _ _ (a .pre .1)) (c .before .before .copy .ensures)
+    small-stored (a .args .tag) (a .args .v .now) (a .pre .0) (a .pre .1) (a .args .out .now) (a .args .at) (omega arith) (c .before .before .copy .ensures)
 
 pub put-small-spec : {M : Type 1} → statement M
 put-small-spec = tie.close (tie.spec slice-write-out add-a cast-out slice-write-out-2 add-copy copy-requires same-length returns)

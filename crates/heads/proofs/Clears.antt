@@ -38,6 +38,21 @@ module _ (look : List ℕ → Got ℕ) where
       let b : v + (q - v) ≡ q = omega arith in
       omega (arith, heads-on js ks (drop v s) (p - v) (q - v) k u (rw a at h) (rw (drop-drop (q - v) v s, b) n) g (omega arith))
 
+  -- so what holds of each key before q and those before it, and of the key at q, holds up to where that ends
+  pub each-on : (Q : ℕ → List ℕ → Type 0) (s js : List ℕ) (q k u : ℕ) → Heads look s q js → Peeked look (drop q s) k u
+      → ((p : ℕ) → p < q → (ks : List ℕ) → Heads look s p ks → Q (look (drop p s) .val) ks) → Q k js
+      → (p : ℕ) → p < q + u → (ks : List ℕ) → Heads look s p ks → Q (look (drop p s) .val) ks
+  each-on Q s js q k u h n below here p l ks g = go (ltb p q) refl (eqb p q) refl
+    where
+      go : (a : Bool) → ltb p q ≡ a → (b : Bool) → eqb p q ≡ b → Q (look (drop p s) .val) ks
+      go true a b e = below p (ltb-true _ _ a) ks g
+      go false a true e = let t : p ≡ q = eqb-true _ _ e in rw (t, ← n .0, heads-same ks js s q (rw t at g) h) here
+      go false a false e =
+          let o : q ≤ p = ltb-false p q a in
+          let t : p ≡ q → ⊥ = eqb-false _ _ e in
+          let w : q < p = omega arith in
+          absurd (omega (arith, heads-on js ks s p q k u h n g w))
+
 -- no key of the part repeats before q, and what of it stood there is marked
 pub record Clearing (part : ℕ) (look : List ℕ → Got ℕ) (s marks : List ℕ) (q : ℕ) : Type 0 where
   pub within : q ≤ length s
@@ -51,52 +66,34 @@ pub clearing-start : (part : ℕ) (look : List ℕ → Got ℕ) (s marks : List 
 unfolding has
 clearing-start part look s marks l = record { within = omega arith; long = l; keys = []; heads = refl; kept = λ k z e. no-bool e; clear = λ p h ks g. absurd (omega arith) }
 
-pub not-marked : (marks ks : List ℕ) (key : ℕ) → (has key ks ≡ true → marked marks key ≡ true) → marked marks key ≡ false → has key ks ≡ false
-not-marked marks ks key m e = go (has key ks) refl
-  where
-    go : (b : Bool) → has key ks ≡ b → has key ks ≡ false
-    go false t = t
-    go true t = no-bool (sym (sym (m t) ∙ e))
+-- what is not so, where it would make another so that is not
+pub not-then : (a b : Bool) → (a ≡ true → b ≡ true) → b ≡ false → a ≡ false
+not-then true b h e = no-bool (sym e ∙ h refl)
+not-then false b h e = refl
 
-got-is : (x : Got ℕ) (k u : ℕ) → k ≡ x .val → u ≡ x .used → x ≡ got k u
+pub got-is : (x : Got ℕ) (k u : ℕ) → k ≡ x .val → u ≡ x .used → x ≡ got k u
 got-is x k u a b = rw (a, b)
 
-module _ (part : ℕ) (look : List ℕ → Got ℕ) (s marks : List ℕ) (q : ℕ) (c : Clearing part look s marks q) where
-  pub clearing-kept : (ks : List ℕ) → Heads look s q ks → (k : ℕ) → quarter k ≡ part → has k ks ≡ true → marked marks k ≡ true
-  clearing-kept ks h k z e = c .kept k z (ap (has k) (heads-same look (c .keys) ks s q (c .heads) h) ∙ e)
+-- as the code reads what is next
+module _ (part : ℕ) (look : List ℕ → Got ℕ) (s marks : List ℕ) (q : ℕ) (c : Clearing part look s marks q) (room : Looks look) (k u : ℕ)
+    (n : Peeked look (take (length s - q) (drop q s)) k u) (z : 0 < u) (new : quarter k ≡ part → marked marks k ≡ false) where
+  next : Peeked look (drop q s) k u
+  next = rw tail-part at n
 
-  -- as the code reads what is next
-  module _ (room : Looks look) (k u : ℕ) (n : Peeked look (take (length s - q) (drop q s)) k u) (z : 0 < u)
-      (new : (ks : List ℕ) → Heads look s q ks → quarter k ≡ part → has k ks ≡ false) where
-    next : Peeked look (drop q s) k u
-    next = rw tail-part at n
-
-    clear-on : ClearIn part look s (q + u)
-    clear-on p h ks g w = go (ltb p q) refl (eqb p q) refl
-      where
-        go : (a : Bool) → ltb p q ≡ a → (b : Bool) → eqb p q ≡ b → has (look (drop p s) .val) ks ≡ false
-        go true a b e = c .clear p (ltb-true _ _ a) ks g w
-        go false a true e = let t : p ≡ q = eqb-true _ _ e in rw (t, ← next .0) (new ks (rw t at g) (rw (t, ← next .0) at w))
-        go false a false e =
-            let o : q ≤ p = ltb-false p q a in
-            let t : p ≡ q → ⊥ = eqb-false _ _ e in
-            let l : q < p = omega arith in
-            absurd (omega (arith, heads-on look (c .keys) ks s p q k u (c .heads) next g l))
-
-    pub clearing-more : (after : List ℕ) → Marked marks after k part → Clearing part look s after (q + u)
-    unfolding has
-    clearing-more after m = record {
-      within = omega (arith, c .within, room (drop q s), next .1, length-drop q s);
-      long = m .long ∙ c .long;
-      keys = c .keys ++ k ∷ [];
-      heads = heads-more look (c .keys) s q k u (c .heads) (got-is _ _ _ (next .0) (next .1)) z;
-      kept = λ j w e. go j w (eqb k j) refl (sym (has-snoc j k (c .keys)) ∙ e);
-      clear = clear-on;
-    }
-      where
-        go : (j : ℕ) → quarter j ≡ part → (b : Bool) → eqb k j ≡ b → eqb k j || has j (c .keys) ≡ true → marked after j ≡ true
-        go j w true t e = let y : k ≡ j = eqb-true k j t in rw (← y) (m .new (rw (← y) at w))
-        go j w false t e = m .kept j (c .kept j w (rw t at e))
+  pub clearing-more : (after : List ℕ) → Marked marks after k part → Clearing part look s after (q + u)
+  unfolding has
+  clearing-more after m = record {
+    within = omega (arith, c .within, room (drop q s), next .1, length-drop q s);
+    long = m .long ∙ c .long;
+    keys = c .keys ++ k ∷ [];
+    heads = heads-more look (c .keys) s q k u (c .heads) (got-is _ _ _ (next .0) (next .1)) z;
+    kept = λ j w e. go j w (eqb k j) refl (sym (has-snoc j k (c .keys)) ∙ e);
+    clear = each-on look (λ j js. quarter j ≡ part → has j js ≡ false) s (c .keys) q k u (c .heads) next (c .clear) λ w. not-then (has k (c .keys)) (marked marks k) (c .kept k w) (new w);
+  }
+    where
+      go : (j : ℕ) → quarter j ≡ part → (b : Bool) → eqb k j ≡ b → eqb k j || has j (c .keys) ≡ true → marked after j ≡ true
+      go j w true t e = let y : k ≡ j = eqb-true k j t in rw (← y) (m .new (rw (← y) at w))
+      go j w false t e = m .kept j (c .kept j w (rw t at e))
 
 -- no key of the first parts repeats before r
 abbrev pub ClearBelow : ℕ → (List ℕ → Got ℕ) → List ℕ → ℕ → Type 0

@@ -5,3 +5,4 @@ pub mod SheetRuns
 pub mod Before
 pub mod Marks
 pub mod Clears
+pub mod Gathers

@@ -1,3 +1,4 @@
 pub mod Records
 pub mod Meet
 pub mod Marks
+pub mod Blocks

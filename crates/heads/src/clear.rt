@@ -1,11 +1,9 @@
 // How far no key of a level repeats, told by four passes: so that keys that neither rise nor fall are not looked back for one by one.
 ghost use mathlib.Core.Path.{_≡_};
-ghost use Prim.Native.Nat.{ℕ, _≤_};
-ghost use mathlib.Core.Bool.{true, false};
-ghost use mathlib.Core.List.{List};
+ghost use Prim.Native.Nat.{_≤_};
+ghost use mathlib.Core.Bool.{false};
 ghost use lib.ListN.{length};
-ghost use Rattle.format.specs.Lists.{has};
-ghost use Rattle.heads.specs.Meet.{peek, Heads, Clear};
+ghost use Rattle.heads.specs.Meet.{peek, Clear};
 ghost use Rattle.heads.specs.Marks.{quarter, marked, Marked, ClearIn};
 
 // A bit for each key of a quarter, modulo 4,096: every tag has its own. A quarter at a time, as the bits stand on the stack.
@@ -28,30 +26,14 @@ fn mark(marks: &mut [u64; 64], key: u64, part: u64)
     marks[i] = w | 1 << key % 64;
 }
 
-// Whether a key of the part may have stood before q, where what stood there is marked: a tag whose bit is set, an id that is found there.
-fn may_stand(
-    s: &[u8],
-    q: usize,
-    key: u64,
-    part: u64,
-    marks: &[u64; 64],
-    sheet: bool,
-    ids: bool,
-    set: bool,
-) -> bool
-    requires { ⌜ (q ≤ length (now s)) × ((ks : List ℕ) → Heads (peek sheet ids set) (now s) q ks → (k : ℕ) → quarter k ≡ part → has k ks ≡ true → marked (now marks) k ≡ true) ⌝ }
-    ensures { λ r. ⌜ (r ≡ false → (ks : List ℕ) → Heads (peek sheet ids set) (now (s .entry)) q ks → quarter key ≡ part → has key ks ≡ false) ⌝ }
+// Whether a key of the part may have stood before, where what stood there is marked: its bit is set.
+fn may_stand(key: u64, part: u64, marks: &[u64; 64]) -> bool
+    ensures { λ r. ⌜ (r ≡ false → quarter key ≡ part → marked (now (marks .entry)) key ≡ false) ⌝ }
 {
     if key / 4096 % 4 != part {
         return false;
     }
-    if is_marked(marks, key) {
-        if ids {
-            return super::seen_before(s, q, key, sheet, ids, set);
-        }
-        return true;
-    }
-    false
+    is_marked(marks, key)
 }
 
 // Whether a record of another level stands at q of a sheet, so that a pass may stop.
@@ -81,7 +63,7 @@ fn part_clear(s: &[u8], part: u64, sheet: bool, ids: bool, set: bool) -> usize
         if n.used == 0 {
             return q;
         }
-        if may_stand(s, q, n.key, part, &marks, sheet, ids, set) {
+        if may_stand(n.key, part, &marks) {
             return q;
         }
         mark(&mut marks, n.key, part);
@@ -105,6 +87,14 @@ fn clear_to(s: &[u8], sheet: bool, ids: bool, set: bool) -> usize
     while part < 4 {
         r = least(r, part_clear(s, part, sheet, ids, set));
         part += 1;
+    }
+    // ids share bits, so where the passes stopped at one it may still be new
+    if ids {
+        if r < s.len() {
+            if !is_other(s, r, sheet, ids, set) {
+                return super::blocks::clear_to(s, sheet, set);
+            }
+        }
     }
     r
 }

@@ -267,3 +267,4 @@ pub fn is_seen(
 
 pub mod records; // records.rt: what heads the records of a sheet
 pub mod clear; // clear.rt: how far no key repeats
+mod blocks; // blocks.rt: ids told apart in blocks of 64

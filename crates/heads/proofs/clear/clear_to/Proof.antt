@@ -1,4 +1,4 @@
--- `clear::clear_to` meets its contract: as far as each part tells.
+-- `clear::clear_to` meets its contract: as far as each part tells, or as the blocks do.
 use Prim.Native.Nat.{_-_}
 use native.Mathlib.Omega.{arith}
 use borrow.Author.Needs.{needs}
@@ -31,8 +31,23 @@ loop-less c = search needs
 loop-again : tie.Need-loop-again Inv-loop μ-loop
 loop-again c = below-more _ _ _ _ (c .before .before .before .loop .inv) _ _ (c .before .part-clear .ensures) (c .least .ensures)
 
+is-other-requires : tie.Need-is-other-requires Inv-loop μ-loop
+is-other-requires c κs = search needs
+
+clear-to-requires : tie.Need-clear-to-requires Inv-loop μ-loop
+clear-to-requires c κs = search needs
+
 returns : tie.Need-returns Inv-loop μ-loop
-returns c = below-all _ _ _ _ (c .before .loop .inv) (c .loop-test .left)
+returns c = rw (c .before .before .before .before .if1 .taken) (c .clear-to .ensures)
+
+returns-2 : tie.Need-returns-2 Inv-loop μ-loop
+returns-2 c = let l = c .before .before .before .before in below-all _ _ _ _ (l .before .loop .inv) (l .loop-test .left)
+
+returns-3 : tie.Need-returns-3 Inv-loop μ-loop
+returns-3 c = let l = c .before .before in below-all _ _ _ _ (l .before .loop .inv) (l .loop-test .left)
+
+returns-4 : tie.Need-returns-4 Inv-loop μ-loop
+returns-4 c = let l = c .before in below-all _ _ _ _ (l .before .loop .inv) (l .loop-test .left)
 
 pub clear-to-spec : {M : Type 1} → statement M
 clear-to-spec =
@@ -46,4 +61,9 @@ clear-to-spec =
     add-part
     loop-less
     loop-again
-    returns)
+    is-other-requires
+    clear-to-requires
+    returns
+    returns-2
+    returns-3
+    returns-4)

@@ -6,7 +6,7 @@ use native.Mathlib.Omega.{arith}
 use borrow.Author.Needs.{needs}
 use Rattle.heads.specs.Meet.{peek}
 use Rattle.heads.proofs.Before.{peek-room}
-use Rattle.heads.proofs.Clears.{Clearing, clearing-start, clearing-kept, clearing-more}
+use Rattle.heads.proofs.Clears.{Clearing, clearing-start, clearing-more}
 use Rattle.heads.proofs.clear.part_clear.Statement.{statement}
 use Rattle.heads.proofs.clear.part_clear.Tie as tie
 
@@ -41,7 +41,7 @@ returns-2 : tie.Need-returns-2 Inv-loop μ-loop
 returns-2 c = c .before .before .before .before .before .before .before .loop .inv .clear
 
 may-stand-requires : tie.Need-may-stand-requires Inv-loop μ-loop
-may-stand-requires c κs = let i = c .before .before .before .before .before .before .before .before .loop .inv in (i .within, clearing-kept _ _ _ _ _ i)
+may-stand-requires c κs = search needs
 
 returns-3 : tie.Need-returns-3 Inv-loop μ-loop
 returns-3 c = c .before .before .before .before .before .before .before .before .before .before .loop .inv .clear

@@ -1,17 +1,11 @@
 // Ids told apart in blocks of 64, where their bits are not enough: what stands before a block is gone over once for all of it.
 ghost use mathlib.Core.Path.{_≡_};
 ghost use Prim.Native.Nat.{_≤_};
-ghost use mathlib.Core.Bool.{true, false, _||_};
+ghost use mathlib.Core.Bool.{true, false};
 ghost use lib.ListN.{length};
 ghost use Rattle.format.specs.Lists.{has};
 ghost use Rattle.heads.specs.Meet.{peek, Clear};
 ghost use Rattle.heads.specs.Blocks.{Gathered, Missed};
-
-fn either(a: bool, b: bool) -> bool
-    ensures { λ r. ⌜ r ≡ (a || b) ⌝ }
-{
-    if a { true } else { b }
-}
 
 // Whether the block has the key. One that is found does not end the loop, so that the compiler compares many at once.
 fn is_among(block: &[u64; 64], key: u64) -> bool
@@ -21,7 +15,7 @@ fn is_among(block: &[u64; 64], key: u64) -> bool
     let mut found = false;
     let mut i: usize = 0;
     while i < 64 {
-        found = either(found, block[i] == key);
+        found = coding::either(found, block[i] == key);
         i += 1;
     }
     found

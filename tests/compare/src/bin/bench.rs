@@ -98,9 +98,10 @@ fn time(mut call: impl FnMut()) -> f64 {
     least.as_nanos() as f64 / f64::from(times)
 }
 
-/// The named packets, and two whose tags and ids stand so that a look back
-/// for a repeated one is the longest: each after the second is between the
-/// least and the greatest so far.
+/// The named packets; two whose tags and ids stand so that a look back for a
+/// repeated one is the longest: each after the second is between the least
+/// and the greatest so far; and targets of which none is laid out as the one
+/// before, though as long.
 fn packets() -> Vec<(String, Form, Vec<u8>)> {
     let all = named().into_iter().map(|named| (named.name.to_string(), named.form, named.packet));
     let tags = between(&(16_384 - 2_048..16_384u16).collect::<Vec<_>>());
@@ -108,7 +109,12 @@ fn packets() -> Vec<(String, Form, Vec<u8>)> {
     let items = tags.iter().map(|&tag| Node::item(tag, &[1])).collect();
     let bare = |&id: &u64| Node::Pack { width: 0, id, items: Vec::new() };
     let packs = between(&(0..ids).collect::<Vec<_>>()).iter().map(bare).collect();
-    let worst = [("tags-between", items), ("ids-between", vec![Node::Series { width: 0, packs }])];
+    let turns = (1..=290u64).map(|id| Node::Pack { width: 0, id, items: turned(id) }).collect();
+    let worst = [
+        ("tags-between", items),
+        ("ids-between", vec![Node::Series { width: 0, packs }]),
+        ("targets-in-turn", vec![Node::item(5, &[2]), Node::Series { width: 0, packs: turns }]),
+    ];
     let embedded = |(name, set): (&str, Vec<Node>)| {
         let mut tree = Tree::new(Form::Embedded);
         tree.set = set;
@@ -117,9 +123,16 @@ fn packets() -> Vec<(String, Form, Vec<u8>)> {
     all.chain(worst.map(embedded)).collect()
 }
 
+/// Items of as many bytes for each target, with another tag by turns.
+fn turned(id: u64) -> Vec<Node> {
+    let tags = if id % 2 == 0 { [4, 5, 6, 19, 20] } else { [4, 6, 7, 19, 20] };
+    tags.map(|tag| Node::item(tag, &[1 + (id % 9) as u8])).into()
+}
+
 /// Sheets of as many items or targets as fit, from the greatest tag or id to
-/// the least, and between as above, the last with ids alike in their low 14
-/// bits. What they say fits in no packet.
+/// the least, and between as above, the last two with ids alike in their low
+/// 14 bits, of targets that hold nothing and one item each. What they say
+/// fits in no packet.
 fn sheets() -> Vec<(String, Vec<u8>)> {
     let tags: Vec<u64> = (0..((SHEET_LIMIT - 3) / 7) as u64).map(|n| 16_383 - n).collect();
     let ids: Vec<u64> = (0..((SHEET_LIMIT - 5) / 10) as u64).rev().collect();
@@ -129,12 +142,15 @@ fn sheets() -> Vec<(String, Vec<u8>)> {
     let items = |tags: &[u64]| sheet(b"PK\0", tags.iter().map(item).collect());
     let targets = |ids: &[u64]| sheet(b"PK\0TS", ids.iter().map(target).collect());
     let alike: Vec<u64> = ids.iter().map(|id| id << 14).collect();
+    let held = |id: &u64| [&target(id)[..], b"TI\0\x04\0\x01\x02"].concat();
+    let fewer = &between(&alike)[..(SHEET_LIMIT - 5) / 17];
     vec![
         ("sheet-tags-falling".into(), items(&tags)),
         ("sheet-ids-falling".into(), targets(&ids)),
         ("sheet-tags-between".into(), items(&between(&tags))),
         ("sheet-ids-between".into(), targets(&between(&ids))),
         ("sheet-ids-alike".into(), targets(&between(&alike))),
+        ("sheet-ids-alike-held".into(), sheet(b"PK\0TS", fewer.iter().map(held).collect())),
     ]
 }
 

@@ -2,15 +2,18 @@
 //! reader's answers: `boundary SEED COUNT`, COUNT seeded packets after
 //! document 01's examples and the named ones, each read and, every other one,
 //! normalised, half as many seeded sheets, each written, and half as many
-//! seeded edits; with two rooms each.
+//! seeded edits; and for every sixteenth a packet and a sheet of targets laid
+//! out alike, one byte of them changed; with two rooms each.
 //!
 //! The stream, numbers low byte first: count of inputs (8); for each its call,
 //! form, level, target, tag and removal (8 each), the length (4) and bytes of
 //! the value to put, those of the input, then for each room its size (4), the
 //! one number (8), the count of bytes written (4) and those bytes.
 
+use second::generate::mutate::repair;
+use second::generate::random::Random;
 use second::generate::{edit, named, packet, sheet, EditCase, PacketCase};
-use second::{edit_number, normalise_number, read_number, write_number};
+use second::{edit_number, normalise_number, read, read_number, write_number};
 use second::{Form, Level, PACKET_LIMIT, PACKET_SHEET_LIMIT, SHEET_LIMIT};
 use std::io::{self, BufWriter, Write};
 
@@ -67,7 +70,8 @@ fn main() -> io::Result<()> {
     let named = first.len() as u64;
     let edits = compare::edits();
     let out = &mut BufWriter::new(io::stdout().lock());
-    out.write_all(&(2 * named + edits.len() as u64 + 2 * count + count / 2).to_le_bytes())?;
+    let alike = alike(&first);
+    out.write_all(&(2 * named + edits.len() as u64 + 2 * count + count / 2 + 2 * count.div_ceil(16)).to_le_bytes())?;
     for (index, case) in first.iter().enumerate() {
         write_case(out, index, &of_packet(Call::Read, index, case))?;
         write_case(out, index, &of_packet(Call::Normalise, index, case))?;
@@ -85,7 +89,33 @@ fn main() -> io::Result<()> {
             write_case(out, place / 2, &of_edit(place, edit(seed, index / 2)))?;
         }
     }
+    for index in 0..count.div_ceil(16) {
+        let random = &mut Random::new(seed, 9, index);
+        let (case, sheet) = &alike[random.below(alike.len())];
+        let changed = PacketCase { form: case.form, bytes: repair(case.form, &one_changed(random, &case.bytes)) };
+        write_case(out, index as usize, &of_packet(Call::Read, index as usize, &changed))?;
+        write_case(out, index as usize, &of_sheet(one_changed(random, sheet)))?;
+    }
     out.flush()
+}
+
+/// The packets of some targets each, most of them laid out as the one before, and their sheets.
+fn alike(named: &[PacketCase]) -> Vec<(PacketCase, Vec<u8>)> {
+    let some = named.iter().filter(|case| (200..500).contains(&case.bytes.len()));
+    let mut room = vec![0; SHEET_LIMIT];
+    some.map(|case| {
+        let size = read(case.form, &case.bytes, &mut room).expect("an accepted packet");
+        (case.clone(), room[..size].to_vec())
+    })
+    .collect()
+}
+
+/// One byte becomes 0, or another by a bit.
+fn one_changed(random: &mut Random, bytes: &[u8]) -> Vec<u8> {
+    let mut changed = bytes.to_vec();
+    let at = random.below(changed.len());
+    changed[at] = if random.once_in(2) { 0 } else { changed[at] ^ 1 << random.below(8) };
+    changed
 }
 
 fn of_packet(call: Call, index: usize, case: &PacketCase) -> Question {

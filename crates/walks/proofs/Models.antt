@@ -34,34 +34,37 @@ module _ (alone : Bool) {m a : List ℕ} {q : Quick} (l : Laid (formOf alone) m 
   }
 
 -- the items from one place of s to another
+pub part-long : (s : List ℕ) (from next : ℕ) → from ≤ next → next ≤ length s → length (take (next - from) (drop from s)) ≡ next - from
+part-long s from next ordered room = length-take-le (next - from) (drop from s) (rw length-drop (omega arith))
+
 module _ (alone : Bool) (s : List ℕ) (from next : ℕ) {marks : List ℕ} {q : Quick} (l : Laid (formOf alone) marks (take (next - from) (drop from s)) q) (ordered : from ≤ next) (room : next ≤ length s) (all : q .at ≡ next - from)
     (located : not alone || q .mark ≡ true) where
   abbrev part : List ℕ
   part = take (next - from) (drop from s)
 
-  part-long : length part ≡ next - from
-  part-long = length-take-le (next - from) (drop from s) (rw length-drop (omega arith))
+  long : length part ≡ next - from
+  long = part-long s from next ordered room
 
   pub items-told : Bytes s → Told alone part (1 + q .sizes .rows)
-  items-told bytes = laid-told alone l (all ∙ sym part-long) located part (bytes-take (next - from) (drop from s) (bytes-drop from s bytes)) refl (alike-same _ _ _)
+  items-told bytes = laid-told alone l (all ∙ sym long) located part (bytes-take (next - from) (drop from s) (bytes-drop from s bytes)) refl (alike-same _ _ _)
 
   pub items-model : length marks ≡ 160 → Modelled alone marks s (record { from = from; size = q .at; rows = 1 + q .sizes .rows })
-  items-model long = record {
-    long = long;
+  items-model marked = record {
+    long = marked;
     within = omega arith;
-    told = λ _ b bytes e h. laid-told alone l (all ∙ sym part-long) located b bytes (e ∙ all ∙ sym part-long) (subst (AlikeTo marks part b) (all ∙ sym part-long) (alike-as part b (λ i g. sym (getD-take (next - from) (drop from s) i 0 (omega (arith, g, all)))) (λ i g. refl) h));
+    told = λ _ b bytes e h. laid-told alone l (all ∙ sym long) located b bytes (e ∙ all ∙ sym long) (subst (AlikeTo marks part b) (all ∙ sym long) (alike-as part b (λ i g. sym (getD-take (next - from) (drop from s) i 0 (omega (arith, g, all)))) (λ i g. refl) h));
   }
 
 -- items laid out as the model's are
 pub as-model : {alone : Bool} {marks s : List ℕ} {m : Model} → Modelled alone marks s m → (from next : ℕ) → from ≤ next → next ≤ length s → next - from < 128 → Bytes s
     → (m .size ≡ next - from) × AlikeTo marks (drop (m .from) s) (drop from s) (next - from) → Told alone (take (next - from) (drop from s)) (m .rows)
 as-model {marks = marks} {s = s} {m = m} l from next ordered room few bytes (e, h) =
-    l .told (omega (arith, e, few)) (take (next - from) (drop from s)) (bytes-take (next - from) (drop from s) (bytes-drop from s bytes)) (length-take-le (next - from) (drop from s) (rw length-drop (omega arith)) ∙ sym e)
+    l .told (omega (arith, e, few)) (take (next - from) (drop from s)) (bytes-take (next - from) (drop from s) (bytes-drop from s bytes)) (part-long s from next ordered room ∙ sym e)
     (rw e (alike-as (drop (m .from) s) (take (next - from) (drop from s)) (λ i g. refl) (λ i g. sym (getD-take (next - from) (drop from s) i 0 g)) h))
 
 -- none, as the code says it
-pub no-items : {alone : Bool} {marks s : List ℕ} {m : Model} → (m .from ≡ 0) × (m .size ≡ 128) × (m .rows ≡ 0) → length marks ≡ 160 → Modelled alone marks s m
-no-items n long = record { long = long; within = omega (arith, n .0); told = λ h. absurd (omega (arith, h, n .1)) }
+pub no-items : {alone : Bool} {marks s : List ℕ} {m : Model} → m .from ≡ 0 → m .size ≡ 128 → length marks ≡ 160 → Modelled alone marks s m
+no-items e n long = record { long = long; within = omega (arith, e); told = λ h. absurd (omega (arith, h, n)) }
 
 -- items that the quick way goes over to their end
 pub run-told : (alone : Bool) {b : List ℕ} {q : Quick} → LevelGoing false (formOf alone) b (q .at) (q .sizes) (q .mark) (q .top) (q .low) × (q .sizes ≡ quickSizes (q .sizes .rows) (q .at)) → length b ≡ q .at → not alone || q .mark ≡ true

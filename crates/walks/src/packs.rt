@@ -85,7 +85,7 @@ fn model_of(
     marks: &mut [u8; 160],
 ) -> Model
     requires { ⌜ (now glances ≡ glanceTable) × (from ≤ next) × (next ≤ length (now s)) × (next - from < 128) × (length (now marks) ≡ 160) × Bytes (now s) ⌝ }
-    ensures { λ r. ⌜ Modelled alone (now (marks .exit)) (now (s .entry)) r × (r .from ≤ from) × (r .size < 128 → Told alone (take (next - from) (drop from (now (s .entry)))) (r .rows)) ⌝ }
+    ensures { λ r. ⌜ Modelled alone (now (marks .exit)) (now (s .entry)) r × (r .from ≤ from) × (0 < r .rows → Told alone (take (next - from) (drop from (now (s .entry)))) (r .rows)) ⌝ }
 {
     *marks = [0; 160];
     let q = lay(glances, &s[from..next], alone, marks);
@@ -98,6 +98,25 @@ fn model_of(
     Model {
         from,
         size: q.at,
+        rows: 1 + q.sizes.rows,
+    }
+}
+
+// Such items where no model is worth its marks; no rows where they are not such.
+fn unmodelled(glances: &[u32], s: &[u8], from: usize, next: usize, alone: bool) -> Model
+    requires { ⌜ (now glances ≡ glanceTable) × (from ≤ next) × (next ≤ length (now s)) × (next - from < 128) ⌝ }
+    ensures { λ r. ⌜ (r .from ≡ 0) × (r .size ≡ 128) × (0 < r .rows → Told alone (take (next - from) (drop from (now (s .entry)))) (r .rows)) ⌝ }
+{
+    let q = quick::run(glances, &s[from..next], false, alone);
+    if q.at != next - from {
+        return no_model();
+    }
+    if !coding::either(!alone, q.mark) {
+        return no_model();
+    }
+    Model {
+        from: 0,
+        size: 128,
         rows: 1 + q.sizes.rows,
     }
 }
@@ -131,6 +150,8 @@ fn many(glances: &[u32], s: &[u8], alone: bool) -> Quick
     let mut low: u64 = 18446744073709551615;
     let mut marks: [u8; 160] = [0; 160];
     let mut m = no_model();
+    // packs that were not laid out as their model: where they are many, none is laid out
+    let mut misses: usize = 0;
     while p < s.len() {
         let h = heads::short_pack_head(&s[p..]);
         let Head::Whole {
@@ -157,10 +178,15 @@ fn many(glances: &[u32], s: &[u8], alone: bool) -> Quick
         let from = p + width + used;
         let next = p + width + size;
         if !is_as(m, &marks, s, from, next) {
-            m = model_of(glances, s, from, next, alone, &mut marks);
-            if 127 < m.size {
+            if 64 * misses <= 512 + p {
+                m = model_of(glances, s, from, next, alone, &mut marks);
+            } else {
+                m = unmodelled(glances, s, from, next, alone);
+            }
+            if m.rows == 0 {
                 return passed(p, rows, more, top, low);
             }
+            misses += 1;
         }
         rows = rows + m.rows;
         more = more + 5 - used;
@@ -187,15 +213,11 @@ fn lone(glances: &[u32], s: &[u8], alone: bool) -> Quick
     };
     let from = p + width + used;
     let next = p + width + size;
-    let items = &s[from..next];
-    let q = quick::run(glances, items, false, alone);
-    if q.at != items.len() {
+    let m = unmodelled(glances, s, from, next, alone);
+    if m.rows == 0 {
         return passed(0, 0, 0, 0, 18446744073709551615);
     }
-    if !coding::either(!alone, q.mark) {
-        return passed(0, 0, 0, 0, 18446744073709551615);
-    }
-    passed(next, 1 + q.sizes.rows, 5 - used, key, key)
+    passed(next, m.rows, 5 - used, key, key)
 }
 
 // Whether the first pack, with a byte for its length, is all of the series.

@@ -1,10 +1,9 @@
 -- `walks::packs::lone` meets its contract: it is a turn of the pack walk, from its start. `a` is where the pack's head was read.
-use mathlib.Core.Path.{_≡_, refl, sym, _∙_}
+use mathlib.Core.Path.{_≡_, refl}
 use Prim.Native.Nat.{_+_, _≤_, _<_}
 use native.Mathlib.Omega.{arith}
 use lib.ListN.{length}
 use borrow.Author.Needs.{needs}
-use borrow.Author.Tests.{not-false}
 use Rattle.items.specs.Meet.{formOf}
 use Rattle.heads.specs.declared.Head.the-variants as heads
 use Rattle.heads.proofs.Heads.{pack-head-if}
@@ -12,18 +11,17 @@ use Rattle.walks.specs.Going.{Reached}
 use Rattle.walks.proofs.Glances.{packedSizes}
 use Rattle.walks.proofs.Turns.{new-key, reach-only}
 use Rattle.walks.proofs.PackTurns.{PackAt, series-start, head-stood, head-room, lent-long}
-use Rattle.walks.proofs.Models.{run-told, told-first}
+use Rattle.walks.proofs.Models.{told-first}
 use Rattle.walks.proofs.packs.lone.Statement.{statement}
 use Rattle.walks.proofs.packs.lone.Tie as tie
 use Rattle.walks.proofs.packs.lone.Reads as reads
 use Rattle.walks.proofs.packs.lone.Lts as lts
-use Rattle.coding.proofs.either.Reads as either-reads
 use Rattle.heads.proofs.short_pack_head.Reads as short-pack-head-reads
 use Rattle.walks.proofs.packs.passed.Reads as passed-reads
-use Rattle.walks.proofs.quick.run.Reads as run-reads
+use Rattle.walks.proofs.packs.unmodelled.Reads as unmodelled-reads
 
 abbrev Head-read : Type 0
-Head-read = lts.After-h (short-pack-head-reads.Asked, short-pack-head-reads.Learnt, passed-reads.Asked, passed-reads.Learnt, run-reads.Asked, run-reads.Learnt, either-reads.Asked, either-reads.Learnt) reads.Pre reads.Post
+Head-read = lts.After-h (short-pack-head-reads.Asked, short-pack-head-reads.Learnt, passed-reads.Asked, passed-reads.Learnt, unmodelled-reads.Asked, unmodelled-reads.Learnt) reads.Pre reads.Post
 
 -- its length has one byte, its id one or two
 short : (a : Head-read) → (a .h .given .0 .1 .1 .0 ≡ 1) × (a .h .given .0 .1 .1 .1 .0 < 128) × (a .h .given .0 .1 .0 ≤ 2)
@@ -83,17 +81,8 @@ add-next c = omega (arith, room (c .before))
 add-next-2 : tie.Need-add-next-2
 add-next-2 c = omega (arith, room (c .before))
 
-sub-items : tie.Need-sub-items
-sub-items c = omega (arith, room (c .before))
-
-part-items-start : tie.Need-part-items-start
-part-items-start c = omega (arith, room (c .before))
-
-part-items-end : tie.Need-part-items-end
-part-items-end c = omega (arith, room (c .before))
-
-run-requires : tie.Need-run-requires
-run-requires c κs = let a = c .before .before in (c .before .before .before .before .before .before .before .before .pre .0, omega (arith, lent-long (here a) (new-key (reached a .new)) refl, room a))
+unmodelled-requires : tie.Need-unmodelled-requires
+unmodelled-requires c κs = let a = c .before in (c .before .before .before .before .before .before .before .pre .0, omega (arith, room a), omega (arith, room a), omega (arith, room a, short a))
 
 passed-requires-2 : tie.Need-passed-requires-2
 passed-requires-2 c κs = search needs
@@ -101,28 +90,14 @@ passed-requires-2 c κs = search needs
 returns-2 : tie.Need-returns-2
 returns-2 c = rw (c .passed2 .ensures) (series-start _ _)
 
-either-requires : tie.Need-either-requires
-either-requires c κs = search needs
+sub-passed : tie.Need-sub-passed
+sub-passed c = omega (arith, short (c .before .before .before .before))
 
 passed-requires-3 : tie.Need-passed-requires-3
-passed-requires-3 c κs = search needs
+passed-requires-3 c κs = let a = c .before .before .before .before in let t = c .before .before .unmodelled .ensures .2 (omega (arith, c .if1 .left)) in omega (arith, t .rows-are, t .going .few .rows, lent-long (here a) (new-key (reached a .new)) refl, room a)
 
 returns-3 : tie.Need-returns-3
-returns-3 c = rw (c .passed3 .ensures) (series-start _ _)
-
-add-passed : tie.Need-add-passed
-add-passed c = let a = c .before .before .before .before .before .before .before .before in let k = c .before .before .before .before .before .run .ensures .0 in omega (arith, k .few .rows, k .to, lent-long (here a) (new-key (reached a .new)) refl, room a)
-
-sub-passed : tie.Need-sub-passed
-sub-passed c = omega (arith, short (c .before .before .before .before .before .before .before .before))
-
-passed-requires-4 : tie.Need-passed-requires-4
-passed-requires-4 c κs = let a = c .before .before .before .before .before .before .before .before in let k = c .before .before .before .before .before .run .ensures .0 in omega (arith, k .few .rows, k .to, lent-long (here a) (new-key (reached a .new)) refl, room a)
-
-returns-4 : tie.Need-returns-4
-returns-4 c =
-    let a = c .before .before .before .before .before .before .before .before .before in
-    rw (c .passed4 .ensures) (told-first (here a) (short a) (reached a) (run-told (a .before .before .before .before .before .before .args .alone) (c .before .before .before .before .before .before .run .ensures) (omega (arith, c .before .before .before .before .if1 .left)) (sym (c .before .before .before .either .ensures) ∙ not-false _ (c .before .before .if2 .left))))
+returns-3 c = let a = c .before .before .before .before .before in rw (c .passed3 .ensures) (told-first (here a) (short a) (reached a) (c .before .before .before .unmodelled .ensures .2 (omega (arith, c .before .if1 .left))))
 
 pub lone-spec : {M : Type 1} → statement M
 lone-spec =
@@ -140,16 +115,9 @@ lone-spec =
     add-from-2
     add-next
     add-next-2
-    sub-items
-    part-items-start
-    part-items-end
-    run-requires
+    unmodelled-requires
     passed-requires-2
     returns-2
-    either-requires
-    passed-requires-3
-    returns-3
-    add-passed
     sub-passed
-    passed-requires-4
-    returns-4)
+    passed-requires-3
+    returns-3)

@@ -1,5 +1,5 @@
 -- `walks::packs::many` meets its contract: each turn is a turn of the pack walk. `a` is where a pack's head was read.
-use mathlib.Core.Path.{_≡_, refl, sym}
+use mathlib.Core.Path.{_≡_, refl, sym, ap}
 use mathlib.Core.Logic.{⊎-elim}
 use Prim.Native.Nat.{_+_, _-_, _≤_, _<_}
 use native.Mathlib.Omega.{arith}
@@ -9,6 +9,7 @@ use borrow.Author.Tests.{not-false}
 use Rattle.items.specs.Meet.{formOf}
 use Rattle.heads.specs.declared.Head.the-variants as heads
 use Rattle.heads.proofs.Heads.{pack-head-if}
+use Rattle.walks.specs.declared.packs.Model.{Model}
 use Rattle.walks.specs.Going.{SeriesGoing, Reached}
 use Rattle.walks.specs.Packs.{Told, Modelled}
 use Rattle.walks.proofs.Glances.{packedSizes}
@@ -24,15 +25,18 @@ use Rattle.walks.proofs.packs.no_model.Reads as no-model-reads
 use Rattle.walks.proofs.packs.passed.Reads as passed-reads
 use Rattle.walks.proofs.packs.is_as.Reads as is-as-reads
 use Rattle.walks.proofs.packs.model_of.Reads as model-of-reads
+use Rattle.walks.proofs.packs.unmodelled.Reads as unmodelled-reads
 
 abbrev Inv-loop : tie.InvT-loop
-Inv-loop glances s alone p₀ rows₀ more₀ top₀ low₀ marks₀ m₀ p rows more top low marks m = SeriesGoing (formOf alone) s p (packedSizes p rows more) top low × (p ≡ 0 → low ≡ 18446744073709551615) × (0 < p → low ≤ top) × Modelled alone marks s m × (m .from ≤ p)
+Inv-loop glances s alone p₀ rows₀ more₀ top₀ low₀ marks₀ m₀ misses₀ p rows more top low marks m misses =
+    SeriesGoing (formOf alone) s p (packedSizes p rows more) top low × (p ≡ 0 → low ≡ 18446744073709551615) × (0 < p → low ≤ top) × Modelled alone marks s m × (m .from ≤ p) × (misses ≤ p)
 
 abbrev μ-loop : tie.MeasureT-loop
-μ-loop glances s alone p₀ rows₀ more₀ top₀ low₀ marks₀ m₀ p rows more top low marks m = length s - p
+μ-loop glances s alone p₀ rows₀ more₀ top₀ low₀ marks₀ m₀ misses₀ p rows more top low marks m misses =
+    length s - p
 
 abbrev Head-read : Type 0
-Head-read = lts.After-h (no-model-reads.Asked, no-model-reads.Learnt, short-pack-head-reads.Asked, short-pack-head-reads.Learnt, passed-reads.Asked, passed-reads.Learnt, is-as-reads.Asked, is-as-reads.Learnt, model-of-reads.Asked, model-of-reads.Learnt) reads.Pre reads.Post Inv-loop μ-loop
+Head-read = lts.After-h (no-model-reads.Asked, no-model-reads.Learnt, short-pack-head-reads.Asked, short-pack-head-reads.Learnt, passed-reads.Asked, passed-reads.Learnt, is-as-reads.Asked, is-as-reads.Learnt, model-of-reads.Asked, model-of-reads.Learnt, unmodelled-reads.Asked, unmodelled-reads.Learnt) reads.Pre reads.Post Inv-loop μ-loop
 
 -- its length has one byte, its id one or two
 short : (a : Head-read) → (a .h .given .0 .1 .1 .0 ≡ 1) × (a .h .given .0 .1 .1 .1 .0 < 128) × (a .h .given .0 .1 .0 ≤ 2)
@@ -54,7 +58,7 @@ room : (a : Head-read) → (a .before .before .before .before .before .loop .p +
 room a = (head-room (here a), head-stood (here a) .body, a .before .before .before .before .before .before .before .before .before .pre .1)
 
 -- its id is new, and between the bounds that the code has then
-reached : (j : lts.Joined1 (no-model-reads.Asked, no-model-reads.Learnt, short-pack-head-reads.Asked, short-pack-head-reads.Learnt, passed-reads.Asked, passed-reads.Learnt, is-as-reads.Asked, is-as-reads.Learnt, model-of-reads.Asked, model-of-reads.Learnt) reads.Pre reads.Post Inv-loop μ-loop) → Reached (j .before .before .before .before .before .before .before .loop .p) (j .before .before .before .before .before .before .before .loop .top) (j .before .before .before .before .before .before .before .loop .low) (j .before .before .h .given .0 .0) (j .if1 .top) (j .if1 .low)
+reached : (j : lts.Joined1 (no-model-reads.Asked, no-model-reads.Learnt, short-pack-head-reads.Asked, short-pack-head-reads.Learnt, passed-reads.Asked, passed-reads.Learnt, is-as-reads.Asked, is-as-reads.Learnt, model-of-reads.Asked, model-of-reads.Learnt, unmodelled-reads.Asked, unmodelled-reads.Learnt) reads.Pre reads.Post Inv-loop μ-loop) → Reached (j .before .before .before .before .before .before .before .loop .p) (j .before .before .before .before .before .before .before .loop .top) (j .before .before .before .before .before .before .before .loop .low) (j .before .before .h .given .0 .0) (j .if1 .top) (j .if1 .low)
 reached j =
     let i = j .before .before .before .before .before .before .before .loop .inv in
     let most = head-stood (here (j .before .before)) .id-range in
@@ -66,21 +70,24 @@ reached j =
     y)
     (j .if1 .came)
 
--- the model then, which has this pack's items told
-model : (j : lts.Joined4 (no-model-reads.Asked, no-model-reads.Learnt, short-pack-head-reads.Asked, short-pack-head-reads.Learnt, passed-reads.Asked, passed-reads.Learnt, is-as-reads.Asked, is-as-reads.Learnt, model-of-reads.Asked, model-of-reads.Learnt) reads.Pre reads.Post Inv-loop μ-loop) → Modelled (j .before .before .before .before .before .before .before .before .before .before .before .before .before .before .args .alone) (j .if4 .marks) (j .before .before .before .before .before .before .before .before .before .before .before .before .before .before .args .s .now) (j .if4 .m) × (j .if4 .m .from ≤ j .before .before .before .before .before .before .before .before .before .before .loop .p + j .before .before .before .before .before .h .given .0 .1 .1 .0 + j .before .before .before .before .before .h .given .0 .1 .0) × Told (j .before .before .before .before .before .before .before .before .before .before .before .before .before .before .args .alone) (take (j .before .before .before .before .before .before .before .before .before .before .loop .p + j .before .before .before .before .before .h .given .0 .1 .1 .0 + j .before .before .before .before .before .h .given .0 .1 .1 .1 .0 - (j .before .before .before .before .before .before .before .before .before .before .loop .p + j .before .before .before .before .before .h .given .0 .1 .1 .0 + j .before .before .before .before .before .h .given .0 .1 .0)) (drop (j .before .before .before .before .before .before .before .before .before .before .loop .p + j .before .before .before .before .before .h .given .0 .1 .1 .0 + j .before .before .before .before .before .h .given .0 .1 .0) (j .before .before .before .before .before .before .before .before .before .before .before .before .before .before .args .s .now))) (j .if4 .m .rows)
+-- the model then, as which this pack's items are told
+model : (j : lts.Joined4 (no-model-reads.Asked, no-model-reads.Learnt, short-pack-head-reads.Asked, short-pack-head-reads.Learnt, passed-reads.Asked, passed-reads.Learnt, is-as-reads.Asked, is-as-reads.Learnt, model-of-reads.Asked, model-of-reads.Learnt, unmodelled-reads.Asked, unmodelled-reads.Learnt) reads.Pre reads.Post Inv-loop μ-loop) → Modelled (j .before .before .before .before .before .before .before .before .before .before .before .before .before .before .args .alone) (j .if4 .marks) (j .before .before .before .before .before .before .before .before .before .before .before .before .before .before .args .s .now) (j .if4 .m) × (j .if4 .m .from ≤ j .before .before .before .before .before .before .before .before .before .before .loop .p + j .before .before .before .before .before .h .given .0 .1 .1 .0 + j .before .before .before .before .before .h .given .0 .1 .0) × Told (j .before .before .before .before .before .before .before .before .before .before .before .before .before .before .args .alone) (take (j .before .before .before .before .before .before .before .before .before .before .loop .p + j .before .before .before .before .before .h .given .0 .1 .1 .0 + j .before .before .before .before .before .h .given .0 .1 .1 .1 .0 - (j .before .before .before .before .before .before .before .before .before .before .loop .p + j .before .before .before .before .before .h .given .0 .1 .1 .0 + j .before .before .before .before .before .h .given .0 .1 .0)) (drop (j .before .before .before .before .before .before .before .before .before .before .loop .p + j .before .before .before .before .before .h .given .0 .1 .1 .0 + j .before .before .before .before .before .h .given .0 .1 .0) (j .before .before .before .before .before .before .before .before .before .before .before .before .before .before .args .s .now))) (j .if4 .m .rows) × (j .if4 .misses ≤ j .before .before .before .before .before .before .before .before .before .before .loop .p + 1)
 model j =
     let a = j .before .before .before .before .before in
     let i = j .before .before .before .before .before .before .before .before .before .before .loop .inv in
     ⊎-elim
-    (λ x. let e = x .2 .ensures in rw (x .5, x .6) (e .0, e .1, e .2 (omega (arith, x .4 .left))))
-    (λ y. rw (y .1, y .2) (i .3, omega (arith, i .4), as-model (i .3) _ _ (omega (arith, room a)) (omega (arith, room a)) (omega (arith, room a, short a)) (λ k. j .before .before .before .before .before .before .before .before .before .before .before .before .shared-slice-known2 .given k .fits) (j .before .is-as .ensures (not-false _ (y .0 .left)))))
+    (λ x. rw (x .4, x .5) (⊎-elim
+    (λ y. let e = y .2 .ensures in rw (y .3, y .4) (e .0, e .1, e .2 (omega (arith, x .3 .left, ap (λ (m : Model). m .rows) (y .4))), omega (arith, x .6, i .5)))
+    (λ y. let e = y .1 .ensures in rw (y .2, y .3) (no-items (e .0) (e .1) (i .3 .long), omega (arith, e .0), e .2 (omega (arith, x .3 .left, ap (λ (m : Model). m .rows) (y .3))), omega (arith, x .6, i .5)))
+    (x .1 .came)))
+    (λ y. rw (y .1, y .2) (i .3, omega (arith, i .4), as-model (i .3) _ _ (omega (arith, room a)) (omega (arith, room a)) (omega (arith, room a, short a)) (λ k. j .before .before .before .before .before .before .before .before .before .before .before .before .shared-slice-known2 .given k .fits) (j .before .is-as .ensures (not-false _ (y .0 .left))), omega (arith, y .3, i .5)))
     (j .if4 .came)
 
 no-model-requires : tie.Need-no-model-requires Inv-loop μ-loop
 no-model-requires c κs = search needs
 
 loop-holds : tie.Need-loop-holds Inv-loop μ-loop
-loop-holds c = (series-start _ _, λ _. refl, λ h. absurd (omega (arith, h)), no-items (c .no-model .ensures) refl, omega (arith, c .no-model .ensures))
+loop-holds c = let n = c .no-model .ensures in (series-start _ _, λ _. refl, λ h. absurd (omega (arith, h)), no-items (n .0) (n .1) refl, omega (arith, n), omega arith)
 
 sub-short-pack-head : tie.Need-sub-short-pack-head Inv-loop μ-loop
 sub-short-pack-head c = search needs
@@ -133,16 +140,28 @@ is-as-requires c κs =
     let i = c .before .before .before .before .before .before .before .before .loop .inv in
     (i .3 .long, omega (arith, room a), omega (arith, room a), omega (arith, room a, short a), omega (arith, i .4))
 
+mul-if5 : tie.Need-mul-if5 Inv-loop μ-loop
+mul-if5 c = omega (arith, c .before .before .before .before .before .before .before .before .before .before .loop .inv .5, room (c .before .before .before .before .before))
+
+add-if5 : tie.Need-add-if5 Inv-loop μ-loop
+add-if5 c = omega (arith, room (c .before .before .before .before .before))
+
 model-of-requires : tie.Need-model-of-requires Inv-loop μ-loop
 model-of-requires c κs =
-    let a = c .before .before .before .before .before .before in
-    (c .before .before .before .before .before .before .before .before .before .before .before .before .before .before .before .pre .0, omega (arith, room a), omega (arith, room a), omega (arith, room a, short a), c .before .before .before .before .before .before .before .before .before .before .before .loop .inv .3 .long, λ i. c .before .before .before .before .before .before .before .before .before .before .before .before .before .shared-slice-known2 .given i .fits)
+    let a = c .before .before .before .before .before .before .before in
+    (c .before .before .before .before .before .before .before .before .before .before .before .before .before .before .before .before .pre .0, omega (arith, room a), omega (arith, room a), omega (arith, room a, short a), c .before .before .before .before .before .before .before .before .before .before .before .before .loop .inv .3 .long, λ i. c .before .before .before .before .before .before .before .before .before .before .before .before .before .before .shared-slice-known2 .given i .fits)
+
+unmodelled-requires : tie.Need-unmodelled-requires Inv-loop μ-loop
+unmodelled-requires c κs = let a = c .before .before .before .before .before .before in (c .before .before .before .before .before .before .before .before .before .before .before .before .before .before .before .pre .0, omega (arith, room a), omega (arith, room a), omega (arith, room a, short a))
 
 passed-requires-3 : tie.Need-passed-requires-3 Inv-loop μ-loop
-passed-requires-3 c κs = let i = c .before .before .before .before .before .before .before .before .before .before .before .before .before .before .loop .inv .0 in omega (arith, i .few .sheet, i .to, c .before .before .before .before .before .before .before .before .before .before .before .before .before .before .before .before .before .before .pre .1)
+passed-requires-3 c κs = let i = c .before .before .before .before .before .before .before .before .before .before .before .before .before .loop .inv .0 in omega (arith, i .few .sheet, i .to, c .before .before .before .before .before .before .before .before .before .before .before .before .before .before .before .before .before .pre .1)
 
 returns-3 : tie.Need-returns-3 Inv-loop μ-loop
-returns-3 c = rw (c .passed3 .ensures) (going-wide (c .before .before .before .before .before .before .before .before .before .before .before .before .before .before .before .loop .inv .0) (reached (c .before .before .before .before .before .before .before .before) .over .0) (reached (c .before .before .before .before .before .before .before .before) .under .0))
+returns-3 c = rw (c .passed3 .ensures) (going-wide (c .before .before .before .before .before .before .before .before .before .before .before .before .before .before .loop .inv .0) (reached (c .before .before .before .before .before .before .before) .over .0) (reached (c .before .before .before .before .before .before .before) .under .0))
+
+add-misses : tie.Need-add-misses Inv-loop μ-loop
+add-misses c = omega (arith, c .before .before .before .before .before .before .before .before .before .before .before .before .before .loop .inv .5, room (c .before .before .before .before .before .before .before .before))
 
 add-rows : tie.Need-add-rows Inv-loop μ-loop
 add-rows c = let i = c .before .before .before .before .before .before .before .before .before .before .before .loop .inv .0 in let t = model (c .before) .2 in omega (arith, i .few .rows, i .to, t .rows-are, t .going .few .rows, lent-long (here (c .before .before .before .before .before .before)) (new-key (reached (c .before .before .before .before) .new)) refl, room (c .before .before .before .before .before .before))
@@ -166,6 +185,7 @@ loop-again c =
       λ _. r .between,
       m .0,
       omega (arith, m .1, room a),
+      omega (arith, m .3, head-stood (here a) .len),
     )
 
 passed-requires-4 : tie.Need-passed-requires-4 Inv-loop μ-loop
@@ -198,9 +218,13 @@ many-spec =
     add-next-2
     slice-aggregate-is-as
     is-as-requires
+    mul-if5
+    add-if5
     model-of-requires
+    unmodelled-requires
     passed-requires-3
     returns-3
+    add-misses
     add-rows
     add-more
     sub-more

@@ -26,7 +26,7 @@ no-model-requires : tie.Need-no-model-requires
 no-model-requires c κs = search needs
 
 returns : tie.Need-returns
-returns c = let n = c .no-model .ensures in (no-items n (c .before .before .before .lay .ensures .1), omega (arith, n .0), λ h. absurd (omega (arith, h, n .1)))
+returns c = let n = c .no-model .ensures in (no-items (n .0) (n .1) (c .before .before .before .lay .ensures .1), omega (arith, n .0), λ h. absurd (omega (arith, h, n .2)))
 
 either-requires : tie.Need-either-requires
 either-requires c κs = search needs
@@ -35,7 +35,7 @@ no-model-requires-2 : tie.Need-no-model-requires-2
 no-model-requires-2 c κs = search needs
 
 returns-2 : tie.Need-returns-2
-returns-2 c = let n = c .no-model2 .ensures in (no-items n (c .before .before .before .before .before .lay .ensures .1), omega (arith, n .0), λ h. absurd (omega (arith, h, n .1)))
+returns-2 c = let n = c .no-model2 .ensures in (no-items (n .0) (n .1) (c .before .before .before .before .before .lay .ensures .1), omega (arith, n .0), λ h. absurd (omega (arith, h, n .2)))
 
 add-t9 : tie.Need-add-t9
 add-t9 c =

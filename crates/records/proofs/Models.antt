@@ -10,7 +10,6 @@ use borrow.Author.Tests.{ltb-true, ltb-false}
 use Rattle.format.specs.Coding.{Bytes, oidBytes}
 use Rattle.format.specs.Table.{pack}
 use Rattle.format.proofs.words.Bytes.{bytes-drop}
-use Rattle.coding.specs.Alike.{AlikeTo}
 use Rattle.coding.proofs.Rooms.{tail-part}
 use Rattle.items.specs.Meet.{formOf}
 use Rattle.walks.specs.declared.quick.Quick.{Quick}
@@ -18,6 +17,7 @@ use Rattle.walks.specs.declared.packs.Model.{Model}
 use Rattle.walks.specs.declared.Walked.the-variants.{Good}
 use Rattle.walks.specs.Meet.{sizes, Within}
 use Rattle.walks.specs.Going.{Reached}
+use Rattle.walks.specs.Packs.{As}
 use Rattle.walks.proofs.Turns.{turn-done}
 use Rattle.walks.proofs.PackTurns.{either-is}
 use Rattle.records.specs.Meet.{recordsWalk}
@@ -42,9 +42,8 @@ module _ (alone : Bool) (s : List ℕ) (from : ℕ) {marks : List ℕ} {q : Quic
   records-model long within = record { long = long; within = within; held = λ r b bytes most to h. holds b (l .walked r b bytes most to h) }
 
 -- records laid out as the model's
-pub as-held : {alone : Bool} {marks s : List ℕ} {m : Model} → Modelled alone marks s m → (from : ℕ) → Bytes s → length s ≤ 65536
-    → (m .size < 128) × AlikeTo marks (drop (m .from) s) (drop from s) (m .size) × Over s (from + m .size) → Held alone (drop from s) (m .size) (m .rows)
-as-held {s = s} l from bytes most (small, h, over) = l .held small (drop from s) (bytes-drop from s bytes) (omega (arith, length-drop from s, most)) (omega (arith, length-drop from s, over .within)) h
+pub as-held : {alone : Bool} {marks s : List ℕ} {m : Model} → Modelled alone marks s m → (from : ℕ) → Bytes s → length s ≤ 65536 → As marks s m from → Held alone (drop from s) (m .size) (m .rows)
+as-held {s = s} l from bytes most a = l .held (a .small) (drop from s) (bytes-drop from s bytes) (omega (arith, length-drop from s, most)) (omega (arith, length-drop from s, a .within)) (a .alike)
 
 -- a target that holds such, in the series; id takes w bytes in a packet
 module _ {alone : Bool} {s : List ℕ} {p rows normal top low id a b c : ℕ} (i : TargetAt (formOf alone) s p (sizes p rows normal 0) top low id a b c) {size r : ℕ} (h : Held alone (drop (p + 10) s) size r)

@@ -5,10 +5,10 @@ ghost use mathlib.Core.Bool.{true, false};
 ghost use Prim.Native.Nat.{_+_, _≤_, _<_};
 ghost use lib.ListN.{length, drop};
 ghost use Rattle.format.specs.Sheet.{TG, is};
-ghost use Rattle.coding.specs.Alike.{AlikeTo};
 ghost use Rattle.items.specs.Meet.{formOf, glanceTable};
 ghost use Rattle.walks.specs.Meet.{sizes};
 ghost use Rattle.walks.specs.Going.{quickAt};
+ghost use Rattle.walks.specs.Packs.{As};
 ghost use Rattle.records.specs.Going.{TargetsPassed};
 ghost use Rattle.records.specs.Targets.{Laid, Held, Over, Modelled};
 use super::quick;
@@ -53,19 +53,14 @@ fn is_over(s: &[u8], p: usize) -> bool
 }
 
 // Whether a target's records from there are laid out as the model's.
-fn is_as(m: Model, marks: &[u8], s: &[u8], from: usize) -> bool
+fn is_target_as(m: Model, marks: &[u8], s: &[u8], from: usize) -> bool
     requires { ⌜ (length (now marks) ≡ 160) × (length (now s) ≤ 65536) × (from ≤ length (now s)) × (m .from ≤ from) ⌝ }
-    ensures { λ r. ⌜ (r ≡ true → (m .size < 128) × AlikeTo (now (marks .entry)) (drop (m .from) (now (s .entry))) (drop from (now (s .entry))) (m .size) × Over (now (s .entry)) (from + m .size)) ⌝ }
+    ensures { λ r. ⌜ (r ≡ true → As (now (marks .entry)) (now (s .entry)) m from × Over (now (s .entry)) (from + m .size)) ⌝ }
 {
-    let size = m.size;
-    if 127 < size {
+    if !walks::packs::is_as(m, marks, s, from) {
         return false;
     }
-    let model = m.from;
-    if !coding::alike::are_alike(marks, &s[model..], &s[from..], size) {
-        return false;
-    }
-    is_over(s, from + size)
+    is_over(s, from + m.size)
 }
 
 // These records as the model, if they are all told at a glance and hold what a target must.
@@ -145,7 +140,7 @@ pub fn targets(glances: &[u32], s: &[u8], alone: bool) -> Quick
             low = id;
         }
         let from = p + 10;
-        if !is_as(m, &marks, s, from) {
+        if !is_target_as(m, &marks, s, from) {
             m = model_of(glances, s, from, alone, &mut marks);
             if m.rows == 0 {
                 return passed(p, rows, normal, top, low);

@@ -14,7 +14,7 @@ use Rattle.items.specs.Meet.{formOf}
 use Rattle.walks.specs.declared.quick.Quick.{Quick}
 use Rattle.walks.specs.declared.packs.Model.{Model}
 use Rattle.walks.specs.Going.{LevelGoing, SeriesGoing, Reached}
-use Rattle.walks.specs.Packs.{Laid, Told, Modelled}
+use Rattle.walks.specs.Packs.{Laid, Told, As, Modelled}
 use Rattle.walks.proofs.Glances.{quickSizes, packedSizes, packed-plus}
 use Rattle.walks.proofs.Turns.{turn-done, new-key}
 use Rattle.walks.proofs.PackTurns.{PackAt, either-is, head-stood, lent-long, pack-more}
@@ -56,11 +56,11 @@ module _ (alone : Bool) (s : List ℕ) (from next : ℕ) {marks : List ℕ} {q :
   }
 
 -- items laid out as the model's are
-pub as-model : {alone : Bool} {marks s : List ℕ} {m : Model} → Modelled alone marks s m → (from next : ℕ) → from ≤ next → next ≤ length s → next - from < 128 → Bytes s
-    → (m .size ≡ next - from) × AlikeTo marks (drop (m .from) s) (drop from s) (next - from) → Told alone (take (next - from) (drop from s)) (m .rows)
-as-model {marks = marks} {s = s} {m = m} l from next ordered room few bytes (e, h) =
-    l .told (omega (arith, e, few)) (take (next - from) (drop from s)) (bytes-take (next - from) (drop from s) (bytes-drop from s bytes)) (part-long s from next ordered room ∙ sym e)
-    (rw e (alike-as (drop (m .from) s) (take (next - from) (drop from s)) (λ i g. refl) (λ i g. sym (getD-take (next - from) (drop from s) i 0 g)) h))
+pub as-model : {alone : Bool} {marks s : List ℕ} {m : Model} → Modelled alone marks s m → (from next : ℕ) → from ≤ next → next ≤ length s → Bytes s → (m .size ≡ next - from) × As marks s m from
+    → Told alone (take (next - from) (drop from s)) (m .rows)
+as-model {marks = marks} {s = s} {m = m} l from next ordered room bytes (e, a) =
+    l .told (a .small) (take (next - from) (drop from s)) (bytes-take (next - from) (drop from s) (bytes-drop from s bytes)) (part-long s from next ordered room ∙ sym e)
+    (alike-as (drop (m .from) s) (take (next - from) (drop from s)) (λ i g. refl) (λ i g. sym (getD-take (next - from) (drop from s) i 0 (omega (arith, g, e)))) (a .alike))
 
 -- none, as the code says it
 pub no-items : {alone : Bool} {marks s : List ℕ} {m : Model} → m .from ≡ 0 → m .size ≡ 128 → length marks ≡ 160 → Modelled alone marks s m

@@ -28,6 +28,12 @@ pub record Told (alone : Bool) (b : List ℕ) (rows : ℕ) : Type 0 where
   pub rows-are : rows ≡ 1 + count
   pub located : not alone || mark ≡ true
 
+-- what stands from there on is laid out as the model's items
+pub record As (marks s : List ℕ) (m : Model) (from : ℕ) : Type 0 where
+  pub small : m .size < 128
+  pub alike : AlikeTo marks (drop (m .from) s) (drop from s) (m .size)
+  pub within : from + m .size ≤ length s
+
 -- so is whatever is laid out as the model's items, if there is a model
 pub record Modelled (alone : Bool) (marks s : List ℕ) (m : Model) : Type 0 where
   pub long : length marks ≡ 160

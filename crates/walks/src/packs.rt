@@ -5,11 +5,10 @@ ghost use mathlib.Core.Bool.{true, false};
 ghost use Prim.Native.Nat.{_+_, _*_, _-_, _≤_, _<_};
 ghost use lib.ListN.{length, take, drop};
 ghost use Rattle.format.specs.Coding.{Bytes};
-ghost use Rattle.coding.specs.Alike.{AlikeTo};
 ghost use Rattle.items.specs.Meet.{formOf, glanceTable};
 ghost use Rattle.walks.specs.Meet.{sizes};
 ghost use Rattle.walks.specs.Going.{SeriesGoing, quickAt};
-ghost use Rattle.walks.specs.Packs.{Laid, Modelled, Told};
+ghost use Rattle.walks.specs.Packs.{Laid, As, Modelled, Told};
 use super::Sizes;
 use super::quick;
 use super::quick::Quick;
@@ -62,17 +61,28 @@ fn lay(glances: &[u32], s: &[u8], alone: bool, marks: &mut [u8; 160]) -> Quick
     }
 }
 
-// Whether the items from one place to another are laid out as the model's.
-fn is_as(m: Model, marks: &[u8], s: &[u8], from: usize, next: usize) -> bool
-    requires { ⌜ (length (now marks) ≡ 160) × (from ≤ next) × (next ≤ length (now s)) × (next - from < 128) × (m .from ≤ from) ⌝ }
-    ensures { λ r. ⌜ (r ≡ true → (m .size ≡ next - from) × AlikeTo (now (marks .entry)) (drop (m .from) (now (s .entry))) (drop from (now (s .entry))) (next - from)) ⌝ }
+// Whether what stands from there on is laid out as the model's items, if there is a model.
+pub fn is_as(m: Model, marks: &[u8], s: &[u8], from: usize) -> bool
+    requires { ⌜ (length (now marks) ≡ 160) × (from ≤ length (now s)) × (m .from ≤ from) ⌝ }
+    ensures { λ r. ⌜ (r ≡ true → As (now (marks .entry)) (now (s .entry)) m from) ⌝ }
 {
-    let size = next - from;
-    if size != m.size {
+    let size = m.size;
+    if 127 < size {
         return false;
     }
     let model = m.from;
     coding::alike::are_alike(marks, &s[model..], &s[from..], size)
+}
+
+// The same of a pack's items, from one place to another.
+fn is_pack_as(m: Model, marks: &[u8], s: &[u8], from: usize, next: usize) -> bool
+    requires { ⌜ (length (now marks) ≡ 160) × (from ≤ next) × (next ≤ length (now s)) × (m .from ≤ from) ⌝ }
+    ensures { λ r. ⌜ (r ≡ true → (m .size ≡ next - from) × As (now (marks .entry)) (now (s .entry)) m from) ⌝ }
+{
+    if next - from != m.size {
+        return false;
+    }
+    is_as(m, marks, s, from)
 }
 
 // These items as the model, if they are all told at a glance and hold what a pack must.
@@ -177,7 +187,7 @@ fn many(glances: &[u32], s: &[u8], alone: bool) -> Quick
         }
         let from = p + width + used;
         let next = p + width + size;
-        if !is_as(m, &marks, s, from, next) {
+        if !is_pack_as(m, &marks, s, from, next) {
             if 64 * misses <= 512 + p {
                 m = model_of(glances, s, from, next, alone, &mut marks);
             } else {

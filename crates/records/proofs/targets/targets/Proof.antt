@@ -26,7 +26,7 @@ use Rattle.records.proofs.targets.targets.Lts as lts
 use Rattle.coding.proofs.eight_of.Reads as eight-of-reads
 use Rattle.coding.proofs.widths.oid_width.Reads as oid-width-reads
 use Rattle.heads.proofs.records.is_mark.Reads as is-mark-reads
-use Rattle.records.proofs.targets.is_as.Reads as is-as-reads
+use Rattle.records.proofs.targets.is_target_as.Reads as is-target-as-reads
 use Rattle.records.proofs.targets.model_of.Reads as model-of-reads
 use Rattle.records.proofs.targets.passed.Reads as passed-reads
 use Rattle.walks.proofs.packs.no_model.Reads as no-model-reads
@@ -38,7 +38,7 @@ abbrev μ-loop : tie.MeasureT-loop
 μ-loop glances s alone p₀ rows₀ normal₀ top₀ low₀ marks₀ m₀ p rows normal top low marks m = length s - p
 
 abbrev claims : lts.Claims
-claims = (no-model-reads.Asked, no-model-reads.Learnt, is-mark-reads.Asked, is-mark-reads.Learnt, passed-reads.Asked, passed-reads.Learnt, eight-of-reads.Asked, eight-of-reads.Learnt, is-as-reads.Asked, is-as-reads.Learnt, model-of-reads.Asked, model-of-reads.Learnt, oid-width-reads.Asked, oid-width-reads.Learnt)
+claims = (no-model-reads.Asked, no-model-reads.Learnt, is-mark-reads.Asked, is-mark-reads.Learnt, passed-reads.Asked, passed-reads.Learnt, eight-of-reads.Asked, eight-of-reads.Learnt, is-target-as-reads.Asked, is-target-as-reads.Learnt, model-of-reads.Asked, model-of-reads.Learnt, oid-width-reads.Asked, oid-width-reads.Learnt)
 
 abbrev At-loop : Type 0
 At-loop = lts.At-loop claims reads.Pre reads.Post Inv-loop μ-loop
@@ -95,7 +95,7 @@ model v =
     let i = v .before .before .before .before .before .before .before .before .loop .inv in
     ⊎-elim
     (λ x. let e = x .2 .ensures in let h = e .2 (omega (arith, x .4 .left)) in rw (x .5, x .6) (e .0, e .1, h .0, h .1))
-    (λ y. let e = v .before .is-as .ensures (not-false _ (y .0 .left)) in rw (y .1, y .2) (i .5, omega (arith, i .6), as-held (i .5) _ (λ k. v .before .before .before .before .before .before .before .before .before .before .before .before .shared-slice-known2 .given k .fits) (v .before .before .before .before .before .before .before .before .before .before .before .before .before .before .pre .1) e, e .2))
+    (λ y. let e = v .before .is-target-as .ensures (not-false _ (y .0 .left)) in rw (y .1, y .2) (i .5, omega (arith, i .6), as-held (i .5) _ (λ k. v .before .before .before .before .before .before .before .before .before .before .before .before .shared-slice-known2 .given k .fits) (v .before .before .before .before .before .before .before .before .before .before .before .before .before .before .pre .1) (e .0), e .1))
     (v .if7 .came)
 
 -- its sizes are small
@@ -156,11 +156,11 @@ returns-4 c = rw (c .passed4 .ensures) (stays (c .before .before .before .before
 add-from : tie.Need-add-from Inv-loop μ-loop
 add-from c = omega (arith, room c)
 
-slice-aggregate-is-as : tie.Need-slice-aggregate-is-as Inv-loop μ-loop
-slice-aggregate-is-as c = sym (c .before .before .before .before .before .before .loop .inv .5 .long)
+slice-aggregate-is-target-as : tie.Need-slice-aggregate-is-target-as Inv-loop μ-loop
+slice-aggregate-is-target-as c = sym (c .before .before .before .before .before .before .loop .inv .5 .long)
 
-is-as-requires : tie.Need-is-as-requires Inv-loop μ-loop
-is-as-requires c κs = let i = c .before .before .before .before .before .before .loop .inv in (i .5 .long, c .before .before .before .before .before .before .before .before .before .before .before .before .pre .1, omega (arith, room (c .before)), omega (arith, i .6))
+is-target-as-requires : tie.Need-is-target-as-requires Inv-loop μ-loop
+is-target-as-requires c κs = let i = c .before .before .before .before .before .before .loop .inv in (i .5 .long, c .before .before .before .before .before .before .before .before .before .before .before .before .pre .1, omega (arith, room (c .before)), omega (arith, i .6))
 
 model-of-requires : tie.Need-model-of-requires Inv-loop μ-loop
 model-of-requires c κs = (c .before .before .before .before .before .before .before .before .before .before .before .before .before .before .before .pre .0, c .before .before .before .before .before .before .before .before .before .before .before .before .before .before .before .pre .1, omega (arith, room (c .before .before .before .before)), c .before .before .before .before .before .before .before .before .before .loop .inv .5 .long)
@@ -246,8 +246,8 @@ targets-spec =
     passed-requires-4
     returns-4
     add-from
-    slice-aggregate-is-as
-    is-as-requires
+    slice-aggregate-is-target-as
+    is-target-as-requires
     model-of-requires
     passed-requires-5
     returns-5

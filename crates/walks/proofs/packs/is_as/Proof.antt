@@ -1,13 +1,11 @@
 -- `walks::packs::is_as` meets its contract.
 use native.Mathlib.Omega.{arith}
+use lib.ListN.{length-drop}
 use Rattle.format.proofs.words.Answers.{no-bool}
 use Rattle.coding.proofs.Rooms.{tail-part}
 use borrow.Author.Needs.{needs}
 use Rattle.walks.proofs.packs.is_as.Statement.{statement}
 use Rattle.walks.proofs.packs.is_as.Tie as tie
-
-sub-size : tie.Need-sub-size
-sub-size c = search needs
 
 returns : tie.Need-returns
 returns c = λ e. no-bool e
@@ -35,14 +33,15 @@ are-alike-requires c κs = search needs
 
 returns-2 : tie.Need-returns-2
 returns-2 c =
-    let a = c .before .before .before .before .before .before .before .args in
-    λ e. (omega (arith, c .before .before .before .if1 .left), rw (tail-part (a .m .from) (a .s .now), tail-part (a .from) (a .s .now)) at (c .are-alike .ensures e .0))
+    let a = c .before .before .before .before .before .before .args in
+    λ e.
+    let h = rw (tail-part (a .m .from) (a .s .now), tail-part (a .from) (a .s .now)) at (c .are-alike .ensures e) in
+    record { small = omega (arith, c .before .before .before .if1 .left); alike = h .0; within = omega (arith, h .1, length-drop (a .from) (a .s .now), c .before .before .before .before .before .before .pre .1) }
 
 pub is-as-spec : {M : Type 1} → statement M
 is-as-spec =
     tie.close
     (tie.spec
-    sub-size
     returns
     sub-are-alike
     part-are-alike-start

@@ -23,7 +23,7 @@ use Rattle.walks.proofs.packs.many.Lts as lts
 use Rattle.heads.proofs.short_pack_head.Reads as short-pack-head-reads
 use Rattle.walks.proofs.packs.no_model.Reads as no-model-reads
 use Rattle.walks.proofs.packs.passed.Reads as passed-reads
-use Rattle.walks.proofs.packs.is_as.Reads as is-as-reads
+use Rattle.walks.proofs.packs.is_pack_as.Reads as is-pack-as-reads
 use Rattle.walks.proofs.packs.model_of.Reads as model-of-reads
 use Rattle.walks.proofs.packs.unmodelled.Reads as unmodelled-reads
 
@@ -36,7 +36,7 @@ abbrev μ-loop : tie.MeasureT-loop
     length s - p
 
 abbrev Head-read : Type 0
-Head-read = lts.After-h (no-model-reads.Asked, no-model-reads.Learnt, short-pack-head-reads.Asked, short-pack-head-reads.Learnt, passed-reads.Asked, passed-reads.Learnt, is-as-reads.Asked, is-as-reads.Learnt, model-of-reads.Asked, model-of-reads.Learnt, unmodelled-reads.Asked, unmodelled-reads.Learnt) reads.Pre reads.Post Inv-loop μ-loop
+Head-read = lts.After-h (no-model-reads.Asked, no-model-reads.Learnt, short-pack-head-reads.Asked, short-pack-head-reads.Learnt, passed-reads.Asked, passed-reads.Learnt, is-pack-as-reads.Asked, is-pack-as-reads.Learnt, model-of-reads.Asked, model-of-reads.Learnt, unmodelled-reads.Asked, unmodelled-reads.Learnt) reads.Pre reads.Post Inv-loop μ-loop
 
 -- its length has one byte, its id one or two
 short : (a : Head-read) → (a .h .given .0 .1 .1 .0 ≡ 1) × (a .h .given .0 .1 .1 .1 .0 < 128) × (a .h .given .0 .1 .0 ≤ 2)
@@ -58,7 +58,7 @@ room : (a : Head-read) → (a .before .before .before .before .before .loop .p +
 room a = (head-room (here a), head-stood (here a) .body, a .before .before .before .before .before .before .before .before .before .pre .1)
 
 -- its id is new, and between the bounds that the code has then
-reached : (j : lts.Joined1 (no-model-reads.Asked, no-model-reads.Learnt, short-pack-head-reads.Asked, short-pack-head-reads.Learnt, passed-reads.Asked, passed-reads.Learnt, is-as-reads.Asked, is-as-reads.Learnt, model-of-reads.Asked, model-of-reads.Learnt, unmodelled-reads.Asked, unmodelled-reads.Learnt) reads.Pre reads.Post Inv-loop μ-loop) → Reached (j .before .before .before .before .before .before .before .loop .p) (j .before .before .before .before .before .before .before .loop .top) (j .before .before .before .before .before .before .before .loop .low) (j .before .before .h .given .0 .0) (j .if1 .top) (j .if1 .low)
+reached : (j : lts.Joined1 (no-model-reads.Asked, no-model-reads.Learnt, short-pack-head-reads.Asked, short-pack-head-reads.Learnt, passed-reads.Asked, passed-reads.Learnt, is-pack-as-reads.Asked, is-pack-as-reads.Learnt, model-of-reads.Asked, model-of-reads.Learnt, unmodelled-reads.Asked, unmodelled-reads.Learnt) reads.Pre reads.Post Inv-loop μ-loop) → Reached (j .before .before .before .before .before .before .before .loop .p) (j .before .before .before .before .before .before .before .loop .top) (j .before .before .before .before .before .before .before .loop .low) (j .before .before .h .given .0 .0) (j .if1 .top) (j .if1 .low)
 reached j =
     let i = j .before .before .before .before .before .before .before .loop .inv in
     let most = head-stood (here (j .before .before)) .id-range in
@@ -71,7 +71,7 @@ reached j =
     (j .if1 .came)
 
 -- the model then, as which this pack's items are told
-model : (j : lts.Joined4 (no-model-reads.Asked, no-model-reads.Learnt, short-pack-head-reads.Asked, short-pack-head-reads.Learnt, passed-reads.Asked, passed-reads.Learnt, is-as-reads.Asked, is-as-reads.Learnt, model-of-reads.Asked, model-of-reads.Learnt, unmodelled-reads.Asked, unmodelled-reads.Learnt) reads.Pre reads.Post Inv-loop μ-loop) → Modelled (j .before .before .before .before .before .before .before .before .before .before .before .before .before .before .args .alone) (j .if4 .marks) (j .before .before .before .before .before .before .before .before .before .before .before .before .before .before .args .s .now) (j .if4 .m) × (j .if4 .m .from ≤ j .before .before .before .before .before .before .before .before .before .before .loop .p + j .before .before .before .before .before .h .given .0 .1 .1 .0 + j .before .before .before .before .before .h .given .0 .1 .0) × Told (j .before .before .before .before .before .before .before .before .before .before .before .before .before .before .args .alone) (take (j .before .before .before .before .before .before .before .before .before .before .loop .p + j .before .before .before .before .before .h .given .0 .1 .1 .0 + j .before .before .before .before .before .h .given .0 .1 .1 .1 .0 - (j .before .before .before .before .before .before .before .before .before .before .loop .p + j .before .before .before .before .before .h .given .0 .1 .1 .0 + j .before .before .before .before .before .h .given .0 .1 .0)) (drop (j .before .before .before .before .before .before .before .before .before .before .loop .p + j .before .before .before .before .before .h .given .0 .1 .1 .0 + j .before .before .before .before .before .h .given .0 .1 .0) (j .before .before .before .before .before .before .before .before .before .before .before .before .before .before .args .s .now))) (j .if4 .m .rows) × (j .if4 .misses ≤ j .before .before .before .before .before .before .before .before .before .before .loop .p + 1)
+model : (j : lts.Joined4 (no-model-reads.Asked, no-model-reads.Learnt, short-pack-head-reads.Asked, short-pack-head-reads.Learnt, passed-reads.Asked, passed-reads.Learnt, is-pack-as-reads.Asked, is-pack-as-reads.Learnt, model-of-reads.Asked, model-of-reads.Learnt, unmodelled-reads.Asked, unmodelled-reads.Learnt) reads.Pre reads.Post Inv-loop μ-loop) → Modelled (j .before .before .before .before .before .before .before .before .before .before .before .before .before .before .args .alone) (j .if4 .marks) (j .before .before .before .before .before .before .before .before .before .before .before .before .before .before .args .s .now) (j .if4 .m) × (j .if4 .m .from ≤ j .before .before .before .before .before .before .before .before .before .before .loop .p + j .before .before .before .before .before .h .given .0 .1 .1 .0 + j .before .before .before .before .before .h .given .0 .1 .0) × Told (j .before .before .before .before .before .before .before .before .before .before .before .before .before .before .args .alone) (take (j .before .before .before .before .before .before .before .before .before .before .loop .p + j .before .before .before .before .before .h .given .0 .1 .1 .0 + j .before .before .before .before .before .h .given .0 .1 .1 .1 .0 - (j .before .before .before .before .before .before .before .before .before .before .loop .p + j .before .before .before .before .before .h .given .0 .1 .1 .0 + j .before .before .before .before .before .h .given .0 .1 .0)) (drop (j .before .before .before .before .before .before .before .before .before .before .loop .p + j .before .before .before .before .before .h .given .0 .1 .1 .0 + j .before .before .before .before .before .h .given .0 .1 .0) (j .before .before .before .before .before .before .before .before .before .before .before .before .before .before .args .s .now))) (j .if4 .m .rows) × (j .if4 .misses ≤ j .before .before .before .before .before .before .before .before .before .before .loop .p + 1)
 model j =
     let a = j .before .before .before .before .before in
     let i = j .before .before .before .before .before .before .before .before .before .before .loop .inv in
@@ -80,7 +80,7 @@ model j =
     (λ y. let e = y .2 .ensures in rw (y .3, y .4) (e .0, e .1, e .2 (omega (arith, x .3 .left, ap (λ (m : Model). m .rows) (y .4))), omega (arith, x .6, i .5)))
     (λ y. let e = y .1 .ensures in rw (y .2, y .3) (no-items (e .0) (e .1) (i .3 .long), omega (arith, e .0), e .2 (omega (arith, x .3 .left, ap (λ (m : Model). m .rows) (y .3))), omega (arith, x .6, i .5)))
     (x .1 .came)))
-    (λ y. rw (y .1, y .2) (i .3, omega (arith, i .4), as-model (i .3) _ _ (omega (arith, room a)) (omega (arith, room a)) (omega (arith, room a, short a)) (λ k. j .before .before .before .before .before .before .before .before .before .before .before .before .shared-slice-known2 .given k .fits) (j .before .is-as .ensures (not-false _ (y .0 .left))), omega (arith, y .3, i .5)))
+    (λ y. rw (y .1, y .2) (i .3, omega (arith, i .4), as-model (i .3) _ _ (omega (arith, room a)) (omega (arith, room a)) (λ k. j .before .before .before .before .before .before .before .before .before .before .before .before .shared-slice-known2 .given k .fits) (j .before .is-pack-as .ensures (not-false _ (y .0 .left))), omega (arith, y .3, i .5)))
     (j .if4 .came)
 
 no-model-requires : tie.Need-no-model-requires Inv-loop μ-loop
@@ -131,14 +131,14 @@ add-next c = omega (arith, room (c .before .before))
 add-next-2 : tie.Need-add-next-2 Inv-loop μ-loop
 add-next-2 c = omega (arith, room (c .before .before))
 
-slice-aggregate-is-as : tie.Need-slice-aggregate-is-as Inv-loop μ-loop
-slice-aggregate-is-as c = sym (c .before .before .before .before .before .before .before .before .loop .inv .3 .long)
+slice-aggregate-is-pack-as : tie.Need-slice-aggregate-is-pack-as Inv-loop μ-loop
+slice-aggregate-is-pack-as c = sym (c .before .before .before .before .before .before .before .before .loop .inv .3 .long)
 
-is-as-requires : tie.Need-is-as-requires Inv-loop μ-loop
-is-as-requires c κs =
+is-pack-as-requires : tie.Need-is-pack-as-requires Inv-loop μ-loop
+is-pack-as-requires c κs =
     let a = c .before .before .before in
     let i = c .before .before .before .before .before .before .before .before .loop .inv in
-    (i .3 .long, omega (arith, room a), omega (arith, room a), omega (arith, room a, short a), omega (arith, i .4))
+    (i .3 .long, omega (arith, room a), omega (arith, room a), omega (arith, i .4))
 
 mul-if5 : tie.Need-mul-if5 Inv-loop μ-loop
 mul-if5 c = omega (arith, c .before .before .before .before .before .before .before .before .before .before .loop .inv .5, room (c .before .before .before .before .before))
@@ -216,8 +216,8 @@ many-spec =
     add-from-2
     add-next
     add-next-2
-    slice-aggregate-is-as
-    is-as-requires
+    slice-aggregate-is-pack-as
+    is-pack-as-requires
     mul-if5
     add-if5
     model-of-requires

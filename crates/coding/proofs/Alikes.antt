@@ -39,14 +39,15 @@ alike-more {marks = marks} {a = a} {b = b} {i = i} h e = record { at = λ j l. g
     go j l true z = h .at j (ltb-true j i z)
     go j l false z = let s : j ≡ i = omega (arith, ltb-false j i z) in rw s e
 
-pub alike-on : {marks a b : List ℕ} {i n : ℕ} → AlikeTo marks a b i → AlikeTo (drop i marks) (drop i a) (drop i b) n → AlikeTo marks a b (i + n)
-alike-on {marks = marks} {a = a} {b = b} {i = i} {n = n} h e = record { at = λ j l. go j l (ltb j i) refl }
+-- and some more, from k on
+pub alike-on : {marks a b : List ℕ} {i n : ℕ} → AlikeTo marks a b i → (k : ℕ) → k ≤ i → AlikeTo (drop k marks) (drop k a) (drop k b) n → AlikeTo marks a b (k + n)
+alike-on {marks = marks} {a = a} {b = b} {i = i} {n = n} h k to e = record { at = λ j l. go j l (ltb j i) refl }
   where
-    go : (j : ℕ) → j < i + n → (x : Bool) → ltb j i ≡ x → Alike (getD marks j 0) (getD a j 0) (getD b j 0)
+    go : (j : ℕ) → j < k + n → (x : Bool) → ltb j i ≡ x → Alike (getD marks j 0) (getD a j 0) (getD b j 0)
     go j l true z = h .at j (ltb-true j i z)
     go j l false z =
-        let s : i + (j - i) ≡ j = omega (arith, ltb-false j i z) in
-        rw (getD-drop i marks (j - i) 0, getD-drop i a (j - i) 0, getD-drop i b (j - i) 0, s) at (e .at (j - i) (omega (arith, ltb-false j i z)))
+        let s : k + (j - k) ≡ j = omega (arith, ltb-false j i z) in
+        rw (getD-drop k marks (j - k) 0, getD-drop k a (j - k) 0, getD-drop k b (j - k) 0, s) at (e .at (j - k) (omega (arith, ltb-false j i z)))
 
 pub alike-less : {marks a b : List ℕ} {i n : ℕ} → AlikeTo marks a b i → n ≤ i → AlikeTo marks a b n
 alike-less h l = record { at = λ j m. h .at j (omega arith) }

@@ -9,10 +9,10 @@ use lib.ListN.{length, take, drop, getD}
 use lib.Seq.{drop-cons}
 use Rattle.format.specs.Packet.{sums, checksum}
 
-pub record SumLeft (s : List ℕ) (n pairs odd i : ℕ) : Type 0 where
+pub record SumLeft (s : List ℕ) (n even odd i : ℕ) : Type 0 where
   pub to : i ≤ n
-  pub small : (pairs < 65536) × (odd < 65536)
-  pub rest : sums (take n s) % 65536 ≡ (pairs * 256 + odd + sums (take (n - i) (drop i s))) % 65536
+  pub small : (even < 65536) × (odd < 65536)
+  pub rest : sums (take n s) % 65536 ≡ (even * 256 + odd + sums (take (n - i) (drop i s))) % 65536
 
 pub sum-start : (s : List ℕ) (n : ℕ) → SumLeft s n 0 0 0
 sum-start s n = let e : n - 0 ≡ n = omega arith in record { to = omega arith; small = (omega arith, omega arith); rest = rw e (omega arith) }
@@ -21,38 +21,36 @@ sum-start s n = let e : n - 0 ≡ n = omega arith in record { to = omega arith; 
 whole : (x k : ℕ) → (x + k * 65536) % 65536 ≡ x % 65536
 whole x k = add-mod x (k * 65536) 65536 ∙ rw (mul-mod-left k 65536) (omega arith)
 
--- a pair's low byte, times 256, and its high one are what is added; all else is cut
-cut : (pairs odd a b r w p o : ℕ) → a < 256 → w ≡ a + 256 * b → p ≡ (pairs + w) % 65536 → o ≡ (odd + w / 256) % 65536
-    → (pairs * 256 + odd + (a * 256 + b + r)) % 65536 ≡ (p * 256 + o + r) % 65536
-cut pairs odd a b r w p o la ew ep eo =
-    let h : w / 256 ≡ b = omega arith in
-    let k = (pairs + w) / 65536 * 256 + (odd + w / 256) / 65536 in
-    let e : pairs * 256 + odd + (a * 256 + b + r) + b * 65536 ≡ p * 256 + o + r + k * 65536 = omega arith in
-    sym (whole (pairs * 256 + odd + (a * 256 + b + r)) b) ∙ ap (λ z. z % 65536) e ∙ whole (p * 256 + o + r) k
+-- a byte at an even place, times 256, and the next are what is added
+cut : (even odd a b r p o : ℕ) → p ≡ (even + a) % 65536 → o ≡ (odd + b) % 65536 → (even * 256 + odd + (a * 256 + b + r)) % 65536 ≡ (p * 256 + o + r) % 65536
+cut even odd a b r p o ep eo =
+    let k = (even + a) / 65536 * 256 + (odd + b) / 65536 in
+    let e : even * 256 + odd + (a * 256 + b + r) ≡ p * 256 + o + r + k * 65536 = omega arith in
+    ap (λ z. z % 65536) e ∙ whole (p * 256 + o + r) k
 
-module _ (s : List ℕ) (n pairs odd i : ℕ) (l : SumLeft s n pairs odd i) (g : n ≤ length s) where
-  pub sum-more : i + 1 < n → (a b w p o : ℕ) → a ≡ getD s i 0 → b ≡ getD s (i + 1) 0 → a < 256 → w ≡ a + 256 * b → p ≡ (pairs + w) % 65536 → o ≡ (odd + w / 256) % 65536 → SumLeft s n p o (i + 2)
+module _ (s : List ℕ) (n even odd i : ℕ) (l : SumLeft s n even odd i) (g : n ≤ length s) where
+  pub sum-more : i + 1 < n → (a b p o : ℕ) → a ≡ getD s i 0 → b ≡ getD s (i + 1) 0 → p ≡ (even + a) % 65536 → o ≡ (odd + b) % 65536 → SumLeft s n p o (i + 2)
   unfolding sums
-  sum-more h a b w p o ea eb la ew ep eo =
+  sum-more h a b p o ea eb ep eo =
       let e : n - i ≡ suc (suc (n - (i + 2))) = omega arith in
       let d : i + 2 ≡ suc (suc i) = omega arith in
       let c : drop i s ≡ a ∷ b ∷ drop (i + 2) s = drop-cons s i 0 (omega arith) ∙ rw (drop-cons s (suc i) 0 (omega arith), ea, eb, d, add-one) in
       let v : sums (take (n - i) (drop i s)) ≡ a * 256 + b + sums (take (n - (i + 2)) (drop (i + 2) s)) = rw (e, c) in
-      record { to = omega arith; small = (omega arith, omega arith); rest = l .rest ∙ ap (λ z. (pairs * 256 + odd + z) % 65536) v ∙ cut pairs odd a b (sums (take (n - (i + 2)) (drop (i + 2) s))) w p o la ew ep eo }
+      record { to = omega arith; small = (omega arith, omega arith); rest = l .rest ∙ ap (λ z. (even * 256 + odd + z) % 65536) v ∙ cut even odd a b (sums (take (n - (i + 2)) (drop (i + 2) s))) p o ep eo }
 
-  pub sum-odd : n ≤ i + 1 → i < n → (a : ℕ) → a ≡ getD s i 0 → (pairs * 256 + odd + a * 256) % 65536 ≡ checksum (take n s)
+  pub sum-odd : n ≤ i + 1 → i < n → (a : ℕ) → a ≡ getD s i 0 → (even * 256 + odd + a * 256) % 65536 ≡ checksum (take n s)
   unfolding sums checksum
   sum-odd h k a ea =
       let e : n - i ≡ 1 = omega arith in
       let c : drop i s ≡ a ∷ drop (suc i) s = drop-cons s i 0 (omega arith) ∙ rw ea in
       let v : sums (take (n - i) (drop i s)) ≡ a * 256 = rw (e, c) in
-      let w : sums (take n s) % 65536 ≡ (pairs * 256 + odd + a * 256) % 65536 = l .rest ∙ ap (λ z. (pairs * 256 + odd + z) % 65536) v in
+      let w : sums (take n s) % 65536 ≡ (even * 256 + odd + a * 256) % 65536 = l .rest ∙ ap (λ z. (even * 256 + odd + z) % 65536) v in
       rw w
 
-  pub sum-even : n ≤ i → (pairs * 256 + odd) % 65536 ≡ checksum (take n s)
+  pub sum-even : n ≤ i → (even * 256 + odd) % 65536 ≡ checksum (take n s)
   unfolding sums checksum
   sum-even h =
       let e : n - i ≡ 0 = omega arith in
       let v : sums (take (n - i) (drop i s)) ≡ 0 = rw e in
-      let w : sums (take n s) % 65536 ≡ (pairs * 256 + odd) % 65536 = l .rest ∙ rw v (omega arith) in
+      let w : sums (take n s) % 65536 ≡ (even * 256 + odd) % 65536 = l .rest ∙ rw v (omega arith) in
       rw w

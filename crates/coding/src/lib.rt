@@ -174,28 +174,20 @@ pub fn has_key(s: &[u8]) -> bool
     alike
 }
 
-// Two bytes as one number, the second the high one: as a processor reads them.
-fn pair_of(a: u8, b: u8) -> u16
-    ensures { λ r. ⌜ (r ≡ a + 256 * b) × (a < 256) ⌝ }
-{
-    (a as u16) + 256 * (b as u16)
-}
-
-// The checksum of the first n bytes: pairs are added up, and their high bytes, all cut to 16 bits. Times 256, of a pair the low byte is left.
+// The checksum of the first n bytes: those at even places count 256 times. Two sums, each cut to 16 bits.
 pub fn sum_of(s: &[u8], n: usize) -> u64
     requires { ⌜ n ≤ length (now s) ⌝ }
     ensures { λ r. ⌜ r ≡ checksum (take n (now (s .entry))) ⌝ }
 {
-    let mut pairs: u16 = 0;
+    let mut even: u16 = 0;
     let mut odd: u16 = 0;
     let mut i: usize = 0;
     while i + 1 < n {
-        let w = pair_of(s[i], s[i + 1]);
-        pairs = std::num::wrapping_add_u16(pairs, w);
-        odd = std::num::wrapping_add_u16(odd, w / 256);
+        even = std::num::wrapping_add_u16(even, s[i] as u16);
+        odd = std::num::wrapping_add_u16(odd, s[i + 1] as u16);
         i += 2;
     }
-    let t = (pairs as u64) * 256 + (odd as u64);
+    let t = (even as u64) * 256 + (odd as u64);
     if i < n {
         return (t + wide(s[i]) * 256) % 65536;
     }

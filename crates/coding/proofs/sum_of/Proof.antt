@@ -1,6 +1,6 @@
 -- `coding::sum_of` meets its contract: after i bytes, an even count, the two sums are what they add up to; the last byte of an odd count stands alone.
 use mathlib.Core.Path.{refl}
-use Prim.Native.Nat.{_-_}
+use Prim.Native.Nat.{_+_, _-_}
 use native.Mathlib.Omega.{arith}
 use borrow.Author.Needs.{needs}
 use Rattle.coding.proofs.Sums.{SumLeft, sum-start, sum-more, sum-odd, sum-even}
@@ -8,10 +8,10 @@ use Rattle.coding.proofs.sum_of.Statement.{statement}
 use Rattle.coding.proofs.sum_of.Tie as tie
 
 abbrev Inv-loop : tie.InvT-loop
-Inv-loop s n pairs₀ odd₀ i₀ pairs odd i = SumLeft s n pairs odd i
+Inv-loop s n even₀ odd₀ i₀ even odd i = SumLeft s n even odd i
 
 abbrev μ-loop : tie.MeasureT-loop
-μ-loop s n pairs₀ odd₀ i₀ pairs odd i = n - i
+μ-loop s n even₀ odd₀ i₀ even odd i = n - i
 
 loop-holds : tie.Need-loop-holds Inv-loop μ-loop
 loop-holds c = sum-start _ _
@@ -19,20 +19,24 @@ loop-holds c = sum-start _ _
 add-loop : tie.Need-add-loop Inv-loop μ-loop
 add-loop c = search needs
 
-shared-slice-read-pair-of : tie.Need-shared-slice-read-pair-of Inv-loop μ-loop
-shared-slice-read-pair-of c = search needs
+shared-slice-read-wrapping-add-u16 : tie.Need-shared-slice-read-wrapping-add-u16 Inv-loop μ-loop
+shared-slice-read-wrapping-add-u16 c = search needs
 
-add-pair-of : tie.Need-add-pair-of Inv-loop μ-loop
-add-pair-of c = search needs
-
-shared-slice-read-pair-of-2 : tie.Need-shared-slice-read-pair-of-2 Inv-loop μ-loop
-shared-slice-read-pair-of-2 c = search needs
-
-pair-of-requires : tie.Need-pair-of-requires Inv-loop μ-loop
-pair-of-requires c κs = search needs
+cast-wrapping-add-u16 : tie.Need-cast-wrapping-add-u16 Inv-loop μ-loop
+cast-wrapping-add-u16 c = omega (arith, c .shared-slice-known2 .given (c .before .before .loop .i) .fits)
 
 wrapping-add-u16-requires : tie.Need-wrapping-add-u16-requires Inv-loop μ-loop
 wrapping-add-u16-requires c κs = search needs
+
+add-wrapping-add-u16 : tie.Need-add-wrapping-add-u16 Inv-loop μ-loop
+add-wrapping-add-u16 c = search needs
+
+shared-slice-read-wrapping-add-u16-2 :
+    tie.Need-shared-slice-read-wrapping-add-u16-2 Inv-loop μ-loop
+shared-slice-read-wrapping-add-u16-2 c = search needs
+
+cast-wrapping-add-u16-2 : tie.Need-cast-wrapping-add-u16-2 Inv-loop μ-loop
+cast-wrapping-add-u16-2 c = omega (arith, c .shared-slice-known3 .given (c .before .before .before .before .loop .i + 1) .fits)
 
 wrapping-add-u16-requires-2 : tie.Need-wrapping-add-u16-requires-2 Inv-loop μ-loop
 wrapping-add-u16-requires-2 c κs = search needs
@@ -44,7 +48,7 @@ loop-less : tie.Need-loop-less Inv-loop μ-loop
 loop-less c = search needs
 
 loop-again : tie.Need-loop-again Inv-loop μ-loop
-loop-again c = let w = c .before .before .pair-of .ensures in sum-more _ _ _ _ _ (c .before .before .before .before .before .before .loop .inv) (omega arith) (omega arith) _ _ _ _ _ refl refl (w .1) (w .0) (c .before .wrapping-add-u16 .ensures) (c .wrapping-add-u162 .ensures)
+loop-again c = sum-more _ _ _ _ _ (c .before .before .before .before .before .loop .inv) (omega arith) (omega arith) _ _ _ _ refl refl (c .before .before .wrapping-add-u16 .ensures) (c .wrapping-add-u162 .ensures)
 
 cast-t : tie.Need-cast-t Inv-loop μ-loop
 cast-t c = search needs
@@ -84,11 +88,12 @@ sum-of-spec =
     μ-loop
     loop-holds
     add-loop
-    shared-slice-read-pair-of
-    add-pair-of
-    shared-slice-read-pair-of-2
-    pair-of-requires
+    shared-slice-read-wrapping-add-u16
+    cast-wrapping-add-u16
     wrapping-add-u16-requires
+    add-wrapping-add-u16
+    shared-slice-read-wrapping-add-u16-2
+    cast-wrapping-add-u16-2
     wrapping-add-u16-requires-2
     add-i
     loop-less

@@ -23,8 +23,12 @@ loop-holds c = (omega arith, omega arith, alike-none _ _ _)
 sub-if1 : tie.Need-sub-if1 Inv-loop μ-loop
 sub-if1 c = search needs
 
+are-last-alike-requires : tie.Need-are-last-alike-requires Inv-loop μ-loop
+are-last-alike-requires c κs = search needs
+
 returns : tie.Need-returns Inv-loop μ-loop
-returns c = λ e. no-bool e
+returns c =
+    λ e. let (few, room, h) = c .are-last-alike .ensures e in let i = c .before .before .before .loop in (alike-less (alike-on (i .inv .2) (c .before .before .before .before .before .before .before .args .n - 32) (omega (arith, c .before .if1 .taken, room)) h) (omega (arith, few)), room)
 
 sub-some-alike : tie.Need-sub-some-alike Inv-loop μ-loop
 sub-some-alike c = search needs
@@ -71,7 +75,7 @@ loop-again c =
     let m = x .marks .now in
     let a = x .a .now in
     let b = x .b .now in
-    (omega arith, omega arith, alike-on (c .before .before .before .before .before .before .before .loop .inv .2) (rw (tail-part _ m, tail-part _ a, tail-part _ b) at (c .before .some-alike .ensures (not-false _ (c .if2 .left)))))
+    (omega arith, omega arith, alike-on (c .before .before .before .before .before .before .before .loop .inv .2) _ (omega arith) (rw (tail-part _ m, tail-part _ a, tail-part _ b) at (c .before .some-alike .ensures (not-false _ (c .if2 .left)))))
 
 returns-3 : tie.Need-returns-3 Inv-loop μ-loop
 returns-3 c = λ _. (alike-less (c .before .loop .inv .2) (omega arith), omega (arith, c .before .loop .inv .0))
@@ -84,6 +88,7 @@ are-alike-spec =
     μ-loop
     loop-holds
     sub-if1
+    are-last-alike-requires
     returns
     sub-some-alike
     part-some-alike-start

@@ -20,9 +20,10 @@ use Rattle.heads.specs.declared.Head.the-variants as heads
 use Rattle.heads.specs.Meet.{itemHeadOf}
 use Rattle.walks.specs.declared.Sizes.{Sizes}
 use Rattle.walks.specs.declared.Walked.{Walked}
+use Rattle.walks.specs.declared.quick.Quick.{Quick}
 use Rattle.walks.specs.declared.Walked.the-variants.{Good}
 use Rattle.walks.specs.Meet.{itemSizes, seriesSizes, plusSizes, seriesWalk, seriesFrom, Small, Within}
-use Rattle.walks.specs.Going.{LevelGoing}
+use Rattle.walks.specs.Going.{LevelGoing, quickAt}
 use Rattle.walks.proofs.Turns.{within-more}
 use Rattle.walks.proofs.Pieces.{piece-within}
 use Rattle.walks.proofs.ItemTurns.{ItemAt, EntryTold, item-told, series-told, good-small, entry-more}
@@ -105,18 +106,20 @@ module _ {f : Form} {s : List ℕ} {p : ℕ} {sum : Sizes} {mark : Bool} {top lo
       told-so : EntryTold series-item (Good (seriesSizes a) false)
       told-so = series-told series-item {x = true} refl refl walked (ap (seriesFrom (u + w)) (sym good))
 
-      pub series-small : Small a
-      series-small = subst (λ x. Within x 65536) good (within-more y (length packs) 65536 (omega (arith, packs-long, head-room, i .most)) (ey .1))
+      small : Small a
+      small = subst (λ x. Within x 65536) good (within-more y (length packs) 65536 (omega (arith, packs-long, head-room, i .most)) (ey .1))
 
-      -- z is what the code says of its sizes
-      module _ {z : Sizes} (ez : z ≡ seriesSizes a) where
-        pub series-sums : Small sum × Small z
-        series-sums = rw ez (good-small series-item told-so refl)
+      sums : Small sum × Small (seriesSizes a)
+      sums = good-small series-item told-so refl
 
-        pub series-more : {sum′ : Sizes} → sum′ ≡ plusSizes sum z → {low′ : ℕ} → (low′ ≤ low) × (low′ ≤ 101) → LevelGoing true f s (p + u + w + n) sum′ mark 101 low′
-        series-more es el =
-            let e : p + u + w + n ≡ p + (u + w) + n = omega arith in
-            rw e (entry-more series-item told-so refl (es ∙ ap (plusSizes sum) ez) (or-false mark refl) (omega (arith, next .1), omega arith) el)
+      -- what `after_series` asks for, and what it hands back
+      pub series-asks : Small a × Small sum × Small (seriesSizes a)
+      series-asks = (small, sums .0, sums .1)
+
+      pub series-goes : {r : Quick} → (r .low ≤ low) × (r .low ≤ 101) × (r ≡ quickAt (p + u + w + n) (plusSizes sum (seriesSizes a)) mark 101 (r .low)) → LevelGoing true f s (r .at) (r .sizes) (r .mark) (r .top) (r .low)
+      series-goes (l, m, e) =
+          let n-is : p + u + w + n ≡ p + (u + w) + n = omega arith in
+          rw (e, n-is) (entry-more series-item told-so refl refl (or-false mark refl) (omega (arith, next .1), omega arith) (l, m))
 
   -- ---- it is the checksum, and ends the set
 

@@ -62,7 +62,7 @@ fn after_series(q: Quick, next: usize, sizes: Sizes) -> Quick
     quick::stands(next, sum, q.mark, 101, walks::smaller(q.low, 101))
 }
 
-// On over the series, if it stands next. A refusal in it is left to the item walk.
+// On over the series, if it stands next. A refusal in it is left to the item walk, and so is a lone pack that is not told at a glance.
 fn series(glances: &[u32], s: &[u8], alone: bool, q: Quick) -> Quick
     requires { ⌜ (now glances ≡ glanceTable) × (length (now s) ≤ 8192) × LevelGoing true (formOf alone) (now s) (q .at) (q .sizes) (q .mark) (q .top) (q .low) ⌝ }
     ensures { λ r. ⌜ LevelGoing true (formOf alone) (now (s .entry)) (r .at) (r .sizes) (r .mark) (r .top) (r .low) ⌝ }
@@ -84,6 +84,13 @@ fn series(glances: &[u32], s: &[u8], alone: bool, q: Quick) -> Quick
     let from = p + used + width;
     let next = from + size;
     let packs = &s[from..next];
+    if walks::packs::is_lone(packs) {
+        let one = walks::packs::lone(glances, packs, alone);
+        if one.at == packs.len() {
+            return after_series(q, next, one.sizes);
+        }
+        return q;
+    }
     let d = walks::packs::packs(glances, packs, alone);
     // no enum goes through memory where all are told at a glance
     if d.at == packs.len() {

@@ -8,30 +8,25 @@ use lib.ListN.{length}
 use lib.Dec.{ltb}
 use borrow.Author.Tests.{ltb-true, ltb-false}
 use Rattle.format.specs.Answer.{ok}
-use Rattle.format.specs.Coding.{Bytes}
-use Rattle.format.specs.Lists.{flatAll}
 use Rattle.format.specs.Table.{Form}
-use Rattle.format.specs.Packet.{Entry, Packet, flatEntry, closed}
-use Rattle.format.specs.Read.{opening, start, parse}
+use Rattle.format.specs.Packet.{closed}
+use Rattle.format.specs.Read.{parse}
 use Rattle.format.specs.Calls.{packed}
 use Rattle.format.specs.Room.{leaves}
 use Rattle.format.specs.Edit.{Holder, Change, editRules, editEntries, edit}
 use Rattle.format.proofs.words.Answers.{no-bool}
 use Rattle.format.proofs.sheets.Normal.{entries-less}
-use Rattle.items.proofs.Tests.{bind-not}
-use Rattle.walks.specs.declared.Sizes.{Sizes}
-use Rattle.walks.proofs.Parsed.{Parsed}
+use Rattle.items.proofs.Tests.{bind-so, bind-not}
 use Rattle.checks.specs.declared.Checked.{Checked}
-use Rattle.checks.specs.declared.Checked.the-variants.{Fine, Wrong}
+use Rattle.checks.specs.declared.Checked.the-variants.{Wrong}
 use Rattle.checks.specs.Meet.{checkedOf}
 use Rattle.checks.proofs.Parsing.{wrong-parsed}
-use Rattle.checks.proofs.Opened.{fine, opened, lentSet, lent-is}
 use Rattle.frames.specs.Meet.{frameSize}
 use Rattle.edits.specs.declared.Place.{Place}
 use Rattle.edits.specs.declared.Found.{Found}
 use Rattle.edits.specs.declared.Found.the-variants.{There, Not}
-use Rattle.edits.specs.Meet.{changeOf, keptOf, sheetOf, editedOf, Placed, verdictOf, PlacedIf, Judged, Brief, Editing}
-use Rattle.edits.proofs.Callers.{setAt, set-is, edit-refused, edit-packed, judged-no, judged-yes, long-edit}
+use Rattle.edits.specs.Meet.{changeOf, keptOf, sheetOf, editedOf, setEdited, Placed, verdictOf, PlacedIf, Judged, Brief}
+use Rattle.edits.proofs.Callers.{judged-no, long-edit}
 use Rattle.answers.specs.declared.Answer.{Answer}
 use Rattle.answers.specs.Meet.{leftOf, answerOf, refusalOf}
 use Rattle.answers.proofs.Leaving.{left-refused}
@@ -55,56 +50,40 @@ module _ (removal : Bool) (v : List ℕ) {x : Bool} (ex : x ≡ (not removal && 
       go true z e = absurd (no-bool z)
       go false z e = long-edit f h tag v s p k tt e (ltb-true 8192 (length v) z)
 
+-- ---- the packet
+
 module _ (f : Form) (s : List ℕ) (h : Holder) (tag : ℕ) (ch : Change) {c : Checked} (ec : c ≡ checkedOf (parse f s)) where
   pub edit-unread : (lent : List ℕ) {n k : ℕ} {r : Answer} → c ≡ Wrong n k → r ≡ refusalOf c → leftOf r lent ≡ leaves lent (edit f h tag ch s)
   unfolding edit
   edit-unread lent {n = n} {k = k} t e = left-refused lent (bind-not (parse f s) _ n k (wrong-parsed f s n k (sym t ∙ ec))) (e ∙ ap refusalOf t)
 
-  module _ (b : Bytes s) {a : Sizes} (t : c ≡ Fine a) {k : ℕ} (ek : (w : ℕ) → opening f s ≡ ok w → k ≡ start f w) where
-    abbrev packet : Packet
-    packet = fine f s ec b t .0
+-- ---- its set, where r is the answer on the rules
 
-    abbrev said : Parsed f s packet
-    said = opened f s ec b t
+module _ (f : Form) (h : Holder) (tag : ℕ) (ch : Change) (s : List ℕ) {r : Found} (j : Judged f h tag ch s r) where
+  pub set-refused : (lent : List ℕ) {n : ℕ} {q : Answer} → r ≡ Not n → q ≡ foundRefusal r → leftOf q lent ≡ leaves lent (setEdited f h tag ch s)
+  unfolding setEdited
+  set-refused lent tr e = left-refused lent (bind-not _ _ _ _ (judged-no f h tag ch s j tr)) (e ∙ ap foundRefusal tr)
 
-    abbrev given : List ℕ
-    given = lentSet f s ec b t ek
+  module _ {p : Place} (tr : r ≡ There p) where
+    ruled : editRules h tag ch (sheetOf f s) ≡ ok tt
+    ruled = sym (j .verdict) ∙ ap verdictOf tr
 
-    given-is : given ≡ setAt f s packet said
-    given-is = lent-is f s ec b t ek
+    pub set-packed : setEdited f h tag ch s ≡ packed (closed f (editEntries h tag ch (keptOf f s)))
+    unfolding setEdited
+    set-packed = bind-so _ _ tt ruled
 
-    -- r is the answer on the rules
-    module _ {r : Found} (j : Judged f h tag ch given r) where
-      pub edit-ruled : (lent : List ℕ) {n : ℕ} {q : Answer} → r ≡ Not n → q ≡ foundRefusal r → leftOf q lent ≡ leaves lent (edit f h tag ch s)
-      edit-ruled lent tr e = left-refused lent (edit-refused f s packet said (fine f s ec b t .1) h tag ch (rw given-is at (judged-no f h tag ch given j tr))) (e ∙ ap foundRefusal tr)
+    -- a put of more bytes than a packet may have
+    pub set-over : (removal : Bool) (v : List ℕ) → ch ≡ changeOf removal v → {x : Bool} → x ≡ (not removal && ltb 8192 (length v)) → x ≡ true
+        → (lent : List ℕ) {q : Answer} → q ≡ answerOf 1 0 → leftOf q lent ≡ leaves lent (setEdited f h tag ch s)
+    set-over removal v ev ex tx lent e =
+        let k : Packs (setEdited f h tag ch s) f (editEntries h tag ch (keptOf f s)) (length (editedOf f h tag ch s)) (frameSize f (length (editedOf f h tag ch s)))
+        = record { packet = closed f (editEntries h tag ch (keptOf f s)); answers = set-packed; closes = refl; entries = refl; frame = refl } in
+        let long : 8192 < length (editedOf f h tag ch s)
+        = subst (λ y. 8192 < length (editedOf f h tag y s)) (sym ev) (long-change removal v ex f h tag s p tx (subst (PlacedIf f h tag s) tr (j .placed)) (subst (λ y. editRules h tag y (sheetOf f s) ≡ ok tt) ev ruled)) in
+        packs-long k lent (omega (arith, long, size-is k, entries-less f (editEntries h tag ch (keptOf f s)))) e
 
-      module _ {p : Place} (tr : r ≡ There p) where
-        ruled : editRules h tag ch (sheetOf f given) ≡ ok tt
-        ruled = sym (j .verdict) ∙ ap verdictOf tr
+-- ---- the change at its place: n is how many bytes the entries take, size the packet
 
-        placed : Placed f h tag given p
-        placed = subst (PlacedIf f h tag given) tr (j .placed)
-
-        pub editing : Brief ch → Editing f h tag ch given p
-        editing z = judged-yes f h tag ch given j tr (set-is f s ec b t ek .short) z
-
-        abbrev pub es : List Entry
-        es = editEntries h tag ch (keptOf f given)
-
-        pub edit-packs : {n size : ℕ} → n ≡ length (editedOf f h tag ch given) → size ≡ frameSize f n → Packs (edit f h tag ch s) f es n size
-        edit-packs en ez = record {
-          packet = closed f es;
-          answers = edit-packed f s packet said (fine f s ec b t .1) h tag ch (rw given-is at ruled) ∙ ap (λ x. packed (closed f (editEntries h tag ch (keptOf f x)))) (sym given-is);
-          closes = refl;
-          entries = sym en;
-          frame = ez;
-        }
-
-        -- a put of more bytes than a packet may have
-        pub edit-over : (removal : Bool) (v : List ℕ) → ch ≡ changeOf removal v → {x : Bool} → x ≡ (not removal && ltb 8192 (length v)) → x ≡ true
-            → (lent : List ℕ) {q : Answer} → q ≡ answerOf 1 0 → leftOf q lent ≡ leaves lent (edit f h tag ch s)
-        edit-over removal v ev ex tx lent e =
-            let k = edit-packs {n = length (editedOf f h tag ch given)} {size = frameSize f (length (editedOf f h tag ch given))} refl refl in
-            let long : 8192 < length (editedOf f h tag ch given)
-            = subst (λ y. 8192 < length (editedOf f h tag y given)) (sym ev) (long-change removal v ex f h tag given p tx placed (subst (λ y. editRules h tag y (sheetOf f given) ≡ ok tt) ev ruled)) in
-            packs-long k lent (omega (arith, long, size-is k, entries-less f es)) e
+pub edit-packs : (f : Form) (h : Holder) (tag : ℕ) (ch : Change) (s : List ℕ) {n size : ℕ} → n ≡ length (editedOf f h tag ch s) → size ≡ frameSize f n
+    → Packs (packed (closed f (editEntries h tag ch (keptOf f s)))) f (editEntries h tag ch (keptOf f s)) n size
+edit-packs f h tag ch s en ez = record { packet = closed f (editEntries h tag ch (keptOf f s)); answers = refl; closes = refl; entries = sym en; frame = ez }

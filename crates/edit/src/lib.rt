@@ -3,10 +3,13 @@ ghost use mathlib.Core.Path.{_≡_};
 ghost use mathlib.Core.Bool.{not, _&&_};
 ghost use lib.Dec.{ltb};
 ghost use lib.ListN.{length};
+ghost use Rattle.format.specs.Packet.{closed};
+ghost use Rattle.format.specs.Calls.{packed};
 ghost use Rattle.format.specs.Edit as Edit;
+ghost use Rattle.format.specs.Edit.{editEntries};
 ghost use Rattle.format.specs.Room.{leaves};
-ghost use Rattle.items.specs.Meet.{formOf};
-ghost use Rattle.edits.specs.Meet.{holderOf, changeOf};
+ghost use Rattle.items.specs.Meet.{formOf, levelOf, glanceTable};
+ghost use Rattle.edits.specs.Meet.{holderOf, changeOf, keptOf, setEdited, shortOf, SetOf, Editing};
 ghost use Rattle.answers.specs.Meet.{leftOf};
 ghost use Rattle.edit.specs.Meet.{foundRefusal};
 use answers::Answer;
@@ -14,6 +17,7 @@ use answers::answer_of;
 use answers::refusal;
 use checks::Checked;
 use edits::Found;
+use edits::Place;
 
 // A refusal of an edit passed up.
 fn edit_refusal(f: Found) -> Answer
@@ -32,34 +36,22 @@ fn over_long(removal: bool, value: &[u8]) -> bool
     if removal { false } else { 8192 < value.len() }
 }
 
-// A packet with one item put or removed, of the set or of the target with an id.
-pub fn edit(
-    packet: &[u8],
+// The packet with a change that the rules let through, of which m bytes of the value are put, at its place: 1, 16.
+fn edit_at(
+    s: &[u8],
     alone: bool,
     set: bool,
     id: u64,
     tag: u64,
     removal: bool,
     value: &[u8],
+    p: Place,
+    m: usize,
     out: &mut [u8],
 ) -> Answer
-    ensures { λ r. ⌜ leftOf r (now (out .exit)) ≡ leaves (now (out .entry)) (Edit.edit (formOf alone) (holderOf set id) tag (changeOf removal (now (value .entry))) (now (packet .entry))) ⌝ }
+    requires { ⌜ Editing (formOf alone) (holderOf set id) tag (changeOf removal (now value)) (now s) p × (m ≡ shortOf (levelOf set) tag (changeOf removal (now value))) ⌝ }
+    ensures { λ r. ⌜ leftOf r (now (out .exit)) ≡ leaves (now (out .entry)) (packed (closed (formOf alone) (editEntries (holderOf set id) tag (changeOf removal (now (value .entry))) (keptOf (formOf alone) (now (s .entry)))))) ⌝ }
 {
-    let glances = items::quick::glances();
-    let c = checks::check(&glances, packet, alone);
-    let Checked::Fine(_) = c else {
-        return refusal(c);
-    };
-    let from = checks::set_start(packet, alone);
-    let s = &packet[from..];
-    let f = edits::judge(&glances, s, alone, set, id, tag, removal, value);
-    let Found::There(p) = f else {
-        return edit_refusal(f);
-    };
-    if over_long(removal, value) {
-        return answer_of(1, 0);
-    }
-    let m = edits::puts::short_size(&glances, alone, set, tag, removal, value);
     let size = edits::puts::item_size(set, tag, removal, value, m);
     let n = edits::puts::edited_size(s, alone, set, id, tag, removal, value, p, size);
     let total = frames::frame_size(alone, n);
@@ -85,4 +77,53 @@ pub fn edit(
     );
     frames::close(out, alone, a + k);
     answer_of(0, total)
+}
+
+// An edit of the set of a packet that was checked: the rules, then the packet. Apart, so that the compiler takes neither for a rare way.
+fn edit_set(
+    glances: &[u32],
+    s: &[u8],
+    alone: bool,
+    set: bool,
+    id: u64,
+    tag: u64,
+    removal: bool,
+    value: &[u8],
+    out: &mut [u8],
+) -> Answer
+    requires { ⌜ (now glances ≡ glanceTable) × SetOf (formOf alone) (now s) ⌝ }
+    ensures { λ r. ⌜ leftOf r (now (out .exit)) ≡ leaves (now (out .entry)) (setEdited (formOf alone) (holderOf set id) tag (changeOf removal (now (value .entry))) (now (s .entry))) ⌝ }
+{
+    let f = edits::judge(glances, s, alone, set, id, tag, removal, value);
+    let Found::There(p) = f else {
+        return edit_refusal(f);
+    };
+    if over_long(removal, value) {
+        return answer_of(1, 0);
+    }
+    let m = edits::puts::short_size(glances, alone, set, tag, removal, value);
+    edit_at(s, alone, set, id, tag, removal, value, p, m, out)
+}
+
+// A packet with one item put or removed, of the set or of the target with an id.
+pub fn edit(
+    packet: &[u8],
+    alone: bool,
+    set: bool,
+    id: u64,
+    tag: u64,
+    removal: bool,
+    value: &[u8],
+    out: &mut [u8],
+) -> Answer
+    ensures { λ r. ⌜ leftOf r (now (out .exit)) ≡ leaves (now (out .entry)) (Edit.edit (formOf alone) (holderOf set id) tag (changeOf removal (now (value .entry))) (now (packet .entry))) ⌝ }
+{
+    let glances = items::quick::glances();
+    let c = checks::check(&glances, packet, alone);
+    let Checked::Fine(_) = c else {
+        return refusal(c);
+    };
+    let from = checks::set_start(packet, alone);
+    let s = &packet[from..];
+    edit_set(&glances, s, alone, set, id, tag, removal, value, out)
 }

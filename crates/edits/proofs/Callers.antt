@@ -7,7 +7,7 @@ use mathlib.Core.List.{List, [], _∷_, map}
 use lib.ListN.{length, drop, length-drop}
 use lib.Dec.{leb, eqb}
 use borrow.Author.Tests.{leb-true}
-use Rattle.format.specs.Answer.{ok, refused}
+use Rattle.format.specs.Answer.{ok, refused, _>>=_}
 use Rattle.format.specs.Coding.{Bytes}
 use Rattle.format.specs.Table.{Form, embedded, standalone, Level, set, pack, Rule, Most, upTo, any, isNumber, within, rules, find, ruleOf, sized, short}
 use Rattle.format.specs.Packet.{Entry, Packet, closed}
@@ -20,7 +20,7 @@ use Rattle.format.proofs.words.Answers.{no-bool, bind-then, ok-inj, and-both}
 use Rattle.format.proofs.edits.Rules.{rules-then}
 use Rattle.coding.proofs.Counts.{len-most}
 use Rattle.items.specs.Meet.{levelOf}
-use Rattle.items.proofs.Tests.{bind-so, bind-not}
+use Rattle.items.proofs.Tests.{bind-so}
 use Rattle.walks.specs.declared.Sizes.{Sizes}
 use Rattle.walks.specs.Runs.{levelRun}
 use Rattle.walks.proofs.Parsed.{Sealing, Parsed}
@@ -33,7 +33,7 @@ use Rattle.spots.proofs.Seeks.{ran-ok}
 use Rattle.edits.specs.declared.Place.{Place}
 use Rattle.edits.specs.declared.Found.{Found}
 use Rattle.edits.specs.declared.Found.the-variants.{There, Not}
-use Rattle.edits.specs.Meet.{holderOf, Closes, SetOf, keptOf, sheetOf, editedOf, itemBytes, bodySize, packsSize, runsSize, Ordered, Placed, verdictOf, PlacedIf, Judged, Brief, Editing}
+use Rattle.edits.specs.Meet.{holderOf, Closes, SetOf, keptOf, sheetOf, editedOf, setEdited, itemBytes, bodySize, packsSize, runsSize, Ordered, Placed, verdictOf, PlacedIf, Judged, Brief, Editing}
 use Rattle.edits.proofs.Storing.{item-parts, item-fits, ordered-more, runs-long, edited-long}
 
 -- ---- the set of a packet that was checked
@@ -63,30 +63,21 @@ module _ (f : Form) (s : List ℕ) (p : Packet) (k : Parsed f s p) where
           bind-then _ _ _ e₁ λ _ _ e₂.
           (c, omega (arith, n, l, ap length (ok-inj _ _ e₂), length-drop (length s - 2) s), z)
 
-  pub sheet-are : sheetOf f setAt ≡ content p
-  unfolding content
-  sheet-are = ap (sheetFrom f) entries-are ∙ sym (ap content (k .packet-is))
-
   -- the call, where the packet is accepted
-  module _ (e : parse f s ≡ ok p) (h : Holder) (tag : ℕ) (c : Change) where
-    rules-of : editRules h tag c (content p) ≡ editRules h tag c (sheetOf f setAt)
-    rules-of = ap (editRules h tag c) (sym sheet-are)
-
-    pub edit-refused : {n m : ℕ} → editRules h tag c (sheetOf f setAt) ≡ refused n m → edit f h tag c s ≡ refused n m
-    unfolding edit
-    edit-refused r = bind-so _ _ p e ∙ bind-not _ _ _ _ (rules-of ∙ r)
-
-    pub edit-packed : editRules h tag c (sheetOf f setAt) ≡ ok tt → edit f h tag c s ≡ packed (closed f (editEntries h tag c (keptOf f setAt)))
-    unfolding edit editPacket
-    edit-packed r =
-        bind-so _ _ p e ∙ bind-so _ _ tt (rules-of ∙ r)
-        ∙ ap (λ q. packed (closed (q .form) (editEntries h tag c (q .entries)))) (k .packet-is)
-        ∙ ap (λ es. packed (closed f (editEntries h tag c (unsealed es)))) (sym entries-are)
+  pub edit-at-set : parse f s ≡ ok p → (h : Holder) (tag : ℕ) (c : Change) → edit f h tag c s ≡ setEdited f h tag c setAt
+  unfolding edit editPacket content setEdited
+  edit-at-set e h tag c =
+      bind-so _ _ p e
+      ∙ ap (λ q. editRules h tag c (content q) >>= λ _. packed (editPacket h tag c q)) (k .packet-is)
+      ∙ ap (λ es. editRules h tag c (sheetFrom f es) >>= λ _. packed (closed f (editEntries h tag c (unsealed es)))) (sym entries-are)
 
 -- the set that is lent
 module _ (f : Form) (s : List ℕ) {c : Checked} (ec : c ≡ checkedOf (parse f s)) (b : Bytes s) {a : Sizes} (t : c ≡ Fine a) {k : ℕ} (ek : (w : ℕ) → opening f s ≡ ok w → k ≡ start f w) where
   pub set-is : SetOf f (lentSet f s ec b t ek)
   set-is = rw (lent-is f s ec b t ek) (set-of f s (fine f s ec b t .0) (opened f s ec b t))
+
+  pub edit-is : (h : Holder) (tag : ℕ) (ch : Change) → edit f h tag ch s ≡ setEdited f h tag ch (lentSet f s ec b t ek)
+  edit-is h tag ch = rw (lent-is f s ec b t ek) (edit-at-set f s (fine f s ec b t .0) (opened f s ec b t) (fine f s ec b t .1) h tag ch)
 
 -- ---- what was judged
 

@@ -5,14 +5,14 @@ use mathlib.Core.Bool.{Bool, true, false}
 use mathlib.Core.List.{List, [], _∷_, _++_, map}
 use lib.ListN.{length, take, drop}
 use lib.Dec.{ltb}
-use Rattle.format.specs.Answer.{Ans, ok, refused}
+use Rattle.format.specs.Answer.{Ans, ok, refused, _>>=_}
 use Rattle.format.specs.Coding.{lenWidth, lenBytes, oidBytes}
 use Rattle.format.specs.Lists.{has, flatAll}
 use Rattle.format.specs.Table.{Form, embedded, standalone, Level, set, pack, ruleOf, short}
-use Rattle.format.specs.Packet.{Item, Pack, Entry, plain, flatItem, flatPack, flatEntry}
+use Rattle.format.specs.Packet.{Item, Pack, Entry, plain, flatItem, flatPack, flatEntry, closed}
 use Rattle.format.specs.Read.{unsealed}
 use Rattle.format.specs.Sheet.{Sheet, partOf}
-use Rattle.format.specs.Calls.{itemOf}
+use Rattle.format.specs.Calls.{itemOf, packed}
 use Rattle.format.specs.Rows.{sealItem}
 use Rattle.format.specs.Edit.{Holder, theSet, target, Change, put, remove, levelOf, valWith, tagsAt, editRules, editEntries}
 use Rattle.format.specs.Valid.{All}
@@ -57,6 +57,12 @@ sheetOf f s = record { form = f; parts = map partOf (keptOf f s) }
 
 abbrev pub editedOf : Form → Holder → ℕ → Change → List ℕ → List ℕ
 editedOf f h tag c s = flatAll flatEntry (editEntries h tag c (keptOf f s))
+
+-- an edit of such a set: the rules on what it says, then 1
+unfoldable pub setEdited : Form → Holder → ℕ → Change → List ℕ → Ans (List ℕ)
+setEdited f h tag c s = do
+  _ ← editRules h tag c (sheetOf f s)
+  packed (closed f (editEntries h tag c (keptOf f s)))
 
 -- ---- runs of bytes
 

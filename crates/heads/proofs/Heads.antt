@@ -21,7 +21,7 @@ use Rattle.coding.proofs.Lens.{len-small}
 use Rattle.coding.proofs.Oid.{tag-one, id-one, id-two}
 use Rattle.coding.proofs.Rooms.{tail-part, tag-room, len-room}
 use Rattle.items.proofs.Tests.{bind-so, bind-not, need-so, need-not}
-use Rattle.heads.specs.Meet.{faultOf, itemHeadOf, packHeadOf, PackHeadIf}
+use Rattle.heads.specs.Meet.{faultOf, itemHeadOf, packHeadOf, ItemHeadIf, PackHeadIf}
 use Rattle.heads.specs.declared.Head.{Head}
 use Rattle.heads.specs.declared.Head.the-variants.{Whole}
 
@@ -104,12 +104,19 @@ module _ (s : List ℕ) {b : Num} (eb : numOf b ≡ lenOf s) where
 
 -- ---- heads with a byte for the length, and one for the key, or two for an id
 
-pub item-head-short : (l : Level) (s : List ℕ) (t n : ℕ) → t ≡ getD s 0 0 → n ≡ getD (drop 1 s) 0 0 → 0 < t → t < 128 → n < 128 → 1 + 1 + n ≤ length s → isSet l && eqb t 1 ≡ false
+pub item-head-short : (l : Level) (s : List ℕ) (t n : ℕ) → t ≡ getD s 0 0 → n ≡ getD (drop 1 s) 0 0 → 0 < t → t < 128 → n < 128 → 1 + 1 + n ≤ length s
     → itemHeadOf (Whole t 1 1 n) ≡ headOf l s
-item-head-short l s t n et en z th nh room p =
+item-head-short l s t n et en z th nh room =
     let long : 0 < length (drop 1 s) = rw length-drop (omega arith) in
     let eb : numOf (Value n 1) ≡ lenOf (take (length s - 1) (drop 1 s)) = rw tail-part (len-small (drop 1 s) n en long nh) in
-    item-head-whole s {a = Value t 1} (tag-one s (omega arith) t et th z) refl {b = Value n 1} eb refl l {x = false} (rw p) refl (omega arith) (omega arith)
+    item-head-whole s {a = Value t 1} (tag-one s (omega arith) t et th z) refl {b = Value n 1} eb refl l {x = false} (seal-short (isSet l && eqb t 1)) refl (omega arith) (omega arith)
+  where
+    seal-short : (b : Bool) → false ≡ not (not b || true)
+    seal-short true = refl
+    seal-short false = refl
+
+pub item-head-if : (s : List ℕ) {h : Head} {k u w n : ℕ} → h ≡ Whole k u w n → ItemHeadIf h s → ItemHeadIf (Whole k u w n) s
+item-head-if s e t = subst (λ h. ItemHeadIf h s) e t
 
 module _ (s : List ℕ) (n : ℕ) (en : n ≡ getD s 0 0) (nh : n < 128) (room : 1 + n ≤ length s) where
   abbrev body : List ℕ

@@ -7,6 +7,7 @@ use lib.ListN.{drop}
 use lib.Dec.{eqb}
 use Rattle.format.specs.Answer.{Ans, ok, refused, Got, got}
 use Rattle.format.specs.Lists.{none?, has}
+use Rattle.format.specs.Table.{Level}
 use Rattle.format.specs.Read.{headOf, packHead}
 use Rattle.format.specs.Read as Read
 use Rattle.coding.specs.declared.Num.{Num}
@@ -28,7 +29,12 @@ abbrev pub packHeadOf : Head → Ans Read.PackHead
 packHeadOf (Whole k u w n) = ok (record { width = w; size = n; id = k; used = u })
 packHeadOf (Fault n) = refused n 0
 
--- a look that may say nothing, at a length in one byte and an id in one or two
+-- a look that may say nothing, at an item's head in two bytes
+abbrev pub ItemHeadIf : Head → List ℕ → Type 0
+ItemHeadIf (Whole k u w n) s = (l : Level) → itemHeadOf (Whole k u w n) ≡ headOf l s
+ItemHeadIf (Fault n) s = Unit {0}
+
+-- the same, at a pack's length in one byte and its id in one or two
 abbrev pub PackHeadIf : Head → List ℕ → Type 0
 PackHeadIf (Whole k u w n) s = (packHeadOf (Whole k u w n) ≡ packHead s) × (w ≡ 1) × (n < 128) × (u ≤ 2)
 PackHeadIf (Fault n) s = Unit {0}

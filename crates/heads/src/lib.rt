@@ -9,7 +9,7 @@ ghost use Rattle.format.specs.Lists.{has};
 ghost use Rattle.format.specs.Table.{isSet};
 ghost use Rattle.format.specs.Read.{headOf, packHead};
 ghost use Rattle.items.specs.Meet.{levelOf};
-ghost use Rattle.heads.specs.Meet.{faultOf, itemHeadOf, packHeadOf, PackHeadIf, peek, Peeked, Heads, Past, Clear};
+ghost use Rattle.heads.specs.Meet.{faultOf, itemHeadOf, packHeadOf, ItemHeadIf, PackHeadIf, peek, Peeked, Heads, Past, Clear};
 use coding::Num;
 
 // What heads an item or a pack: its key, how many bytes the key and the length take, and the length.
@@ -70,6 +70,58 @@ pub fn item_head(s: &[u8], set: bool) -> Head
     if s.len() - from < size {
         return Head::Fault(6);
     }
+    Head::Whole {
+        key,
+        used,
+        width,
+        size,
+    }
+}
+
+// The same for a tag and a length in one byte each, as most are; a fault says nothing.
+fn short_item_head(s: &[u8]) -> Head
+    ensures { λ r. ⌜ ItemHeadIf r (now (s .entry)) ⌝ }
+{
+    if s.len() < 2 {
+        return Head::Fault(0);
+    }
+    let key = coding::wide(s[0]);
+    let n = coding::wide(s[1]);
+    let size = n as usize;
+    if key == 0 {
+        return Head::Fault(0);
+    }
+    if 127 < key {
+        return Head::Fault(0);
+    }
+    if 127 < n {
+        return Head::Fault(0);
+    }
+    if s.len() - 2 < size {
+        return Head::Fault(0);
+    }
+    Head::Whole {
+        key,
+        used: 1,
+        width: 1,
+        size,
+    }
+}
+
+// The same as `item_head`, the quick way first: for who reads item after item.
+pub fn quick_item_head(s: &[u8], set: bool) -> Head
+    ensures { λ r. ⌜ itemHeadOf r ≡ headOf (levelOf set) (now (s .entry)) ⌝ }
+{
+    let h = short_item_head(s);
+    let Head::Whole {
+        key,
+        used,
+        width,
+        size,
+    } = h
+    else {
+        return item_head(s, set);
+    };
     Head::Whole {
         key,
         used,

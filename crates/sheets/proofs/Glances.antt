@@ -109,7 +109,7 @@ module _ {f : Form} {s out₀ out : List ℕ} {p k n : ℕ} (i : Turn f s out₀
     going = going;
     here = omega (arith, q .here);
     head = heads.Whole tag 1 1 n;
-    reads = rw tail-part (item-head-short pack (drop p s) tag n tag-is size-is some-tag (q .small) (q .few) fits refl);
+    reads = rw tail-part (item-head-short pack (drop p s) tag n tag-is size-is some-tag (q .small) (q .few) fits);
     whole = refl;
     bytes = i .bytes;
     most = i .most;

@@ -35,7 +35,7 @@ pub fn item_spot(s: &[u8], set: bool, alone: bool, tag: u64) -> Spot
 {
     let mut p: usize = 0;
     while p < s.len() {
-        let h = heads::item_head(&s[p..], set);
+        let h = heads::quick_item_head(&s[p..], set);
         let Head::Whole {
             key,
             used,

@@ -169,7 +169,7 @@ module _ {b : Bool} {f : Form} {s : List ℕ} {p top n : ℕ} (g : Glance b f s 
       let et : tag ≡ getD (drop p s) 0 0 = sym (getD-drop p s 0 0 ∙ ap (λ i. getD s i 0) (omega arith)) in
       let en : n ≡ getD (drop 1 (drop p s)) 0 0 = g .size-is ∙ sym (getD-drop 1 (drop p s) 0 0 ∙ getD-drop p s 1 0) in
       let room : 1 + 1 + n ≤ length (drop p s) = rw length-drop (omega (arith, g .room)) in
-      let i : Meets b f s p tag 1 1 n = quick-meets (item-head-short (levelOf b) (drop p s) tag n et en z th nh room (g .quick .no-seal)) refl (g .quick) (g .begins) in
+      let i : Meets b f s p tag 1 1 n = quick-meets (item-head-short (levelOf b) (drop p s) tag n et en z th nh room) refl (g .quick) (g .begins) in
       quick-piece i λ seen q. sym (q .under tag (g .above))
 
   -- x is the tag as the code read it

@@ -149,7 +149,7 @@ fn passed(p: usize, rows: usize, more: usize, top: u64, low: u64) -> Quick
 
 // The packs whose length has one byte and whose id has one or two, ids rising or falling, and whose items are all told at a glance, one after
 // another, from a series' start. Beside as many bytes as such a pack has, its sheet has four for each row, and five less those of its id.
-fn many(glances: &[u32], s: &[u8], alone: bool) -> Quick
+pub fn packs(glances: &[u32], s: &[u8], alone: bool) -> Quick
     requires { ⌜ (now glances ≡ glanceTable) × (length (now s) ≤ 8192) ⌝ }
     ensures { λ r. ⌜ SeriesGoing (formOf alone) (now (s .entry)) (r .at) (r .sizes) (r .top) (r .low) ⌝ }
 {
@@ -205,8 +205,8 @@ fn many(glances: &[u32], s: &[u8], alone: bool) -> Quick
     passed(p, rows, more, top, low)
 }
 
-// The same of a series of one pack, for which no model is laid out.
-fn lone(glances: &[u32], s: &[u8], alone: bool) -> Quick
+// The same of a series of one pack, for which no model is laid out: apart, so that it stands where it is called.
+pub fn lone(glances: &[u32], s: &[u8], alone: bool) -> Quick
     requires { ⌜ (now glances ≡ glanceTable) × (length (now s) ≤ 8192) × (0 < length (now s)) ⌝ }
     ensures { λ r. ⌜ SeriesGoing (formOf alone) (now (s .entry)) (r .at) (r .sizes) (r .top) (r .low) ⌝ }
 {
@@ -231,22 +231,11 @@ fn lone(glances: &[u32], s: &[u8], alone: bool) -> Quick
 }
 
 // Whether the first pack, with a byte for its length, is all of the series.
-fn is_lone(s: &[u8]) -> bool
+pub fn is_lone(s: &[u8]) -> bool
     ensures { λ r. ⌜ (r ≡ true → 0 < length (now (s .entry))) ⌝ }
 {
     if s.len() == 0 {
         return false;
     }
     s.len() - 1 == coding::wide(s[0]) as usize
-}
-
-// Packs told at a glance from a series' start.
-pub fn packs(glances: &[u32], s: &[u8], alone: bool) -> Quick
-    requires { ⌜ (now glances ≡ glanceTable) × (length (now s) ≤ 8192) ⌝ }
-    ensures { λ r. ⌜ SeriesGoing (formOf alone) (now (s .entry)) (r .at) (r .sizes) (r .top) (r .low) ⌝ }
-{
-    if is_lone(s) {
-        return lone(glances, s, alone);
-    }
-    many(glances, s, alone)
 }

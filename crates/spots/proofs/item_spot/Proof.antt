@@ -5,7 +5,7 @@ use native.Mathlib.Omega.{arith}
 use lib.ListN.{length}
 use borrow.Author.Needs.{needs}
 use Rattle.items.specs.Meet.{formOf, levelOf}
-use Rattle.heads.proofs.item_head.Reads as item-head-reads
+use Rattle.heads.proofs.quick_item_head.Reads as quick-item-head-reads
 use Rattle.spots.proofs.no_spot.Reads as no-spot-reads
 use Rattle.spots.proofs.Entries.{EntryTurn, entry-start, EntryAt, entry-done, entry-fault, entry-room, entry-found, entry-more}
 use Rattle.spots.proofs.item_spot.Statement.{statement}
@@ -20,24 +20,24 @@ abbrev μ-loop : tie.MeasureT-loop
 μ-loop s set alone tag p₀ p = length s - p
 
 -- the loop at the head that was read
-here : (a : lts.After-item-head (item-head-reads.Asked, item-head-reads.Learnt, no-spot-reads.Asked, no-spot-reads.Learnt) reads.Pre reads.Post Inv-loop μ-loop)
-    → EntryAt (levelOf (a .before .before .before .before .before .args .set)) (formOf (a .before .before .before .before .before .args .alone)) (a .before .before .before .before .before .args .tag) (a .before .before .before .before .before .args .s .now) (a .before .before .before .loop .p) (a .item-head .result)
-here a = record { turn = a .before .before .before .loop .inv; here = a .before .before .loop-test .taken; reads = a .item-head .ensures }
+here : (a : lts.After-quick-item-head (quick-item-head-reads.Asked, quick-item-head-reads.Learnt, no-spot-reads.Asked, no-spot-reads.Learnt) reads.Pre reads.Post Inv-loop μ-loop)
+    → EntryAt (levelOf (a .before .before .before .before .before .args .set)) (formOf (a .before .before .before .before .before .args .alone)) (a .before .before .before .before .before .args .tag) (a .before .before .before .before .before .args .s .now) (a .before .before .before .loop .p) (a .quick-item-head .result)
+here a = record { turn = a .before .before .before .loop .inv; here = a .before .before .loop-test .taken; reads = a .quick-item-head .ensures }
 
 loop-holds : tie.Need-loop-holds Inv-loop μ-loop
 loop-holds c = entry-start (levelOf (c .before .args .set)) (formOf (c .before .args .alone)) _ _ (λ i. c .shared-slice-known .given i .fits) (c .before .pre)
 
-sub-item-head : tie.Need-sub-item-head Inv-loop μ-loop
-sub-item-head c = search needs
+sub-quick-item-head : tie.Need-sub-quick-item-head Inv-loop μ-loop
+sub-quick-item-head c = search needs
 
-part-item-head-start : tie.Need-part-item-head-start Inv-loop μ-loop
-part-item-head-start c = search needs
+part-quick-item-head-start : tie.Need-part-quick-item-head-start Inv-loop μ-loop
+part-quick-item-head-start c = search needs
 
-part-item-head-end : tie.Need-part-item-head-end Inv-loop μ-loop
-part-item-head-end c = search needs
+part-quick-item-head-end : tie.Need-part-quick-item-head-end Inv-loop μ-loop
+part-quick-item-head-end c = search needs
 
-item-head-requires : tie.Need-item-head-requires Inv-loop μ-loop
-item-head-requires c κs = search needs
+quick-item-head-requires : tie.Need-quick-item-head-requires Inv-loop μ-loop
+quick-item-head-requires c κs = search needs
 
 enum-known-h : tie.Need-enum-known-h Inv-loop μ-loop
 enum-known-h c = search needs
@@ -82,10 +82,10 @@ item-spot-spec =
     Inv-loop
     μ-loop
     loop-holds
-    sub-item-head
-    part-item-head-start
-    part-item-head-end
-    item-head-requires
+    sub-quick-item-head
+    part-quick-item-head-start
+    part-quick-item-head-end
+    quick-item-head-requires
     enum-known-h
     enum-told
     no-spot-requires

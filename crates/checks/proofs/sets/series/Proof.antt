@@ -1,25 +1,31 @@
--- `sets::series` meets its contract: the turn over the series is a turn of the item walk. `a` is where its head was read.
-use mathlib.Core.Path.{refl}
-use Prim.Native.Nat.{_+_, _≤_}
+-- `sets::series` meets its contract: the turn over the series is a turn of the item walk. `a` is where its head was read, `p` where its packs
+-- were lent.
+use mathlib.Core.Path.{_≡_, refl}
+use Prim.Native.Nat.{_+_, _≤_, _<_}
 use native.Mathlib.Omega.{arith}
 use lib.ListN.{length}
 use borrow.Author.Needs.{needs}
 use borrow.Author.Tests.{not-false}
 use Rattle.items.specs.Meet.{formOf}
 use Rattle.walks.proofs.Turns.{turn-done}
-use Rattle.checks.proofs.SetTurns.{HeadAt, head-room, packs-long, series-small, series-sums, series-more}
+use Rattle.checks.proofs.SetTurns.{HeadAt, head-room, packs-long, series-asks, series-goes}
 use Rattle.checks.proofs.sets.series.Statement.{statement}
 use Rattle.checks.proofs.sets.series.Tie as tie
 use Rattle.checks.proofs.sets.series.Reads as reads
 use Rattle.checks.proofs.sets.series.Lts as lts
+use Rattle.walks.proofs.packs.is_lone.Reads as is-lone-reads
+use Rattle.walks.proofs.packs.lone.Reads as lone-reads
 use Rattle.walks.proofs.packs.packs.Reads as packs-reads
 use Rattle.checks.proofs.sets.after_series.Reads as after-series-reads
 use Rattle.checks.proofs.sets.head_at.Reads as head-at-reads
 use Rattle.checks.proofs.sets.is_series_next.Reads as is-series-next-reads
 use Rattle.checks.proofs.sets.packs_rest.Reads as packs-rest-reads
 
+abbrev claims : lts.Claims
+claims = (head-at-reads.Asked, head-at-reads.Learnt, is-series-next-reads.Asked, is-series-next-reads.Learnt, is-lone-reads.Asked, is-lone-reads.Learnt, lone-reads.Asked, lone-reads.Learnt, after-series-reads.Asked, after-series-reads.Learnt, packs-reads.Asked, packs-reads.Learnt, packs-rest-reads.Asked, packs-rest-reads.Learnt)
+
 abbrev Head-read : Type 0
-Head-read = lts.After-h (head-at-reads.Asked, head-at-reads.Learnt, is-series-next-reads.Asked, is-series-next-reads.Learnt, packs-reads.Asked, packs-reads.Learnt, after-series-reads.Asked, after-series-reads.Learnt, packs-rest-reads.Asked, packs-rest-reads.Learnt) reads.Pre reads.Post
+Head-read = lts.After-h claims reads.Pre reads.Post
 
 here : (a : Head-read) → HeadAt (formOf (a .before .before .before .before .before .args .alone)) (a .before .before .before .before .before .args .s .now) (a .before .before .before .before .before .args .q .at) (a .before .before .before .before .before .args .q .sizes) (a .before .before .before .before .before .args .q .mark) (a .before .before .before .before .before .args .q .top) (a .before .before .before .before .before .args .q .low) (a .h .given .0 .0) (a .h .given .0 .1 .0) (a .h .given .0 .1 .1 .0) (a .h .given .0 .1 .1 .1 .0)
 here a = record {
@@ -34,6 +40,13 @@ here a = record {
 -- it lies within the set
 room : (a : Head-read) → (a .before .before .before .before .before .args .q .at + a .h .given .0 .1 .0 + a .h .given .0 .1 .1 .0 + a .h .given .0 .1 .1 .1 .0 ≤ length (a .before .before .before .before .before .args .s .now)) × (length (a .before .before .before .before .before .args .s .now) ≤ 8192)
 room a = (head-room (here a), a .before .before .before .before .before .pre .1)
+
+abbrev Lent : Type 0
+Lent = lts.After-packs claims reads.Pre reads.Post
+
+-- it is the series, and told to be new
+next : (p : Lent) → (0 < p .before .before .before .before .before .before .before .before .before .args .q .at) × (p .before .before .before .before .before .before .before .before .before .args .q .top < 101) × (0 < p .before .before .before .before .h .given .0 .1 .1 .1 .0) × (p .before .before .before .before .h .given .0 .0 ≡ 101)
+next p = p .before .before .is-series-next .ensures (not-false _ (p .before .if1 .left))
 
 head-at-requires : tie.Need-head-at-requires
 head-at-requires c κs = search needs
@@ -71,23 +84,50 @@ part-packs-start c = omega (arith, room (c .before .before .before))
 part-packs-end : tie.Need-part-packs-end
 part-packs-end c = omega (arith, room (c .before .before .before))
 
-packs-requires : tie.Need-packs-requires
-packs-requires c κs = (c .before .before .before .before .before .before .before .before .before .pre .0, omega (arith, packs-long (here (c .before .before .before .before)) (c .before .before .is-series-next .ensures (not-false _ (c .before .if1 .left))), room (c .before .before .before .before)))
+-- ---- one pack alone
 
--- all packs are told at a glance
+is-lone-requires : tie.Need-is-lone-requires
+is-lone-requires c κs = search needs
+
+lone-requires : tie.Need-lone-requires
+lone-requires c κs =
+    let p = c .before .before in
+    let a = p .before .before .before .before in
+    (a .before .before .before .before .before .pre .0, omega (arith, packs-long (here a) (next p), room a), c .before .is-lone .ensures (c .if2 .taken))
+
 after-series-requires : tie.Need-after-series-requires
 after-series-requires c κs =
-    let y = turn-done (c .before .before .packs2 .ensures) (omega (arith, c .if2 .taken)) in
-    let (x, z) = series-sums (here (c .before .before .before .before .before .before .before)) (c .before .before .before .before .before .is-series-next .ensures (not-false _ (c .before .before .before .before .if1 .left))) y refl refl in
-    (series-small (here (c .before .before .before .before .before .before .before)) (c .before .before .before .before .before .is-series-next .ensures (not-false _ (c .before .before .before .before .if1 .left))) y refl, x, z)
+    let p = c .before .before .before .before .before in
+    series-asks (here (p .before .before .before .before)) (next p) (turn-done (c .before .before .lone .ensures) (omega (arith, c .if3 .taken))) refl
 
 returns-3 : tie.Need-returns-3
 returns-3 c =
-    let y = turn-done (c .before .before .before .packs2 .ensures) (omega (arith, c .before .if2 .taken)) in
-    let (l, m, e) = c .after-series .ensures in
-    rw e (series-more (here (c .before .before .before .before .before .before .before .before)) (c .before .before .before .before .before .before .is-series-next .ensures (not-false _ (c .before .before .before .before .before .if1 .left))) y refl refl refl (l, m))
+    let p = c .before .before .before .before .before .before in
+    series-goes (here (p .before .before .before .before)) (next p) (turn-done (c .before .before .before .lone .ensures) (omega (arith, c .before .if3 .taken))) refl (c .after-series .ensures)
 
--- the rest one by one
+returns-4 : tie.Need-returns-4
+returns-4 c = c .before .before .before .before .before .before .before .before .before .before .before .before .before .before .pre .2
+
+-- ---- all packs are told at a glance
+
+packs-requires : tie.Need-packs-requires
+packs-requires c κs =
+    let p = c .before .before in
+    let a = p .before .before .before .before in
+    (a .before .before .before .before .before .pre .0, omega (arith, packs-long (here a) (next p), room a))
+
+after-series-requires-2 : tie.Need-after-series-requires-2
+after-series-requires-2 c κs =
+    let p = c .before .before .before .before .before in
+    series-asks (here (p .before .before .before .before)) (next p) (turn-done (c .before .before .packs2 .ensures) (omega (arith, c .if4 .taken))) refl
+
+returns-5 : tie.Need-returns-5
+returns-5 c =
+    let p = c .before .before .before .before .before .before in
+    series-goes (here (p .before .before .before .before)) (next p) (turn-done (c .before .before .before .packs2 .ensures) (omega (arith, c .before .if4 .taken))) refl (c .after-series2 .ensures)
+
+-- ---- the rest one by one
+
 packs-rest-requires : tie.Need-packs-rest-requires
 packs-rest-requires c κs =
     let (g, m) = packs-requires (c .before .before .before) (κs .0, (κs .1 .0, tt)) in
@@ -99,18 +139,18 @@ enum-known-w c = search needs
 enum-told-2 : tie.Need-enum-told-2
 enum-told-2 c = search needs
 
-returns-4 : tie.Need-returns-4
-returns-4 c = c .before .before .before .before .before .before .before .before .before .before .before .before .before .before .before .pre .2
+returns-6 : tie.Need-returns-6
+returns-6 c = c .before .before .before .before .before .before .before .before .before .before .before .before .before .before .before .before .before .pre .2
 
-after-series-requires-2 : tie.Need-after-series-requires-2
-after-series-requires-2 c κs =
-    let (x, z) = series-sums (here (c .before .before .before .before .before .before .before .before .before .before .before)) (c .before .before .before .before .before .before .before .before .before .is-series-next .ensures (not-false _ (c .before .before .before .before .before .before .before .before .if1 .left))) (c .before .before .before .packs-rest .ensures) (c .before .w .given .1) refl in
-    (series-small (here (c .before .before .before .before .before .before .before .before .before .before .before)) (c .before .before .before .before .before .before .before .before .before .is-series-next .ensures (not-false _ (c .before .before .before .before .before .before .before .before .if1 .left))) (c .before .before .before .packs-rest .ensures) (c .before .w .given .1), x, z)
+after-series-requires-3 : tie.Need-after-series-requires-3
+after-series-requires-3 c κs =
+    let p = c .before .before .before .before .before .before .before .before .before in
+    series-asks (here (p .before .before .before .before)) (next p) (c .before .before .before .packs-rest .ensures) (c .before .w .given .1)
 
-returns-5 : tie.Need-returns-5
-returns-5 c =
-    let (l, m, e) = c .after-series2 .ensures in
-    rw e (series-more (here (c .before .before .before .before .before .before .before .before .before .before .before .before)) (c .before .before .before .before .before .before .before .before .before .before .is-series-next .ensures (not-false _ (c .before .before .before .before .before .before .before .before .before .if1 .left))) (c .before .before .before .before .packs-rest .ensures) (c .before .before .w .given .1) refl refl (l, m))
+returns-7 : tie.Need-returns-7
+returns-7 c =
+    let p = c .before .before .before .before .before .before .before .before .before .before in
+    series-goes (here (p .before .before .before .before)) (next p) (c .before .before .before .before .packs-rest .ensures) (c .before .before .w .given .1) (c .after-series3 .ensures)
 
 pub series-spec : {M : Type 1} → statement M
 series-spec =
@@ -128,12 +168,17 @@ series-spec =
     sub-packs
     part-packs-start
     part-packs-end
-    packs-requires
+    is-lone-requires
+    lone-requires
     after-series-requires
     returns-3
+    returns-4
+    packs-requires
+    after-series-requires-2
+    returns-5
     packs-rest-requires
     enum-known-w
     enum-told-2
-    returns-4
-    after-series-requires-2
-    returns-5)
+    returns-6
+    after-series-requires-3
+    returns-7)

@@ -52,8 +52,8 @@ fn edit_at(
     requires { ⌜ Editing (formOf alone) (holderOf set id) tag (changeOf removal (now value)) (now s) p × (m ≡ shortOf (levelOf set) tag (changeOf removal (now value))) ⌝ }
     ensures { λ r. ⌜ leftOf r (now (out .exit)) ≡ leaves (now (out .entry)) (packed (closed (formOf alone) (editEntries (holderOf set id) tag (changeOf removal (now (value .entry))) (keptOf (formOf alone) (now (s .entry)))))) ⌝ }
 {
-    let size = edits::puts::item_size(set, tag, removal, value, m);
-    let n = edits::puts::edited_size(s, alone, set, id, tag, removal, value, p, size);
+    let size = puts::item_size(set, tag, removal, value, m);
+    let n = puts::edited_size(s, alone, set, id, tag, removal, value, p, size);
     let total = frames::frame_size(alone, n);
     if 8192 < total {
         return answer_of(1, 0);
@@ -62,7 +62,7 @@ fn edit_at(
         return answer_of(16, total);
     }
     let a = frames::open(out, alone, n);
-    let k = edits::puts::put_edited(
+    let k = puts::put_edited(
         s,
         alone,
         set,
@@ -101,7 +101,7 @@ fn edit_set(
     if over_long(removal, value) {
         return answer_of(1, 0);
     }
-    let m = edits::puts::short_size(glances, alone, set, tag, removal, value);
+    let m = puts::short_size(glances, alone, set, tag, removal, value);
     edit_at(s, alone, set, id, tag, removal, value, p, m, out)
 }
 

@@ -1,4 +1,4 @@
-// One item of a packet put or removed: whether it may be, where it stands, how many bytes the edited entries take, and these bytes.
+// One item of a packet put or removed: whether it may be, and where it stands or would be added.
 ghost use mathlib.Core.Path.{_≡_};
 ghost use mathlib.Core.Bool.{true, _&&_};
 ghost use mathlib.Core.List.{List};
@@ -242,5 +242,3 @@ pub fn judge(
     }
     Found::Not(n)
 }
-
-pub mod puts; // puts.rt: how many bytes the edited entries take, and these bytes

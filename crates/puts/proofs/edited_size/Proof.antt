@@ -1,8 +1,8 @@
 -- `edits::puts::edited_size` meets its contract.
 use Rattle.items.specs.Meet.{formOf}
 use Rattle.edits.proofs.Storing.{ordered-more, item-fits, edited-long}
-use Rattle.edits.proofs.puts.edited_size.Statement.{statement}
-use Rattle.edits.proofs.puts.edited_size.Tie as tie
+use Rattle.puts.proofs.edited_size.Statement.{statement}
+use Rattle.puts.proofs.edited_size.Tie as tie
 
 runs-size-requires : tie.Need-runs-size-requires
 runs-size-requires c κs =

@@ -2,9 +2,9 @@
 use native.Mathlib.Omega.{arith}
 use Rattle.items.specs.Meet.{levelOf}
 use Rattle.stores.proofs.Shortest.{short-less}
 use Rattle.edits.proofs.Storing.{item-none, some-bytes, short-put, item-sized}
-use Rattle.edits.proofs.puts.item_size.Statement.{statement}
-use Rattle.edits.proofs.puts.item_size.Tie as tie
+use Rattle.puts.proofs.item_size.Statement.{statement}
+use Rattle.puts.proofs.item_size.Tie as tie
 
 returns : tie.Need-returns
 returns c = let i = c .before .before .args in item-none (levelOf (i .set)) (i .tag) (i .v .now) (c .if1 .taken)

@@ -1,10 +1,10 @@
 -- `edits::puts::put_edited` meets its contract.
 use borrow.Author.Needs.{needs}
 use Rattle.items.specs.Meet.{formOf}
 use Rattle.edits.specs.Meet.{changeOf}
 use Rattle.edits.proofs.Storing.{tag-high, puttable, item-fits, front-room, item-behind, rest-behind, edited-stored}
-use Rattle.edits.proofs.puts.put_edited.Statement.{statement}
-use Rattle.edits.proofs.puts.put_edited.Tie as tie
+use Rattle.puts.proofs.put_edited.Statement.{statement}
+use Rattle.puts.proofs.put_edited.Tie as tie
 
 put-front-requires : tie.Need-put-front-requires
 put-front-requires c κs =

@@ -1,9 +1,9 @@
 -- `edits::puts::short_size` meets its contract.
 use borrow.Author.Needs.{needs}
 use Rattle.items.specs.Meet.{levelOf}
 use Rattle.edits.proofs.Storing.{none-put, some-bytes, all-put, some-put}
-use Rattle.edits.proofs.puts.short_size.Statement.{statement}
-use Rattle.edits.proofs.puts.short_size.Tie as tie
+use Rattle.puts.proofs.short_size.Statement.{statement}
+use Rattle.puts.proofs.short_size.Tie as tie
 
 returns : tie.Need-returns
 returns c = let i = c .before .before .before .args in none-put (levelOf (i .set)) (i .tag) (i .v .now) (c .if1 .taken)

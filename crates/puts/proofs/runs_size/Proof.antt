@@ -2,9 +2,9 @@
 use native.Mathlib.Omega.{arith}
 use borrow.Author.Needs.{needs}
 use Rattle.coding.proofs.Counts.{len-most}
 use Rattle.edits.proofs.Storing.{size-set, size-pack}
-use Rattle.edits.proofs.puts.runs_size.Statement.{statement}
-use Rattle.edits.proofs.puts.runs_size.Tie as tie
+use Rattle.puts.proofs.runs_size.Statement.{statement}
+use Rattle.puts.proofs.runs_size.Tie as tie
 
 add-result : tie.Need-add-result
 add-result c = search needs

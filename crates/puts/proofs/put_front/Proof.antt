@@ -2,9 +2,9 @@
 use native.Mathlib.Omega.{arith}
 use borrow.Author.Needs.{needs}
 use Rattle.coding.proofs.Counts.{len-most}
 use Rattle.edits.proofs.Storing.{alone-room, alone-stored, first-room, series-room, packs-room, len-room, last-room, front-stored}
-use Rattle.edits.proofs.puts.put_front.Statement.{statement}
-use Rattle.edits.proofs.puts.put_front.Tie as tie
+use Rattle.puts.proofs.put_front.Statement.{statement}
+use Rattle.puts.proofs.put_front.Tie as tie
 
 sub-copy-run : tie.Need-sub-copy-run
 sub-copy-run c = search needs

@@ -2,8 +2,8 @@
 use native.Mathlib.Omega.{arith}
 use borrow.Author.Needs.{needs}
 use Rattle.coding.proofs.Counts.{len-most}
-use Rattle.edits.proofs.puts.packs_size.Statement.{statement}
-use Rattle.edits.proofs.puts.packs_size.Tie as tie
+use Rattle.puts.proofs.packs_size.Statement.{statement}
+use Rattle.puts.proofs.packs_size.Tie as tie
 
 sub-result : tie.Need-sub-result
 sub-result c = search needs

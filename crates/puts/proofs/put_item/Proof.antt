@@ -3,9 +3,9 @@ use native.Mathlib.Omega.{arith}
 use borrow.Author.Needs.{needs}
 use Rattle.items.specs.Meet.{levelOf}
 use Rattle.stores.proofs.Shortest.{short-less}
 use Rattle.edits.proofs.Storing.{item-stays, some-bytes, short-put, last-long, item-room, item-stored}
-use Rattle.edits.proofs.puts.put_item.Statement.{statement}
-use Rattle.edits.proofs.puts.put_item.Tie as tie
+use Rattle.puts.proofs.put_item.Statement.{statement}
+use Rattle.puts.proofs.put_item.Tie as tie
 
 returns : tie.Need-returns
 returns c = let i = c .before .before .before .args in item-stays (levelOf (i .set)) (i .tag) (i .v .now) (c .if1 .taken) (i .out .now) (i .at)

@@ -5,8 +5,8 @@ ghost use lib.ListN.{length};
 ghost use lib.Seq.{sets};
 ghost use Rattle.format.specs.Coding.{lenWidth};
 ghost use Rattle.items.specs.Meet.{formOf, levelOf, glanceTable};
 ghost use Rattle.edits.specs.Meet.{holderOf, changeOf, editedOf, shortOf, itemBytes, bodySize, frontOf, runsSize, Ordered, Puttable, Editing};
-use super::Place;
+use edits::Place;
 
 // ---- the item
 
@@ -25,7 +25,7 @@ pub fn short_size(
     if removal {
         return 0;
     }
-    if super::is_told(glances, alone, set, tag, v) {
+    if edits::is_told(glances, alone, set, tag, v) {
         return v.len();
     }
     let table = items::table();

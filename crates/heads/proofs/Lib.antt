@@ -3,6 +3,3 @@ pub mod Heads
 pub mod Spans
 pub mod SheetRuns
 pub mod Before
-pub mod Marks
-pub mod Clears
-pub mod Gathers

@@ -1,4 +1,2 @@
 pub mod Records
 pub mod Meet
-pub mod Marks
-pub mod Blocks

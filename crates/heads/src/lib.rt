@@ -1,15 +1,11 @@
-// What heads an item or a pack, and whether a tag or an id stood before: a look back over the heads, made only where one may be found.
+// What heads an item, a pack or a record.
 ghost use mathlib.Core.Path.{_≡_};
-ghost use Prim.Native.Nat.{ℕ, _≤_};
 ghost use mathlib.Core.Bool.{_&&_, _||_, not};
-ghost use mathlib.Core.List.{List};
-ghost use lib.ListN.{length, drop};
 ghost use lib.Dec.{eqb};
-ghost use Rattle.format.specs.Lists.{has};
 ghost use Rattle.format.specs.Table.{isSet};
 ghost use Rattle.format.specs.Read.{headOf, packHead};
 ghost use Rattle.items.specs.Meet.{levelOf};
-ghost use Rattle.heads.specs.Meet.{faultOf, itemHeadOf, packHeadOf, ItemHeadIf, PackHeadIf, peek, Peeked, Heads, Past, Clear};
+ghost use Rattle.heads.specs.Meet.{faultOf, itemHeadOf, packHeadOf, ItemHeadIf, PackHeadIf, peek, Peeked};
 use coding::Num;
 
 // What heads an item or a pack: its key, how many bytes the key and the length take, and the length.
@@ -225,7 +221,7 @@ pub fn quick_pack_head(s: &[u8]) -> Head
     }
 }
 
-// ---- what was there before
+// ---- for a look back
 
 // A key and the bytes of all that it heads, none where there is no such thing.
 pub struct Next {
@@ -233,7 +229,7 @@ pub struct Next {
     pub used: usize,
 }
 
-fn next_of(s: &[u8], sheet: bool, ids: bool, set: bool) -> Next
+pub fn next_of(s: &[u8], sheet: bool, ids: bool, set: bool) -> Next
     ensures { λ r. ⌜ Peeked (peek sheet ids set) (now (s .entry)) (r .key) (r .used) ⌝ }
 {
     if sheet {
@@ -271,52 +267,4 @@ fn next_of(s: &[u8], sheet: bool, ids: bool, set: bool) -> Next
     }
 }
 
-// Whether key heads something that begins in the first p bytes.
-fn seen_before(s: &[u8], p: usize, key: u64, sheet: bool, ids: bool, set: bool) -> bool
-    requires { ⌜ p ≤ length (now s) ⌝ }
-    ensures { λ r. ⌜ ((ks : List ℕ) → Heads (peek sheet ids set) (now (s .entry)) p ks → r ≡ has key ks) ⌝ }
-{
-    let mut q: usize = 0;
-    while q < p {
-        let n = next_of(&s[q..], sheet, ids, set);
-        if n.used == 0 {
-            return false;
-        }
-        if n.key == key {
-            return true;
-        }
-        q += n.used;
-    }
-    false
-}
-
-// The same of the key at p, where no key before p is above top or below low, and none repeats before clear.
-pub fn is_seen(
-    s: &[u8],
-    p: usize,
-    clear: usize,
-    top: u64,
-    low: u64,
-    key: u64,
-    sheet: bool,
-    ids: bool,
-    set: bool,
-) -> bool
-    requires { ⌜ (p ≤ length (now s)) × Clear (peek sheet ids set) (now s) clear × (key ≡ peek sheet ids set (drop p (now s)) .val) ⌝ }
-    ensures { λ r. ⌜ ((seen : List ℕ) → Past (peek sheet ids set) (now (s .entry)) p top low seen → r ≡ has key seen) ⌝ }
-{
-    if top < key {
-        return false;
-    }
-    if key < low {
-        return false;
-    }
-    if p < clear {
-        return false;
-    }
-    seen_before(s, p, key, sheet, ids, set)
-}
-
 pub mod records; // records.rt: what heads the records of a sheet
-pub mod clear; // clear.rt: how far no key repeats
-mod blocks; // blocks.rt: ids told apart in blocks of 64

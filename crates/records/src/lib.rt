@@ -39,7 +39,7 @@ fn value_at(
     if size == 0 {
         return Piece::Fault(7);
     }
-    let dup = heads::is_seen(s, p, clear, top, low, tag, true, false, set);
+    let dup = repeats::is_seen(s, p, clear, top, low, tag, true, false, set);
     let k = items::standing_of(set, alone, dup, p == 0, tag, true);
     if k != 0 {
         return Piece::Fault(k);
@@ -68,7 +68,7 @@ fn series_at(s: &[u8], p: usize, clear: usize, alone: bool, top: u64, low: u64) 
     ensures { λ r. ⌜ ((seen : List ℕ) → Past (peek true false true) (now (s .entry)) p top low seen → r ≡ pieceBy seriesWhole (seriesOpens (formOf alone) seen (drop p (now (s .entry))))) ⌝ }
 {
     if heads::records::is_mark(s, p + 2, b'T', b'G') {
-        let dup = heads::is_seen(s, p, clear, top, low, 101, true, false, true);
+        let dup = repeats::is_seen(s, p, clear, top, low, 101, true, false, true);
         let k = items::standing_of(true, alone, dup, p == 0, 101, true);
         if k != 0 {
             return Piece::Fault(k);
@@ -140,7 +140,7 @@ fn target_at(s: &[u8], p: usize, clear: usize, top: u64, low: u64) -> Piece
     if 9223372036854775807 < higher(top, id) {
         return Piece::Fault(17);
     }
-    if heads::is_seen(s, p, clear, top, low, id, true, true, false) {
+    if repeats::is_seen(s, p, clear, top, low, id, true, true, false) {
         return Piece::Fault(10);
     }
     Piece::Whole {
@@ -203,7 +203,7 @@ pub fn item_records(table: &[u32], glances: &[u32], s: &[u8], set: bool, alone: 
         };
         sum = walks::weights::plus(sum, sizes);
         mark = coding::either(mark, m);
-        clear = heads::clear::after(s, p, clear, top, low, tag, true, false, set);
+        clear = repeats::clear::after(s, p, clear, top, low, tag, true, false, set);
         top = walks::larger(top, tag);
         low = walks::smaller(low, tag);
         p += sizes.sheet;
@@ -257,7 +257,7 @@ pub fn target_records(table: &[u32], glances: &[u32], s: &[u8], alone: bool) -> 
                 sum,
                 walks::weights::pack_sizes(coding::widths::oid_width(id), sizes),
             );
-            clear = heads::clear::after(s, p, clear, top, low, id, true, true, false);
+            clear = repeats::clear::after(s, p, clear, top, low, id, true, true, false);
             top = higher(top, id);
             low = walks::smaller(low, id);
             p = from + sizes.sheet;

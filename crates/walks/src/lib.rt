@@ -54,7 +54,7 @@ pub fn item_at(
     }
     let from = used + width;
     let end = from + size;
-    let dup = heads::is_seen(s, p, clear, top, low, key, false, false, set);
+    let dup = repeats::is_seen(s, p, clear, top, low, key, false, false, set);
     let k = items::standing_of(set, alone, dup, p == 0, key, end == t.len());
     if k != 0 {
         return Piece::Fault(k);
@@ -263,7 +263,7 @@ pub fn item_rest(
         };
         sum = weights::plus(sum, sizes);
         mark = coding::either(mark, m);
-        clear = heads::clear::after(s, p, clear, top, low, tag, false, false, set);
+        clear = repeats::clear::after(s, p, clear, top, low, tag, false, false, set);
         top = larger(top, tag);
         low = smaller(low, tag);
         p = next;
@@ -292,7 +292,7 @@ pub fn pack_walk(table: &[u32], glances: &[u32], s: &[u8], alone: bool, q: Quick
         else {
             return stop(piece_fault(h), p);
         };
-        if heads::is_seen(s, p, clear, top, low, key, false, true, false) {
+        if repeats::is_seen(s, p, clear, top, low, key, false, true, false) {
             return Walked::Bad {
                 number: 10,
                 place: p,
@@ -314,7 +314,7 @@ pub fn pack_walk(table: &[u32], glances: &[u32], s: &[u8], alone: bool, q: Quick
         };
         if coding::either(!alone, mark) {
             sum = weights::plus(sum, weights::pack_sizes(used, sizes));
-            clear = heads::clear::after(s, p, clear, top, low, key, false, true, false);
+            clear = repeats::clear::after(s, p, clear, top, low, key, false, true, false);
             top = larger(top, key);
             low = smaller(low, key);
             p = next;

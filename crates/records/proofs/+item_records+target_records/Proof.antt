@@ -13,7 +13,7 @@ use borrow.Fn.PlainCycle.{Measures, is, falls, and}
 use Rattle.format.specs.Table.{pack, isAlone}
 use Rattle.items.specs.Meet.{formOf}
 use Rattle.heads.specs.Meet.{peek, Clear}
-use Rattle.heads.proofs.Clears.{clear-none}
+use Rattle.repeats.proofs.Clears.{clear-none}
 use Rattle.walks.specs.declared.Walked.the-variants.{Good}
 use Rattle.walks.specs.Meet.{plusSizes, Within}
 use Rattle.walks.proofs.Turns.{within-more, told-as, turn-done, turn-over}
@@ -31,7 +31,7 @@ use Rattle.records.proofs.target_records.Reads as target-records
 use Rattle.records.proofs.target_records.Kinds as target-records-kinds
 use Rattle.records.proofs.+item_records+target_records.Lts-target_records as target-records-lts
 use Rattle.coding.proofs.widths.oid_width.Reads as oid-width-reads
-use Rattle.heads.proofs.clear.after.Reads as after-reads
+use Rattle.repeats.proofs.clear.after.Reads as after-reads
 use Rattle.heads.proofs.records.is_mark.Reads as is-mark-reads
 use Rattle.records.proofs.goes_on.Reads as goes-on-reads
 use Rattle.records.proofs.higher.Reads as higher-reads

@@ -12,7 +12,7 @@ use borrow.Fn.PlainCycle.{Measures, is, falls, and}
 use Rattle.items.specs.Meet.{formOf}
 use Rattle.heads.specs.Meet.{peek, Clear}
 use Rattle.heads.proofs.Before.{pack-key}
-use Rattle.heads.proofs.Clears.{clear-none}
+use Rattle.repeats.proofs.Clears.{clear-none}
 use Rattle.walks.specs.Going.{LevelGoing, SeriesGoing}
 use Rattle.walks.specs.Meet.{plusSizes}
 use Rattle.walks.proofs.Turns.{turn-done}
@@ -24,8 +24,8 @@ use Rattle.walks.proofs.+item_rest+pack_walk.Lts-item_rest as item-rest
 use Rattle.walks.proofs.pack_walk.Reads as pack-walk
 use Rattle.walks.proofs.pack_walk.Kinds as pack-walk-kinds
 use Rattle.walks.proofs.+item_rest+pack_walk.Lts-pack_walk as pack-walk-lts
-use Rattle.heads.proofs.clear.after.Reads as after-reads
-use Rattle.heads.proofs.is_seen.Reads as is-seen-reads
+use Rattle.repeats.proofs.clear.after.Reads as after-reads
+use Rattle.repeats.proofs.is_seen.Reads as is-seen-reads
 use Rattle.heads.proofs.quick_pack_head.Reads as quick-pack-head-reads
 use Rattle.coding.proofs.either.Reads as either-reads
 use Rattle.walks.proofs.is_series.Reads as is-series-reads

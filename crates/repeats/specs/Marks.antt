@@ -1,0 +1,26 @@
+-- A bit for each key of a quarter, modulo 4,096, in words of 64.
+use mathlib.Core.Path.{_≡_}
+use Prim.Native.Nat.{ℕ, _/_, _%_, _^_, _<_}
+use mathlib.Core.Bool.{Bool, true, false}
+use mathlib.Core.List.{List}
+use lib.ListN.{length, getD, drop}
+use lib.Dec.{eqb}
+use Rattle.format.specs.Answer.{Got}
+use Rattle.format.specs.Lists.{has}
+use Rattle.heads.specs.Meet.{Heads}
+
+abbrev pub quarter : ℕ → ℕ
+quarter k = k / 4096 % 4
+
+unfoldable pub marked : List ℕ → ℕ → Bool
+marked marks k = eqb (getD marks (k / 64 % 64) 0 / 2 ^ (k % 64) % 2) 1
+
+-- key is marked, if it is of the part, and what was marked
+pub record Marked (before after : List ℕ) (key part : ℕ) : Type 0 where
+  pub long : length after ≡ length before
+  pub new : quarter key ≡ part → marked after key ≡ true
+  pub kept : (k : ℕ) → marked before k ≡ true → marked after k ≡ true
+
+-- `Clear`, of the keys of the part
+abbrev pub ClearIn : ℕ → (List ℕ → Got ℕ) → List ℕ → ℕ → Type 0
+ClearIn part look s r = (p : ℕ) → p < r → (ks : List ℕ) → Heads look s p ks → quarter (look (drop p s) .val) ≡ part → has (look (drop p s) .val) ks ≡ false

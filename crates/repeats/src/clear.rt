@@ -1,0 +1,137 @@
+// How far no key of a level repeats, told by four passes: so that keys that neither rise nor fall are not looked back for one by one.
+ghost use mathlib.Core.Path.{_≡_};
+ghost use Prim.Native.Nat.{_≤_};
+ghost use mathlib.Core.Bool.{false};
+ghost use lib.ListN.{length};
+ghost use Rattle.heads.specs.Meet.{peek, Clear};
+ghost use Rattle.repeats.specs.Marks.{quarter, marked, Marked, ClearIn};
+
+// A bit for each key of a quarter, modulo 4,096: every tag has its own. A quarter at a time, as the bits stand on the stack.
+fn is_marked(marks: &[u64; 64], key: u64) -> bool
+    ensures { λ r. ⌜ r ≡ marked (now (marks .entry)) key ⌝ }
+{
+    let i = (key / 64 % 64) as usize;
+    (marks[i] >> key % 64) % 2 == 1
+}
+
+fn mark(marks: &mut [u64; 64], key: u64, part: u64)
+    requires { ⌜ length (now marks) ≡ 64 ⌝ }
+    ensures { λ r. ⌜ Marked (now (marks .entry)) (now (marks .exit)) key part ⌝ }
+{
+    if key / 4096 % 4 != part {
+        return;
+    }
+    let i = (key / 64 % 64) as usize;
+    let w = marks[i];
+    marks[i] = w | 1 << key % 64;
+}
+
+// Whether a key of the part may have stood before, where what stood there is marked: its bit is set.
+fn may_stand(key: u64, part: u64, marks: &[u64; 64]) -> bool
+    ensures { λ r. ⌜ (r ≡ false → quarter key ≡ part → marked (now (marks .entry)) key ≡ false) ⌝ }
+{
+    if key / 4096 % 4 != part {
+        return false;
+    }
+    is_marked(marks, key)
+}
+
+// Whether a record of another level stands at q of a sheet, so that a pass may stop.
+fn is_other(s: &[u8], q: usize, sheet: bool, ids: bool, set: bool) -> bool {
+    if sheet {
+        if ids {
+            return !heads::records::is_mark(s, q, b'T', b'G');
+        }
+        if !set {
+            return !heads::records::is_mark(s, q, b'T', b'I');
+        }
+    }
+    false
+}
+
+// How far no key of a quarter repeats.
+fn part_clear(s: &[u8], part: u64, sheet: bool, ids: bool, set: bool) -> usize
+    ensures { λ r. ⌜ ClearIn part (peek sheet ids set) (now (s .entry)) r ⌝ }
+{
+    let mut marks = [0u64; 64];
+    let mut q: usize = 0;
+    while q < s.len() {
+        if is_other(s, q, sheet, ids, set) {
+            return q;
+        }
+        let n = heads::next_of(&s[q..], sheet, ids, set);
+        if n.used == 0 {
+            return q;
+        }
+        if may_stand(n.key, part, &marks) {
+            return q;
+        }
+        mark(&mut marks, n.key, part);
+        q += n.used;
+    }
+    q
+}
+
+fn least(a: usize, b: usize) -> usize
+    ensures { λ r. ⌜ (r ≤ a) × (r ≤ b) ⌝ }
+{
+    if a < b { a } else { b }
+}
+
+// No thing that begins before there has a key that stood before it.
+fn clear_to(s: &[u8], sheet: bool, ids: bool, set: bool) -> usize
+    ensures { λ r. ⌜ Clear (peek sheet ids set) (now (s .entry)) r ⌝ }
+{
+    let mut part: u64 = 0;
+    let mut r = s.len();
+    while part < 4 {
+        r = least(r, part_clear(s, part, sheet, ids, set));
+        part += 1;
+    }
+    // ids share bits, so where the passes stopped at one it may still be new
+    if ids {
+        if r < s.len() {
+            if !is_other(s, r, sheet, ids, set) {
+                return super::blocks::clear_to(s, sheet, set);
+            }
+        }
+    }
+    r
+}
+
+// As far as it is known after the key at p: the passes are made once, after the second look back over more than a few heads; 1 says that there was one.
+pub fn after(
+    s: &[u8],
+    p: usize,
+    clear: usize,
+    top: u64,
+    low: u64,
+    key: u64,
+    sheet: bool,
+    ids: bool,
+    set: bool,
+) -> usize
+    requires { ⌜ Clear (peek sheet ids set) (now s) clear ⌝ }
+    ensures { λ r. ⌜ Clear (peek sheet ids set) (now (s .entry)) r ⌝ }
+{
+    if top < key {
+        return clear;
+    }
+    if key < low {
+        return clear;
+    }
+    if p < 512 {
+        return clear;
+    }
+    if clear == 0 {
+        return 1;
+    }
+    if 1 < clear {
+        return clear;
+    }
+    // two calls: the passes, with their array, then stay a function of its own, and only these tests stand in the walks
+    if sheet {
+        return clear_to(s, true, ids, set);
+    }
+    clear_to(s, false, ids, set)
+}

@@ -21,11 +21,11 @@ use Rattle.format.specs.Valid.{All}
 use Rattle.format.proofs.reading.Seal.{SetRead, split, split-embedded, split-alone}
 use Rattle.coding.proofs.Rooms.{tail-part}
 use Rattle.items.specs.Meet.{formOf}
-use Rattle.walks.specs.declared.Sizes.{Sizes}
-use Rattle.walks.specs.Meet.{total, any, weightOfEntry}
-use Rattle.walks.proofs.Walks.{same-sizes}
-use Rattle.walks.proofs.Totals.{parts-sheet, parts-normal, parts-inner, entries-say, says-no-seal, entries-count, seal-last}
-use Rattle.walks.proofs.Parsed.{packetOf}
+use Rattle.levels.specs.declared.Sizes.{Sizes}
+use Rattle.levels.specs.Meet.{total, any, weightOfEntry}
+use Rattle.levels.proofs.Walks.{same-sizes}
+use Rattle.levels.proofs.Totals.{parts-sheet, parts-normal, parts-inner, entries-say, says-no-seal, entries-count, seal-last}
+use Rattle.levels.proofs.Parsed.{packetOf}
 use Rattle.checks.specs.declared.Checked.{Checked}
 use Rattle.checks.specs.declared.Checked.the-variants.{Fine, Wrong}
 use Rattle.checks.specs.Meet.{checkedOf, fineOf, closingBy}

@@ -10,9 +10,9 @@ use Rattle.format.specs.Packet.{Packet}
 use Rattle.format.specs.Table.{Form, set}
 use Rattle.format.specs.Read.{opening, start, parse}
 use Rattle.coding.proofs.Rooms.{tail-part}
-use Rattle.walks.specs.declared.Sizes.{Sizes}
-use Rattle.walks.specs.Runs.{Ran, levelRun}
-use Rattle.walks.proofs.Parsed.{Parsed}
+use Rattle.levels.specs.declared.Sizes.{Sizes}
+use Rattle.levels.specs.Runs.{Ran, levelRun}
+use Rattle.levels.proofs.Parsed.{Parsed}
 use Rattle.checks.specs.declared.Checked.{Checked}
 use Rattle.checks.specs.declared.Checked.the-variants.{Fine}
 use Rattle.checks.specs.Meet.{checkedOf}

@@ -20,13 +20,13 @@ use Rattle.coding.specs.declared.Num.{Num}
 use Rattle.coding.specs.declared.Num.the-variants.{Value, Refused}
 use Rattle.coding.proofs.Rooms.{tail-part}
 use Rattle.items.proofs.Tests.{bind-so, bind-not, need-so, need-not}
-use Rattle.walks.specs.declared.Sizes.{Sizes}
-use Rattle.walks.specs.declared.Walked.{Walked}
-use Rattle.walks.specs.declared.Walked.the-variants.{Good, Bad}
-use Rattle.walks.specs.Meet.{total, weightOfEntry, deepenAt, stepAt, walkedOf, levelWalk, Within}
-use Rattle.walks.proofs.Maps.{walked-good, walked-bad}
-use Rattle.walks.proofs.Turns.{within-more}
-use Rattle.walks.proofs.Parsed.{packetOf}
+use Rattle.levels.specs.declared.Sizes.{Sizes}
+use Rattle.levels.specs.declared.Walked.{Walked}
+use Rattle.levels.specs.declared.Walked.the-variants.{Good, Bad}
+use Rattle.levels.specs.Meet.{total, weightOfEntry, deepenAt, stepAt, walkedOf, levelWalk, Within}
+use Rattle.levels.proofs.Maps.{walked-good, walked-bad}
+use Rattle.levels.proofs.Turns.{within-more}
+use Rattle.levels.proofs.Parsed.{packetOf}
 use Rattle.checks.specs.declared.Checked.{Checked}
 use Rattle.checks.specs.declared.Checked.the-variants.{Wrong}
 use Rattle.checks.specs.Meet.{checkedOf, widthOf, numFault, walkFault, closingBy}

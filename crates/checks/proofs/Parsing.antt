@@ -16,10 +16,10 @@ use Rattle.format.proofs.words.Answers.{never, bind-then, need-then, after-then
 use Rattle.format.proofs.words.Bytes.{bytes-drop}
 use Rattle.format.proofs.reading.Seal.{SetRead, split, split-embedded, split-alone}
 use Rattle.format.proofs.reading.Packets.{set-says}
-use Rattle.walks.specs.declared.Sizes.{Sizes}
-use Rattle.walks.specs.Meet.{stepAt, deepenAt}
-use Rattle.walks.specs.Runs.{levelRun}
-use Rattle.walks.proofs.Parsed.{Sealing, Parsed}
+use Rattle.levels.specs.declared.Sizes.{Sizes}
+use Rattle.levels.specs.Meet.{stepAt, deepenAt}
+use Rattle.levels.specs.Runs.{levelRun}
+use Rattle.levels.proofs.Parsed.{Sealing, Parsed}
 use Rattle.checks.specs.declared.Checked.the-variants.{Fine, Wrong}
 use Rattle.checks.specs.Meet.{checkedOf}
 use Rattle.checks.proofs.Openings.{opening-room}

@@ -18,17 +18,17 @@ use Rattle.items.proofs.Glances.{plainly, any-size}
 use Rattle.heads.specs.declared.Head.{Head}
 use Rattle.heads.specs.declared.Head.the-variants as heads
 use Rattle.heads.specs.Meet.{itemHeadOf}
-use Rattle.walks.specs.declared.Sizes.{Sizes}
-use Rattle.walks.specs.declared.Walked.{Walked}
-use Rattle.walks.specs.declared.quick.Quick.{Quick}
-use Rattle.walks.specs.declared.Walked.the-variants.{Good}
-use Rattle.walks.specs.Meet.{itemSizes, seriesSizes, plusSizes, seriesWalk, seriesFrom, Small, Within}
-use Rattle.walks.specs.Going.{LevelGoing, quickAt}
-use Rattle.walks.proofs.Turns.{within-more}
-use Rattle.walks.proofs.Pieces.{piece-within}
-use Rattle.walks.proofs.ItemTurns.{ItemAt, EntryTold, item-told, series-told, good-small, entry-more}
-use Rattle.walks.proofs.Glances.{met-item, begun-later}
-use Rattle.walks.proofs.Beyond.{or-false}
+use Rattle.levels.specs.declared.Sizes.{Sizes}
+use Rattle.levels.specs.declared.Walked.{Walked}
+use Rattle.levels.specs.declared.quick.Quick.{Quick}
+use Rattle.levels.specs.declared.Walked.the-variants.{Good}
+use Rattle.levels.specs.Meet.{itemSizes, seriesSizes, plusSizes, seriesWalk, seriesFrom, Small, Within}
+use Rattle.levels.specs.Going.{LevelGoing, quickAt}
+use Rattle.levels.proofs.Turns.{within-more}
+use Rattle.levels.proofs.Pieces.{piece-within}
+use Rattle.levels.proofs.ItemTurns.{ItemAt, EntryTold, item-told, series-told, good-small, entry-more}
+use Rattle.levels.proofs.Glances.{met-item, begun-later}
+use Rattle.levels.proofs.Beyond.{or-false}
 use Rattle.checks.specs.Meet.{HeadIf}
 
 -- ---- their values

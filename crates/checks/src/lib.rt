@@ -9,11 +9,11 @@ ghost use Rattle.format.specs.Packet.{checksum};
 ghost use Rattle.format.specs.Table.{standalone};
 ghost use Rattle.format.specs.Read.{opening, start, parse};
 ghost use Rattle.items.specs.Meet.{formOf, glanceTable};
-ghost use Rattle.walks.specs.Meet.{Within};
+ghost use Rattle.levels.specs.Meet.{Within};
 ghost use Rattle.checks.specs.Meet.{checkedOf, widthOf, numFault, walkFault, closingBy, fineOf};
 use coding::Num;
-use walks::Sizes;
-use walks::Walked;
+use levels::Sizes;
+use levels::Walked;
 
 // The sizes of what a packet says, or the refusal.
 pub enum Checked {

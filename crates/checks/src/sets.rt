@@ -5,14 +5,14 @@ ghost use mathlib.Core.Bool.{true};
 ghost use lib.ListN.{length};
 ghost use Rattle.format.specs.Table.{set};
 ghost use Rattle.items.specs.Meet.{formOf, glanceTable};
-ghost use Rattle.walks.specs.Meet.{Small, seriesSizes, plusSizes, levelWalk, seriesWalk, Within};
-ghost use Rattle.walks.specs.Going.{LevelGoing, SeriesGoing, quickAt};
+ghost use Rattle.levels.specs.Meet.{Small, seriesSizes, plusSizes, levelWalk, seriesWalk, Within};
+ghost use Rattle.levels.specs.Going.{LevelGoing, SeriesGoing, quickAt};
 ghost use Rattle.checks.specs.Meet.{HeadIf};
 use heads::Head;
-use walks::Sizes;
-use walks::Walked;
-use walks::quick;
-use walks::quick::Quick;
+use levels::Sizes;
+use levels::Walked;
+use levels::quick;
+use levels::quick::Quick;
 
 // The head of the item at p, if that begins with this byte: then most of it is known. Else 0 as a fault.
 fn head_at(s: &[u8], p: usize, byte: u8) -> Head
@@ -58,8 +58,8 @@ fn after_series(q: Quick, next: usize, sizes: Sizes) -> Quick
     requires { ⌜ Small sizes × Small (q .sizes) × Small (seriesSizes sizes) ⌝ }
     ensures { λ r. ⌜ (r .low ≤ q .low) × (r .low ≤ 101) × (r ≡ quickAt next (plusSizes (q .sizes) (seriesSizes sizes)) (q .mark) 101 (r .low)) ⌝ }
 {
-    let sum = walks::weights::plus(q.sizes, walks::weights::series_sizes(sizes));
-    quick::stands(next, sum, q.mark, 101, walks::smaller(q.low, 101))
+    let sum = levels::weights::plus(q.sizes, levels::weights::series_sizes(sizes));
+    quick::stands(next, sum, q.mark, 101, levels::smaller(q.low, 101))
 }
 
 // On over the series, if it stands next. A refusal in it is left to the item walk, and so is a lone pack that is not told at a glance.
@@ -84,14 +84,14 @@ fn series(glances: &[u32], s: &[u8], alone: bool, q: Quick) -> Quick
     let from = p + used + width;
     let next = from + size;
     let packs = &s[from..next];
-    if walks::packs::is_lone(packs) {
-        let one = walks::packs::lone(glances, packs, alone);
+    if levels::packs::is_lone(packs) {
+        let one = levels::packs::lone(glances, packs, alone);
         if one.at == packs.len() {
             return after_series(q, next, one.sizes);
         }
         return q;
     }
-    let d = walks::packs::packs(glances, packs, alone);
+    let d = levels::packs::packs(glances, packs, alone);
     // no enum goes through memory where all are told at a glance
     if d.at == packs.len() {
         return after_series(q, next, d.sizes);
@@ -145,8 +145,8 @@ fn seal(s: &[u8], alone: bool, q: Quick) -> Quick
     if !is_seal_next(alone, p, q.low, key, size, next == s.len()) {
         return q;
     }
-    let sum = walks::weights::plus(q.sizes, walks::weights::plain_sizes(true, 1, 2));
-    quick::stands(next, sum, true, walks::larger(q.top, 1), 1)
+    let sum = levels::weights::plus(q.sizes, levels::weights::plain_sizes(true, 1, 2));
+    quick::stands(next, sum, true, levels::larger(q.top, 1), 1)
 }
 
 // The rest of the set, from where the quick way ended: its checksum, or whatever is left, one by one.

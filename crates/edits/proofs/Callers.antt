@@ -21,9 +21,9 @@ use Rattle.format.proofs.edits.Rules.{rules-then}
 use Rattle.coding.proofs.Counts.{len-most}
 use Rattle.items.specs.Meet.{levelOf}
 use Rattle.items.proofs.Tests.{bind-so}
-use Rattle.walks.specs.declared.Sizes.{Sizes}
-use Rattle.walks.specs.Runs.{levelRun}
-use Rattle.walks.proofs.Parsed.{Sealing, Parsed}
+use Rattle.levels.specs.declared.Sizes.{Sizes}
+use Rattle.levels.specs.Runs.{levelRun}
+use Rattle.levels.proofs.Parsed.{Sealing, Parsed}
 use Rattle.checks.specs.declared.Checked.{Checked}
 use Rattle.checks.specs.declared.Checked.the-variants.{Fine}
 use Rattle.checks.specs.Meet.{checkedOf}

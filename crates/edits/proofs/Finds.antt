@@ -19,7 +19,7 @@ use Rattle.format.proofs.words.Changes.{map-ask}
 use Rattle.format.proofs.words.Keys.{all-map}
 use Rattle.format.proofs.sheets.Content.{target-id}
 use Rattle.format.proofs.edits.Results.{part-series}
-use Rattle.walks.specs.Runs.{Ran, levelRun, seriesRun}
+use Rattle.levels.specs.Runs.{Ran, levelRun, seriesRun}
 use Rattle.spots.specs.declared.Spot.{Spot}
 use Rattle.spots.specs.Meet.{thingsOf, hasItem, hasId, packsOf, itemLead, entryLead, entrySpot}
 use Rattle.spots.proofs.Splices.{Missed, Hit, hit-spot, spot-room, ask-hit, ask-absent}

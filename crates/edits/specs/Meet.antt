@@ -16,7 +16,7 @@ use Rattle.format.specs.Calls.{itemOf, packed}
 use Rattle.format.specs.Rows.{sealItem}
 use Rattle.format.specs.Edit.{Holder, theSet, target, Change, put, remove, levelOf, valWith, tagsAt, editRules, editEntries}
 use Rattle.format.specs.Valid.{All}
-use Rattle.walks.specs.Runs.{Ran, levelRun}
+use Rattle.levels.specs.Runs.{Ran, levelRun}
 use Rattle.spots.specs.Meet.{entriesOf, packsOf, hasId, itemSpot}
 use Rattle.normals.specs.Meet.{seriesFront}
 use Rattle.edits.specs.declared.Place.{Place}

@@ -10,7 +10,7 @@ ghost use Rattle.format.specs.Table.{set, isAlone, nameable};
 ghost use Rattle.format.specs.Edit.{theSet, target, put, mustStay, changeRules};
 ghost use Rattle.items.specs.Meet.{formOf, levelOf, glanceTable, answerOf};
 ghost use Rattle.items.specs.Quick.{Quick};
-ghost use Rattle.walks.specs.Runs.{Ran, seriesRun};
+ghost use Rattle.levels.specs.Runs.{Ran, seriesRun};
 ghost use Rattle.edits.specs.Meet.{holderOf, changeOf, sealSize, SetOf, Placed, shiftedOf, FoundInPacks, FoundIs, Judged};
 
 // Where an item stands in the bytes of a packet's set. For a target's item: where the series begins, its packs, the pack, the pack's id,

@@ -13,7 +13,7 @@ use Rattle.format.specs.Read.{opening, start, parse}
 use Rattle.format.specs.Rows.{Row, rowsOf, locate}
 use Rattle.format.proofs.demands.Sizes.{sizes as size-law}
 use Rattle.items.proofs.Tests.{bind-so, bind-not}
-use Rattle.walks.specs.declared.Sizes.{Sizes}
+use Rattle.levels.specs.declared.Sizes.{Sizes}
 use Rattle.checks.specs.declared.Checked.{Checked}
 use Rattle.checks.specs.declared.Checked.the-variants.{Fine, Wrong}
 use Rattle.checks.specs.Meet.{checkedOf}

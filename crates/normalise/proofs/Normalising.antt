@@ -21,9 +21,9 @@ use Rattle.format.proofs.sheets.Normal.{entries-less}
 use Rattle.format.proofs.sheets.Same.{normal-less, normal-same}
 use Rattle.format.specs.Valid.{All}
 use Rattle.items.proofs.Tests.{bind-so, bind-not}
-use Rattle.walks.specs.declared.Sizes.{Sizes}
-use Rattle.walks.specs.Meet.{total, weightOfEntry}
-use Rattle.walks.specs.Runs.{levelRun}
+use Rattle.levels.specs.declared.Sizes.{Sizes}
+use Rattle.levels.specs.Meet.{total, weightOfEntry}
+use Rattle.levels.specs.Runs.{levelRun}
 use Rattle.checks.specs.declared.Checked.{Checked}
 use Rattle.checks.specs.declared.Checked.the-variants.{Fine, Wrong}
 use Rattle.checks.specs.Meet.{checkedOf}

@@ -17,8 +17,8 @@ use Rattle.format.proofs.words.Bytes.{bytes-drop, Took}
 use Rattle.format.proofs.coding.Lengths.{length-len}
 use Rattle.format.proofs.reading.Packs.{PackRead, pack-says}
 use Rattle.format.proofs.sheets.Same.{items-shrink}
-use Rattle.walks.specs.Meet.{total, weightOfItem}
-use Rattle.walks.specs.Runs.{madeOf}
+use Rattle.levels.specs.Meet.{total, weightOfItem}
+use Rattle.levels.specs.Runs.{madeOf}
 use Rattle.stores.proofs.Writing.{each}
 use Rattle.stores.proofs.Packs.{PackAt, one-pack, pack-stands, itemsAt, items-long, items-run}
 use Rattle.normals.specs.Meet.{entryNormal, packNormal, levelNormal}

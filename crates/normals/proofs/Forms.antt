@@ -14,13 +14,13 @@ use Rattle.format.specs.Packet.{Item, Pack, Entry, plain, series, tagOfEntry, f
 use Rattle.format.specs.Sheet.{valOf, targetOf, partOf}
 use Rattle.format.specs.Calls.{itemOf, packWith, packOf, seriesWith, entryOf}
 use Rattle.format.specs.Valid.{All}
-use Rattle.walks.specs.declared.Sizes.{Sizes}
-use Rattle.walks.specs.declared.Walked.{Walked}
-use Rattle.walks.specs.declared.Walked.the-variants.{Good, Bad}
-use Rattle.walks.specs.Meet.{total, any, weightOfVal, weightOfItem, weightOfEntry, walkedOf, levelWalk}
-use Rattle.walks.specs.Runs.{levelRun, madeOf}
-use Rattle.walks.proofs.Maps.{total-map}
-use Rattle.walks.proofs.Totals.{body-normal}
+use Rattle.levels.specs.declared.Sizes.{Sizes}
+use Rattle.levels.specs.declared.Walked.{Walked}
+use Rattle.levels.specs.declared.Walked.the-variants.{Good, Bad}
+use Rattle.levels.specs.Meet.{total, any, weightOfVal, weightOfItem, weightOfEntry, walkedOf, levelWalk}
+use Rattle.levels.specs.Runs.{levelRun, madeOf}
+use Rattle.levels.proofs.Maps.{total-map}
+use Rattle.levels.proofs.Totals.{body-normal}
 use Rattle.normals.specs.Meet.{itemNormal, entryNormal, packNormal, seriesFront, packFront, InnerIs, InnerRun}
 
 -- ---- an entry

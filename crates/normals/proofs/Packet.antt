@@ -20,12 +20,12 @@ use Rattle.format.specs.Calls.{entryOf}
 use Rattle.format.specs.Valid.{All, Once}
 use Rattle.format.proofs.words.Bytes.{bytes-drop}
 use Rattle.format.proofs.reading.Packets.{set-says, set-once}
-use Rattle.walks.specs.Meet.{total, itemSizes, weightOfItem, weightOfPack, weightOfEntry, weightOfTarget, stepAt, deepenAt}
-use Rattle.walks.specs.Runs.{levelRun}
-use Rattle.walks.proofs.Maps.{total-map}
-use Rattle.walks.proofs.Inners.{one-inside}
-use Rattle.walks.proofs.Totals.{pack-says, targets-normal, seal-last}
-use Rattle.walks.proofs.Parsed.{Sealing, Parsed}
+use Rattle.levels.specs.Meet.{total, itemSizes, weightOfItem, weightOfPack, weightOfEntry, weightOfTarget, stepAt, deepenAt}
+use Rattle.levels.specs.Runs.{levelRun}
+use Rattle.levels.proofs.Maps.{total-map}
+use Rattle.levels.proofs.Inners.{one-inside}
+use Rattle.levels.proofs.Totals.{pack-says, targets-normal, seal-last}
+use Rattle.levels.proofs.Parsed.{Sealing, Parsed}
 use Rattle.stores.proofs.Unsealed.{unsealed-same}
 use Rattle.normals.specs.Meet.{itemNormal, entryNormal, packNormal, levelNormal, InnerIs, InnerRun}
 use Rattle.normals.proofs.Forms.{packs-normal}

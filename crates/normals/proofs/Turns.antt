@@ -12,12 +12,12 @@ use Rattle.format.specs.Coding.{oidBytes}
 use Rattle.format.specs.Lists.{flatAll}
 use Rattle.format.specs.Table.{Form, pack}
 use Rattle.items.specs.Meet.{levelOf}
-use Rattle.walks.specs.declared.Sizes.{Sizes}
-use Rattle.walks.specs.declared.Walked.{Walked}
-use Rattle.walks.specs.declared.Walked.the-variants.{Good, Bad}
-use Rattle.walks.specs.Meet.{levelWalk, total, weightOfItem, Within}
-use Rattle.walks.specs.Runs.{Ran, madeOf, levelRun, seriesRun}
-use Rattle.walks.proofs.Turns.{within-of}
+use Rattle.levels.specs.declared.Sizes.{Sizes}
+use Rattle.levels.specs.declared.Walked.{Walked}
+use Rattle.levels.specs.declared.Walked.the-variants.{Good, Bad}
+use Rattle.levels.specs.Meet.{levelWalk, total, weightOfItem, Within}
+use Rattle.levels.specs.Runs.{Ran, madeOf, levelRun, seriesRun}
+use Rattle.levels.proofs.Turns.{within-of}
 use Rattle.stores.proofs.Stores.{tail-length}
 use Rattle.stores.proofs.Puts.{Puts, puts-then, Parted, head-room, head-behind, rest-room, rest-put}
 use Rattle.stores.proofs.Writing.{each}

@@ -13,7 +13,7 @@ use Rattle.format.specs.Packet.{Pack, Entry, plain, series, flatItem, flatPack,
 use Rattle.format.specs.Sheet.{targetOf, partOf}
 use Rattle.format.specs.Calls.{itemOf, packOf, entryOf}
 use Rattle.format.specs.Valid.{All}
-use Rattle.walks.specs.Runs.{levelRun, seriesRun, madeOf}
+use Rattle.levels.specs.Runs.{levelRun, seriesRun, madeOf}
 
 -- an item under its shortest length, a number shortened; the set's checksum has no place among the entries
 unfoldable pub itemNormal : Level → ℕ → List ℕ → List ℕ

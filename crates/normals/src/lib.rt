@@ -5,9 +5,9 @@ ghost use lib.ListN.{length};
 ghost use lib.Seq.{sets};
 ghost use Rattle.items.specs.Meet.{formOf, levelOf, itemTable, glanceTable};
 ghost use Rattle.normals.specs.Meet.{itemNormal, seriesFront, packFront, InnerRun, levelNormal, seriesNormal};
-ghost use Rattle.walks.specs.Runs.{Ran, levelRun, seriesRun};
+ghost use Rattle.levels.specs.Runs.{Ran, levelRun, seriesRun};
 use heads::Head;
-use walks::Walked;
+use levels::Walked;
 
 // ---- items and heads
 
@@ -74,7 +74,7 @@ pub fn item_normal(
         };
         let from = p + used + width;
         let next = from + size;
-        k = if walks::is_series(set, key) {
+        k = if levels::is_series(set, key) {
             let m = put_series(out, k, inner);
             m + pack_normal(table, glances, &s[from..next], alone, &mut out[m..])
         } else {

@@ -16,9 +16,9 @@ use Rattle.format.specs.Sheet.{Val, Part, one, targets}
 use Rattle.format.specs.Calls.{itemOf, packWith, packOf, seriesWith, entryOf}
 use Rattle.format.specs.Valid.{All}
 use Rattle.coding.proofs.Counts.{len-one, len-above}
-use Rattle.walks.specs.Meet.{total, weightOfVal}
-use Rattle.walks.specs.Runs.{madeOf}
-use Rattle.walks.proofs.Totals.{body-normal}
+use Rattle.levels.specs.Meet.{total, weightOfVal}
+use Rattle.levels.specs.Runs.{madeOf}
+use Rattle.levels.proofs.Totals.{body-normal}
 use Rattle.normals.specs.Meet.{seriesFront, packFront}
 use Rattle.packets.specs.Meet.{partNormal, targetNormal, InnerPart, InnerParts}
 use Rattle.packets.specs.Writing.{partBytes}

@@ -17,10 +17,10 @@ use Rattle.format.specs.Calls.{packOf, entryOf}
 use Rattle.format.specs.Valid.{Once}
 use Rattle.format.proofs.words.Answers.{never, bind-then, need-then, after-then, after-need-then, ok-inj}
 use Rattle.format.proofs.sheets.Sheets.{sheet-says}
-use Rattle.walks.specs.Meet.{total, weightOfPart}
-use Rattle.walks.specs.Runs.{Ran, madeOf}
-use Rattle.walks.proofs.Inners.{one-inside}
-use Rattle.walks.proofs.Totals.{val-inner, targets-normal}
+use Rattle.levels.specs.Meet.{total, weightOfPart}
+use Rattle.levels.specs.Runs.{Ran, madeOf}
+use Rattle.levels.proofs.Inners.{one-inside}
+use Rattle.levels.proofs.Totals.{val-inner, targets-normal}
 use Rattle.records.specs.Meet.{partStep}
 use Rattle.stores.proofs.Entries.{ran-ok}
 use Rattle.packets.specs.Meet.{recordsRun, partNormal, recordsNormal, InnerPart, InnerParts}

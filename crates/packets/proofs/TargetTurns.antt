@@ -15,8 +15,8 @@ use Rattle.format.specs.Sheet.{one, idOfTarget, TG, is, targetAt}
 use Rattle.format.proofs.words.Bytes.{bytes-drop}
 use Rattle.coding.proofs.Counts.{len-one}
 use Rattle.coding.proofs.Rooms.{tail-part}
-use Rattle.walks.specs.Meet.{total, weightOfVal}
-use Rattle.walks.specs.Runs.{madeOf}
+use Rattle.levels.specs.Meet.{total, weightOfVal}
+use Rattle.levels.specs.Runs.{madeOf}
 use Rattle.records.proofs.Runs.{vals-used}
 use Rattle.stores.specs.Writing.{Writing}
 use Rattle.stores.proofs.Puts.{Puts, Parted, head-room}

@@ -18,7 +18,7 @@ use Rattle.format.proofs.words.Bytes.{bytes-drop}
 use Rattle.coding.proofs.Rooms.{tail-part}
 use Rattle.coding.proofs.Lens.{two-small}
 use Rattle.items.specs.Meet.{levelOf}
-use Rattle.walks.specs.Runs.{Ran, madeOf}
+use Rattle.levels.specs.Runs.{Ran, madeOf}
 use Rattle.records.specs.Meet.{moreAt, partStep}
 use Rattle.records.proofs.Runs.{targets-used}
 use Rattle.stores.proofs.Puts.{Puts, Parted, head-room, head-behind, rest-room, rest-put}

@@ -11,7 +11,7 @@ use Rattle.format.specs.Packet.{flatPack, flatEntry}
 use Rattle.format.specs.Sheet.{Target, Part, one, targets, idOfTarget, tagOfPart, TG, is, targetAt}
 use Rattle.format.specs.Calls.{packOf, entryOf}
 use Rattle.format.specs.Valid.{All}
-use Rattle.walks.specs.Runs.{madeOf}
+use Rattle.levels.specs.Runs.{madeOf}
 use Rattle.records.specs.Meet.{moreAt, partStep}
 
 unfoldable pub recordsRun : Level → Form → List ℕ → Ans (Got (List Part))

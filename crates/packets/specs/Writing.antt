@@ -10,7 +10,7 @@ use Rattle.format.specs.Packet.{flatItem}
 use Rattle.format.specs.Sheet.{Part, one, targets, tagOfPart}
 use Rattle.format.specs.Calls.{itemOf}
 use Rattle.items.specs.Meet.{levelOf}
-use Rattle.walks.specs.Runs.{Ran}
+use Rattle.levels.specs.Runs.{Ran}
 use Rattle.records.specs.Meet.{moreAt, partStep}
 use Rattle.stores.specs.Writing.{Writing}
 use Rattle.normals.specs.Meet.{seriesFront}

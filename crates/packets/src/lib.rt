@@ -6,7 +6,7 @@ ghost use mathlib.Core.List.{List, [], _∷_};
 ghost use lib.ListN.{length, take, drop};
 ghost use lib.Seq.{sets};
 ghost use Rattle.items.specs.Meet.{formOf, levelOf};
-ghost use Rattle.walks.specs.Runs.{Ran};
+ghost use Rattle.levels.specs.Runs.{Ran};
 ghost use Rattle.format.specs.Coding.{bytesNumber};
 ghost use Rattle.format.specs.Table.{pack};
 ghost use Rattle.format.specs.Packet.{flatItem};

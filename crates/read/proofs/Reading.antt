@@ -17,7 +17,7 @@ use Rattle.format.specs.Room.{leaves}
 use Rattle.format.proofs.coding.Digits.{length-fixed}
 use Rattle.items.specs.Meet.{formOf}
 use Rattle.items.proofs.Tests.{bind-so, bind-not}
-use Rattle.walks.specs.declared.Sizes.{Sizes}
+use Rattle.levels.specs.declared.Sizes.{Sizes}
 use Rattle.checks.specs.declared.Checked.{Checked}
 use Rattle.checks.specs.declared.Checked.the-variants.{Fine, Wrong}
 use Rattle.checks.specs.Meet.{checkedOf}

@@ -14,8 +14,8 @@ use Rattle.coding.specs.Alike.{AlikeTo, ItemMarked}
 use Rattle.coding.proofs.Alikes.{marked-before, marked-head, marked-value}
 use Rattle.items.specs.Meet.{levelOf}
 use Rattle.items.specs.Quick.{Quick}
-use Rattle.walks.specs.Meet.{markTag}
-use Rattle.walks.proofs.Alikes.{quick-alike}
+use Rattle.levels.specs.Meet.{markTag}
+use Rattle.levels.proofs.Alikes.{quick-alike}
 use Rattle.records.specs.Going.{RecordsGoing, Glanced}
 use Rattle.records.proofs.Glances.{quickSizes, glance-room, glance-of, glance-next, glance-more}
 

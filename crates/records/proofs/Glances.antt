@@ -22,14 +22,14 @@ use Rattle.items.proofs.Tests.{standing-0}
 use Rattle.heads.specs.Meet.{peek, Past}
 use Rattle.heads.proofs.Heads.{mid-part}
 use Rattle.heads.proofs.Spans.{val-whole, a-field}
-use Rattle.walks.specs.declared.Piece.{Piece}
-use Rattle.walks.specs.declared.Piece.the-variants as piece
-use Rattle.walks.specs.declared.Sizes.{Sizes}
-use Rattle.walks.specs.Meet.{sizes, itemSizes, packSizes, plusSizes, markTag}
-use Rattle.walks.specs.Going.{Begun}
-use Rattle.walks.proofs.Walks.{same-sizes}
-use Rattle.walks.proofs.Glances.{begun-later}
-use Rattle.walks.proofs.ItemTurns.{level-is}
+use Rattle.levels.specs.declared.Piece.{Piece}
+use Rattle.levels.specs.declared.Piece.the-variants as piece
+use Rattle.levels.specs.declared.Sizes.{Sizes}
+use Rattle.levels.specs.Meet.{sizes, itemSizes, packSizes, plusSizes, markTag}
+use Rattle.levels.specs.Going.{Begun}
+use Rattle.levels.proofs.Walks.{same-sizes}
+use Rattle.levels.proofs.Glances.{begun-later}
+use Rattle.levels.proofs.ItemTurns.{level-is}
 use Rattle.records.specs.Meet.{pieceBy, valueWhole, partPiece, moreAt}
 use Rattle.records.specs.Going.{RecordsGoing, Glanced, wordOf}
 use Rattle.records.proofs.Values.{value-within, value-whole}

@@ -12,14 +12,14 @@ use Rattle.format.specs.Table.{pack}
 use Rattle.format.proofs.words.Bytes.{bytes-drop}
 use Rattle.coding.proofs.Rooms.{tail-part}
 use Rattle.items.specs.Meet.{formOf}
-use Rattle.walks.specs.declared.quick.Quick.{Quick}
-use Rattle.walks.specs.declared.packs.Model.{Model}
-use Rattle.walks.specs.declared.Walked.the-variants.{Good}
-use Rattle.walks.specs.Meet.{sizes, Within}
-use Rattle.walks.specs.Going.{Reached}
-use Rattle.walks.specs.Packs.{As}
-use Rattle.walks.proofs.Turns.{turn-done}
-use Rattle.walks.proofs.PackTurns.{either-is}
+use Rattle.levels.specs.declared.quick.Quick.{Quick}
+use Rattle.levels.specs.declared.packs.Model.{Model}
+use Rattle.levels.specs.declared.Walked.the-variants.{Good}
+use Rattle.levels.specs.Meet.{sizes, Within}
+use Rattle.levels.specs.Going.{Reached}
+use Rattle.levels.specs.Packs.{As}
+use Rattle.levels.proofs.Turns.{turn-done}
+use Rattle.levels.proofs.PackTurns.{either-is}
 use Rattle.records.specs.Meet.{recordsWalk}
 use Rattle.records.specs.Going.{RecordsGoing, TargetsGoing}
 use Rattle.records.specs.Targets.{Laid, Held, Over, Modelled}

@@ -23,9 +23,9 @@ use Rattle.heads.specs.declared.records.Field.{Field}
 use Rattle.heads.specs.declared.records.Field.the-variants as fields
 use Rattle.heads.proofs.Spans.{target-there, series-there, part-val}
 use Rattle.heads.proofs.SheetRuns.{field-key}
-use Rattle.walks.specs.declared.Piece.{Piece}
-use Rattle.walks.specs.declared.Piece.the-variants as piece
-use Rattle.walks.proofs.Pieces.{answer-none, answer-some}
+use Rattle.levels.specs.declared.Piece.{Piece}
+use Rattle.levels.specs.declared.Piece.the-variants as piece
+use Rattle.levels.proofs.Pieces.{answer-none, answer-some}
 use Rattle.records.specs.Meet.{pieceBy, valueWhole, seriesWhole, targetWhole, seriesOpens, targetOpens, partPiece}
 
 -- ---- the series; x: a `TG` follows its mark

@@ -22,20 +22,20 @@ use Rattle.items.proofs.Tests.{bind-so, bind-not}
 use Rattle.heads.specs.Meet.{peek, Past}
 use Rattle.heads.proofs.Spans.{is-room}
 use Rattle.heads.proofs.SheetRuns.{series-peek}
-use Rattle.walks.specs.declared.Piece.{Piece}
-use Rattle.walks.specs.declared.Piece.the-variants as piece
-use Rattle.walks.specs.declared.Sizes.{Sizes}
-use Rattle.walks.specs.declared.Walked.{Walked}
-use Rattle.walks.specs.declared.Walked.the-variants.{Good, Bad}
-use Rattle.walks.specs.Meet.{sizes, noSizes, lengthened, itemSizes, seriesSizes, plusSizes, weightOfTarget, markTag, seriesFrom, stopAt, laterBy, Few, Small, Within}
-use Rattle.walks.proofs.Walks.{few-more, going-start}
-use Rattle.walks.proofs.Series.{after-not}
-use Rattle.walks.proofs.ItemTurns.{level-is}
-use Rattle.walks.proofs.Turns.{Reads, within-of, turn-bad, turn-more}
+use Rattle.levels.specs.declared.Piece.{Piece}
+use Rattle.levels.specs.declared.Piece.the-variants as piece
+use Rattle.levels.specs.declared.Sizes.{Sizes}
+use Rattle.levels.specs.declared.Walked.{Walked}
+use Rattle.levels.specs.declared.Walked.the-variants.{Good, Bad}
+use Rattle.levels.specs.Meet.{sizes, noSizes, lengthened, itemSizes, seriesSizes, plusSizes, weightOfTarget, markTag, seriesFrom, stopAt, laterBy, Few, Small, Within}
+use Rattle.levels.proofs.Walks.{few-more, going-start}
+use Rattle.levels.proofs.Series.{after-not}
+use Rattle.levels.proofs.ItemTurns.{level-is}
+use Rattle.levels.proofs.Turns.{Reads, within-of, turn-bad, turn-more}
 use Rattle.records.specs.Meet.{partPiece, moreAt, partStep, weightAt, recordsWalk, targetsWalk}
 use Rattle.records.specs.Going.{RecordsGoing}
 use Rattle.records.proofs.Parts.{part-fault, ValueStood, value-stood, SeriesStood, series-stood}
-use Rattle.walks.proofs.Maps.{walked-good, walked-bad}
+use Rattle.levels.proofs.Maps.{walked-good, walked-bad}
 use Rattle.records.proofs.Runs.{targets-used, slim-targets, slim-series}
 
 pub records-start : (b : Bool) (f : Form) (s : List ℕ) {low : ℕ} → RecordsGoing b f s 0 noSizes false 0 low

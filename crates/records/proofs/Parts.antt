@@ -23,9 +23,9 @@ use Rattle.items.specs.Meet.{levelOf}
 use Rattle.items.proofs.Tests.{bind-so, bind-not}
 use Rattle.heads.specs.Meet.{peek}
 use Rattle.heads.proofs.SheetRuns.{value-peek}
-use Rattle.walks.specs.declared.Piece.{Piece}
-use Rattle.walks.specs.declared.Piece.the-variants as piece
-use Rattle.walks.proofs.Levels.{here-zero}
+use Rattle.levels.specs.declared.Piece.{Piece}
+use Rattle.levels.specs.declared.Piece.the-variants as piece
+use Rattle.levels.proofs.Levels.{here-zero}
 use Rattle.records.specs.Meet.{pieceBy, valueWhole, seriesWhole, targetWhole, seriesOpens, targetOpens, partPiece, moreAt, partStep}
 use Rattle.records.proofs.Values.{field-here}
 

@@ -16,13 +16,13 @@ use Rattle.format.proofs.reading.Runs.{Faithful, run-says}
 use Rattle.format.proofs.sheets.Values.{value-faithful}
 use Rattle.format.proofs.sheets.Targets.{target-faithful}
 use Rattle.coding.proofs.Counts.{len-most, oid-most}
-use Rattle.walks.specs.declared.Sizes.{Sizes}
-use Rattle.walks.specs.declared.Walked.the-variants.{Good, Bad}
-use Rattle.walks.specs.Meet.{itemSizes, packSizes, seriesSizes, total, any, weightOfVal, weightOfTarget, Few}
-use Rattle.walks.proofs.Maps.{mapped, run-map, mapped-good, mapped-bad, walked-good, walked-bad}
-use Rattle.walks.proofs.Walks.{few-plus}
-use Rattle.walks.proofs.Maps.{total-map}
-use Rattle.walks.proofs.Totals.{vals-sheet, targets-sheet}
+use Rattle.levels.specs.declared.Sizes.{Sizes}
+use Rattle.levels.specs.declared.Walked.the-variants.{Good, Bad}
+use Rattle.levels.specs.Meet.{itemSizes, packSizes, seriesSizes, total, any, weightOfVal, weightOfTarget, Few}
+use Rattle.levels.proofs.Maps.{mapped, run-map, mapped-good, mapped-bad, walked-good, walked-bad}
+use Rattle.levels.proofs.Walks.{few-plus}
+use Rattle.levels.proofs.Maps.{total-map}
+use Rattle.levels.proofs.Totals.{vals-sheet, targets-sheet}
 use Rattle.records.specs.Meet.{moreAt, partStep, weightAt, recordsWalk}
 
 -- ---- a target's values

@@ -13,14 +13,14 @@ use Rattle.format.proofs.sheets.Values.{mark-says}
 use Rattle.coding.proofs.Rooms.{tail-part}
 use Rattle.items.proofs.Tests.{standing-0}
 use Rattle.heads.specs.Meet.{peek, Past}
-use Rattle.walks.specs.declared.Piece.the-variants as piece
-use Rattle.walks.specs.declared.Sizes.{Sizes}
-use Rattle.walks.specs.declared.quick.Quick.{Quick}
-use Rattle.walks.specs.declared.Walked.the-variants.{Good}
-use Rattle.walks.specs.Meet.{seriesSizes, plusSizes, Small}
-use Rattle.walks.proofs.Turns.{turn-done}
-use Rattle.walks.proofs.Glances.{begun-later}
-use Rattle.walks.proofs.Beyond.{or-false}
+use Rattle.levels.specs.declared.Piece.the-variants as piece
+use Rattle.levels.specs.declared.Sizes.{Sizes}
+use Rattle.levels.specs.declared.quick.Quick.{Quick}
+use Rattle.levels.specs.declared.Walked.the-variants.{Good}
+use Rattle.levels.specs.Meet.{seriesSizes, plusSizes, Small}
+use Rattle.levels.proofs.Turns.{turn-done}
+use Rattle.levels.proofs.Glances.{begun-later}
+use Rattle.levels.proofs.Beyond.{or-false}
 use Rattle.records.specs.Meet.{partPiece}
 use Rattle.records.specs.Going.{RecordsGoing, TargetsPassed}
 use Rattle.records.proofs.Opens.{series-whole, part-series}

@@ -25,16 +25,16 @@ use Rattle.format.proofs.sheets.Sheets.{sheet-says}
 use Rattle.coding.proofs.Rooms.{tail-part}
 use Rattle.items.specs.Meet.{formOf}
 use Rattle.items.proofs.Tests.{bind-so, bind-not, need-so, need-not}
-use Rattle.walks.specs.declared.Sizes.{Sizes}
-use Rattle.walks.specs.declared.Walked.{Walked}
-use Rattle.walks.specs.declared.Walked.the-variants.{Good, Bad}
-use Rattle.walks.specs.Meet.{itemSizes, total, weightOfPart, walkedOf}
-use Rattle.walks.proofs.Totals.{NoSeal, parts-normal}
-use Rattle.walks.proofs.Series.{after-not}
+use Rattle.levels.specs.declared.Sizes.{Sizes}
+use Rattle.levels.specs.declared.Walked.{Walked}
+use Rattle.levels.specs.declared.Walked.the-variants.{Good, Bad}
+use Rattle.levels.specs.Meet.{itemSizes, total, weightOfPart, walkedOf}
+use Rattle.levels.proofs.Totals.{NoSeal, parts-normal}
+use Rattle.levels.proofs.Series.{after-not}
 use Rattle.records.specs.declared.Sheeted.{Sheeted}
 use Rattle.records.specs.declared.Sheeted.the-variants.{Fine, Wrong}
 use Rattle.records.specs.Meet.{partStep, weightAt, recordsWalk, sheetedOf, partsFault}
-use Rattle.walks.proofs.Maps.{Walk, walked-good, walked-bad}
+use Rattle.levels.proofs.Maps.{Walk, walked-good, walked-bad}
 
 -- ---- the form
 

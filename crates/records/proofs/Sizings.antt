@@ -15,9 +15,9 @@ use Rattle.format.specs.Sheet.{Val, Part, one, targets, Sheet, sheetBytes, unsh
 use Rattle.format.specs.Calls.{entryOf}
 use Rattle.format.proofs.sheets.Sheets.{sheet-says}
 use Rattle.coding.proofs.Counts.{len-most, oid-most}
-use Rattle.walks.specs.Meet.{itemSizes, seriesSizes, total, weightOfVal, weightOfTarget, weightOfPart}
-use Rattle.walks.proofs.Walks.{few-plus}
-use Rattle.walks.proofs.Totals.{NoSeal, parts-sheet, parts-normal, parts-inner}
+use Rattle.levels.specs.Meet.{itemSizes, seriesSizes, total, weightOfVal, weightOfTarget, weightOfPart}
+use Rattle.levels.proofs.Walks.{few-plus}
+use Rattle.levels.proofs.Totals.{NoSeal, parts-sheet, parts-normal, parts-inner}
 use Rattle.records.proofs.Runs.{Slim, slim-series, slim-targets}
 use Rattle.records.proofs.Sheeting.{no-seal}
 

@@ -22,16 +22,16 @@ use Rattle.coding.proofs.Rooms.{tail-part}
 use Rattle.items.proofs.Tests.{bind-so, bind-not, need-so, need-not}
 use Rattle.heads.specs.Meet.{peek, Past}
 use Rattle.heads.proofs.SheetRuns.{target-peek}
-use Rattle.walks.specs.declared.Piece.{Piece}
-use Rattle.walks.specs.declared.Piece.the-variants as piece
-use Rattle.walks.specs.declared.Sizes.{Sizes}
-use Rattle.walks.specs.declared.Walked.{Walked}
-use Rattle.walks.specs.declared.Walked.the-variants.{Good, Bad}
-use Rattle.walks.specs.Meet.{noSizes, packSizes, plusSizes, total, weightOfVal, weightOfTarget, stopAt, laterBy, Few, Small, Within}
-use Rattle.walks.specs.Going.{Going}
-use Rattle.walks.proofs.Walks.{few-more, going-start}
-use Rattle.walks.proofs.Series.{after-not}
-use Rattle.walks.proofs.Turns.{Reads, within-more, turn-done, turn-over, turn-bad, turn-more}
+use Rattle.levels.specs.declared.Piece.{Piece}
+use Rattle.levels.specs.declared.Piece.the-variants as piece
+use Rattle.levels.specs.declared.Sizes.{Sizes}
+use Rattle.levels.specs.declared.Walked.{Walked}
+use Rattle.levels.specs.declared.Walked.the-variants.{Good, Bad}
+use Rattle.levels.specs.Meet.{noSizes, packSizes, plusSizes, total, weightOfVal, weightOfTarget, stopAt, laterBy, Few, Small, Within}
+use Rattle.levels.specs.Going.{Going}
+use Rattle.levels.proofs.Walks.{few-more, going-start}
+use Rattle.levels.proofs.Series.{after-not}
+use Rattle.levels.proofs.Turns.{Reads, within-more, turn-done, turn-over, turn-bad, turn-more}
 use Rattle.records.specs.Meet.{pieceBy, targetWhole, targetOpens, recordsWalk, targetsWalk}
 use Rattle.records.specs.Going.{TargetsGoing}
 use Rattle.records.proofs.Parts.{targetEnd, target-fault, TargetStood, target-stood}

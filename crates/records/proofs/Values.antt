@@ -24,9 +24,9 @@ use Rattle.heads.specs.declared.records.Field.the-variants as fields
 use Rattle.heads.specs.Meet.{Past}
 use Rattle.heads.specs.Records.{fieldAnswer}
 use Rattle.heads.proofs.Heads.{mid-part}
-use Rattle.walks.specs.declared.Piece.{Piece}
-use Rattle.walks.specs.declared.Piece.the-variants as piece
-use Rattle.walks.proofs.Pieces.{answer-none, answer-some}
+use Rattle.levels.specs.declared.Piece.{Piece}
+use Rattle.levels.specs.declared.Piece.the-variants as piece
+use Rattle.levels.proofs.Pieces.{answer-none, answer-some}
 use Rattle.records.specs.Meet.{pieceBy, valueWhole}
 
 -- the rest of a level, as the borrow checker has it

@@ -13,10 +13,10 @@ use Rattle.items.specs.Quick as items
 use Rattle.heads.specs.Meet.{peek}
 use Rattle.heads.specs.Records.{fieldAnswer}
 use Rattle.heads.specs.declared.records.Field.the-variants.{Whole}
-use Rattle.walks.specs.declared.Sizes.{Sizes}
-use Rattle.walks.specs.declared.quick.Quick.{Quick}
-use Rattle.walks.specs.Meet.{markTag, weightOfTarget}
-use Rattle.walks.specs.Going.{Going}
+use Rattle.levels.specs.declared.Sizes.{Sizes}
+use Rattle.levels.specs.declared.quick.Quick.{Quick}
+use Rattle.levels.specs.Meet.{markTag, weightOfTarget}
+use Rattle.levels.specs.Going.{Going}
 use Rattle.records.specs.Meet.{moreAt, partStep, weightAt, recordsWalk, targetsWalk}
 
 abbrev pub RecordsGoing : Bool → Form → List ℕ → ℕ → Sizes → Bool → ℕ → ℕ → Type 0

@@ -12,12 +12,12 @@ use Rattle.format.specs.Packet.{flatEntry}
 use Rattle.format.specs.Run.{Step, run}
 use Rattle.format.specs.Sheet.{Val, Part, one, targets, Sheet, tagOfPart, idOfTarget, IT, TS, TG, TI, is, valueAt, targetAt, partAt}
 use Rattle.format.specs.Calls.{entryOf}
-use Rattle.walks.specs.declared.Piece.{Piece}
-use Rattle.walks.specs.declared.Piece.the-variants as piece
-use Rattle.walks.specs.declared.Sizes.{Sizes}
-use Rattle.walks.specs.declared.Walked.{Walked}
-use Rattle.walks.specs.declared.Walked.the-variants.{Good, Bad}
-use Rattle.walks.specs.Meet.{seriesSizes, total, weightOfVal, weightOfTarget, weightOfPart, walkedOf, markTag}
+use Rattle.levels.specs.declared.Piece.{Piece}
+use Rattle.levels.specs.declared.Piece.the-variants as piece
+use Rattle.levels.specs.declared.Sizes.{Sizes}
+use Rattle.levels.specs.declared.Walked.{Walked}
+use Rattle.levels.specs.declared.Walked.the-variants.{Good, Bad}
+use Rattle.levels.specs.Meet.{seriesSizes, total, weightOfVal, weightOfTarget, weightOfPart, walkedOf, markTag}
 use Rattle.records.specs.declared.Sheeted.{Sheeted}
 use Rattle.records.specs.declared.Sheeted.the-variants.{Fine, Wrong}
 

@@ -9,9 +9,9 @@ use Rattle.format.specs.Sheet.{TG, is}
 use Rattle.format.specs.Table.{Form}
 use Rattle.coding.specs.Alike.{AlikeTo}
 use Rattle.items.specs.Meet.{formOf}
-use Rattle.walks.specs.declared.quick.Quick.{Quick}
-use Rattle.walks.specs.declared.packs.Model.{Model}
-use Rattle.walks.specs.Meet.{sizes}
+use Rattle.levels.specs.declared.quick.Quick.{Quick}
+use Rattle.levels.specs.declared.packs.Model.{Model}
+use Rattle.levels.specs.Meet.{sizes}
 use Rattle.records.specs.Going.{RecordsGoing}
 
 -- the records of a are walked so far; and if that is not too far for the marks, so is whatever is laid out as they are

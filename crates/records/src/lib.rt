@@ -8,12 +8,12 @@ ghost use Rattle.format.specs.Sheet.{TS, is, valueAt};
 ghost use Rattle.items.specs.Meet.{formOf, levelOf, itemTable, glanceTable};
 ghost use Rattle.heads.specs.Meet.{peek, Past, Clear};
 ghost use Rattle.heads.specs.Records.{peekVal};
-ghost use Rattle.walks.specs.Meet.{Within};
+ghost use Rattle.levels.specs.Meet.{Within};
 ghost use Rattle.records.specs.Meet.{pieceBy, valueWhole, seriesWhole, targetWhole, seriesOpens, targetOpens, partPiece, moreAt, recordsWalk, targetsWalk};
 use heads::records::Field;
-use walks::Piece;
-use walks::Sizes;
-use walks::Walked;
+use levels::Piece;
+use levels::Sizes;
+use levels::Walked;
 
 // ---- one record; no key before p is above top or below low, and none repeats before clear
 
@@ -191,21 +191,21 @@ pub fn item_records(table: &[u32], glances: &[u32], s: &[u8], set: bool, alone: 
             short: _,
         } = a
         else {
-            return walks::stop(a, p);
+            return levels::stop(a, p);
         };
-        let w = if walks::is_series(set, tag) {
-            walks::series_of(target_records(table, glances, &s[p + 2..], alone), 2)
+        let w = if levels::is_series(set, tag) {
+            levels::series_of(target_records(table, glances, &s[p + 2..], alone), 2)
         } else {
-            walks::one_item(set, tag, size)
+            levels::one_item(set, tag, size)
         };
         let Walked::Good { sizes, mark: m } = w else {
-            return walks::later(w, p);
+            return levels::later(w, p);
         };
-        sum = walks::weights::plus(sum, sizes);
+        sum = levels::weights::plus(sum, sizes);
         mark = coding::either(mark, m);
         clear = repeats::clear::after(s, p, clear, top, low, tag, true, false, set);
-        top = walks::larger(top, tag);
-        low = walks::smaller(low, tag);
+        top = levels::larger(top, tag);
+        low = levels::smaller(low, tag);
         p += sizes.sheet;
     }
     Walked::Good { sizes: sum, mark }
@@ -237,7 +237,7 @@ pub fn target_records(table: &[u32], glances: &[u32], s: &[u8], alone: bool) -> 
             short: _,
         } = a
         else {
-            return walks::stop(a, p);
+            return levels::stop(a, p);
         };
         let from = p + 10;
         let items = &s[from..];
@@ -247,19 +247,19 @@ pub fn target_records(table: &[u32], glances: &[u32], s: &[u8], alone: bool) -> 
         if goes_on(items, q.at, false) {
             let w = item_records(table, glances, items, false, alone);
             let Walked::Good { sizes: z, mark: m } = w else {
-                return walks::later(w, from);
+                return levels::later(w, from);
             };
             sizes = z;
             mark = m;
         }
         if coding::either(!alone, mark) {
-            sum = walks::weights::plus(
+            sum = levels::weights::plus(
                 sum,
-                walks::weights::pack_sizes(coding::widths::oid_width(id), sizes),
+                levels::weights::pack_sizes(coding::widths::oid_width(id), sizes),
             );
             clear = repeats::clear::after(s, p, clear, top, low, id, true, true, false);
             top = higher(top, id);
-            low = walks::smaller(low, id);
+            low = levels::smaller(low, id);
             p = from + sizes.sheet;
         } else {
             return Walked::Bad {

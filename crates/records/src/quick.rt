@@ -4,11 +4,11 @@ ghost use Prim.Native.Nat.{_+_, _*_, _-_, _≤_, _<_};
 ghost use lib.ListN.{length, take, drop};
 ghost use Rattle.format.specs.Coding.{bytesNumber};
 ghost use Rattle.items.specs.Meet.{formOf, glanceTable};
-ghost use Rattle.walks.specs.Meet.{sizes};
-ghost use Rattle.walks.specs.Going.{Begun};
+ghost use Rattle.levels.specs.Meet.{sizes};
+ghost use Rattle.levels.specs.Going.{Begun};
 ghost use Rattle.records.specs.Going.{RecordsGoing, Glanced, wordOf};
-use walks::Sizes;
-use walks::quick::Quick;
+use levels::Sizes;
+use levels::quick::Quick;
 
 // A tag, and where its record ends, which is a sum and so never 0 to the compiler; 0 where no such record stands.
 pub struct Told {
@@ -97,9 +97,9 @@ pub fn run(glances: &[u32], s: &[u8], set: bool, alone: bool) -> Quick
     loop {
         let g = glance(glances, s, p, set, alone, top);
         if g.next == 0 {
-            return walks::quick::stands(p, told_sizes(count, p), mark, top, 0);
+            return levels::quick::stands(p, told_sizes(count, p), mark, top, 0);
         }
-        mark = coding::either(mark, walks::is_mark(set, g.tag));
+        mark = coding::either(mark, levels::is_mark(set, g.tag));
         top = g.tag;
         count += 1;
         p = g.next;

@@ -6,15 +6,15 @@ ghost use Prim.Native.Nat.{_+_, _≤_, _<_};
 ghost use lib.ListN.{length, drop};
 ghost use Rattle.format.specs.Sheet.{TG, is};
 ghost use Rattle.items.specs.Meet.{formOf, glanceTable};
-ghost use Rattle.walks.specs.Meet.{sizes};
-ghost use Rattle.walks.specs.Going.{quickAt};
-ghost use Rattle.walks.specs.Packs.{As};
+ghost use Rattle.levels.specs.Meet.{sizes};
+ghost use Rattle.levels.specs.Going.{quickAt};
+ghost use Rattle.levels.specs.Packs.{As};
 ghost use Rattle.records.specs.Going.{TargetsPassed};
 ghost use Rattle.records.specs.Targets.{Laid, Held, Over, Modelled};
 use super::quick;
-use walks::Sizes;
-use walks::packs::Model;
-use walks::quick::Quick;
+use levels::Sizes;
+use levels::packs::Model;
+use levels::quick::Quick;
 
 // A target's records told at a glance, as `quick::run` goes over them, and marked while there is room: whatever is laid out so is walked so.
 fn lay(glances: &[u32], s: &[u8], alone: bool, marks: &mut [u8; 160]) -> Quick
@@ -28,14 +28,14 @@ fn lay(glances: &[u32], s: &[u8], alone: bool, marks: &mut [u8; 160]) -> Quick
     loop {
         let g = quick::glance(glances, s, p, false, alone, top);
         if g.next == 0 {
-            return walks::quick::stands(p, quick::told_sizes(count, p), mark, top, 0);
+            return levels::quick::stands(p, quick::told_sizes(count, p), mark, top, 0);
         }
         if p < 128 {
             let n = (g.next - (p + 6)) as u64;
             let first = items::quick::first_mark(glances, false, alone, g.tag, n);
             coding::alike::mark_item(marks, p, 6, first);
         }
-        mark = coding::either(mark, walks::is_mark(false, g.tag));
+        mark = coding::either(mark, levels::is_mark(false, g.tag));
         top = g.tag;
         count += 1;
         p = g.next;
@@ -57,7 +57,7 @@ fn is_target_as(m: Model, marks: &[u8], s: &[u8], from: usize) -> bool
     requires { ⌜ (length (now marks) ≡ 160) × (length (now s) ≤ 65536) × (from ≤ length (now s)) × (m .from ≤ from) ⌝ }
     ensures { λ r. ⌜ (r ≡ true → As (now (marks .entry)) (now (s .entry)) m from × Over (now (s .entry)) (from + m .size)) ⌝ }
 {
-    if !walks::packs::is_as(m, marks, s, from) {
+    if !levels::packs::is_as(m, marks, s, from) {
         return false;
     }
     is_over(s, from + m.size)
@@ -72,10 +72,10 @@ fn model_of(glances: &[u32], s: &[u8], from: usize, alone: bool, marks: &mut [u8
     let q = lay(glances, &s[from..], alone, marks);
     let size = q.at;
     if !is_over(s, from + size) {
-        return walks::packs::no_model();
+        return levels::packs::no_model();
     }
     if !coding::either(!alone, q.mark) {
-        return walks::packs::no_model();
+        return levels::packs::no_model();
     }
     Model {
         from,
@@ -115,7 +115,7 @@ pub fn targets(glances: &[u32], s: &[u8], alone: bool) -> Quick
     let mut top: u64 = 0;
     let mut low: u64 = 18446744073709551615;
     let mut marks: [u8; 160] = [0; 160];
-    let mut m = walks::packs::no_model();
+    let mut m = levels::packs::no_model();
     if !heads::records::is_mark(s, p, b'T', b'G') {
         return passed(p, rows, normal, top, low);
     }

@@ -7,15 +7,15 @@ ghost use Rattle.format.specs.Coding.{bytesNumber};
 ghost use Rattle.format.specs.Table.{set};
 ghost use Rattle.format.specs.Sheet.{unsheet};
 ghost use Rattle.items.specs.Meet.{formOf, glanceTable};
-ghost use Rattle.walks.specs.Meet.{Within};
-ghost use Rattle.walks.specs.Going.{Begun};
+ghost use Rattle.levels.specs.Meet.{Within};
+ghost use Rattle.levels.specs.Going.{Begun};
 ghost use Rattle.records.specs.Meet.{recordsWalk, sheetedOf, partsFault};
 ghost use Rattle.records.specs.Going.{RecordsGoing};
 use super::Sheeted;
 use super::quick;
 use super::targets;
-use walks::Walked;
-use walks::quick::Quick;
+use levels::Walked;
+use levels::quick::Quick;
 
 // ---- its set
 
@@ -43,8 +43,8 @@ fn series(glances: &[u32], s: &[u8], alone: bool, q: Quick) -> Quick
     if w.at != t.len() {
         return q;
     }
-    let sum = walks::weights::plus(q.sizes, walks::weights::series_sizes(w.sizes));
-    walks::quick::stands(s.len(), sum, q.mark, 101, walks::smaller(q.low, 101))
+    let sum = levels::weights::plus(q.sizes, levels::weights::series_sizes(w.sizes));
+    levels::quick::stands(s.len(), sum, q.mark, 101, levels::smaller(q.low, 101))
 }
 
 // Whether the first record may begin a set.
@@ -75,7 +75,7 @@ fn set_records(glances: &[u32], s: &[u8], alone: bool) -> Walked
 {
     let q = glanced(glances, s, alone);
     if q.at == s.len() {
-        return walks::quick::walked(q);
+        return levels::quick::walked(q);
     }
     // lent on as a part, so that the compiler keeps the slice itself in registers
     let table = items::table();

@@ -7,7 +7,7 @@ use Rattle.format.specs.Table.{Form, embedded, standalone}
 use Rattle.format.specs.Packet.{Entry, plain, series, Packet, flatItem, flatEntry}
 use Rattle.format.specs.Read.{start, unsealed}
 use Rattle.format.specs.Rows.{itemRow, entryRows, sealItem, sealed, rowsOf}
-use Rattle.walks.proofs.Parsed.{Sealing, Parsed}
+use Rattle.levels.proofs.Parsed.{Sealing, Parsed}
 
 -- a row knows only the length of the checksum
 seal-rows : (c d : List ℕ) → length c ≡ length d → (at : ℕ) (es : List Entry) → entryRows at (es ++ (plain (sealItem c) ∷ [])) ≡ entryRows at (es ++ (plain (sealItem d) ∷ []))

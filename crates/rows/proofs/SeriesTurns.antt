@@ -11,7 +11,7 @@ use Rattle.format.specs.Coding.{oidBytes}
 use Rattle.format.specs.Table.{Form, pack}
 use Rattle.format.specs.Packet.{packBody, flatPack}
 use Rattle.format.specs.Rows.{itemRows}
-use Rattle.walks.specs.Runs.{Ran, seriesRun, madeOf}
+use Rattle.levels.specs.Runs.{Ran, seriesRun, madeOf}
 use Rattle.stores.proofs.Puts.{Puts, Parted, head-room, rest-room, rest-put}
 use Rattle.stores.proofs.Packs as Packs
 use Rattle.stores.proofs.Packs.{PackAt, one-pack, pack-stands, itemsAt, items-run, packed}

@@ -6,7 +6,7 @@ use Rattle.format.specs.Lists.{flatAll}
 use Rattle.format.specs.Table.{Form, Level}
 use Rattle.format.specs.Packet.{Entry, plain, series, flatPack, flatEntry}
 use Rattle.format.specs.Rows.{Row, row, itemRow, packRows}
-use Rattle.walks.specs.Runs.{levelRun, seriesRun, madeOf}
+use Rattle.levels.specs.Runs.{levelRun, seriesRun, madeOf}
 use Rattle.rows.specs.declared.table.Row as declared
 
 unfoldable pub numbers : List Row → List ℕ

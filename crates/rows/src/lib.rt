@@ -4,7 +4,7 @@ ghost use Prim.Native.Nat.{_+_, _≤_};
 ghost use lib.ListN.{length};
 ghost use lib.Seq.{sets};
 ghost use Rattle.items.specs.Meet.{formOf, levelOf};
-ghost use Rattle.walks.specs.Runs.{Ran, levelRun, seriesRun};
+ghost use Rattle.levels.specs.Runs.{Ran, levelRun, seriesRun};
 ghost use Rattle.rows.specs.Meet.{levelNumbers, seriesNumbers};
 use heads::Head;
 
@@ -29,7 +29,7 @@ pub fn item_rows(s: &[u8], at: usize, target: u64, set: bool, alone: bool, out: 
         let from = p + used + width;
         let next = from + size;
         let m = stores::put_row(out, k, target, key, (at + from) as u64, size as u64);
-        k = if walks::is_series(set, key) {
+        k = if levels::is_series(set, key) {
             m + pack_rows(&s[from..next], at + from, alone, &mut out[m..])
         } else {
             m

@@ -12,7 +12,7 @@ use Rattle.format.specs.Read.{start, unsealed}
 use Rattle.format.specs.Rows.{sealItem}
 use Rattle.format.specs.Sheet.{valOf, partOf, partBytes, content, formByte, sheetBytes}
 use Rattle.format.specs.Valid.{All}
-use Rattle.walks.proofs.Parsed.{Parsed}
+use Rattle.levels.proofs.Parsed.{Parsed}
 use Rattle.stores.proofs.Unsealed.{unsealed-same}
 use Rattle.sheets.specs.Meet.{itemSheet, entrySheet, levelSheet}
 

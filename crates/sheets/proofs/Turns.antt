@@ -15,7 +15,7 @@ use Rattle.format.specs.Packet.{Item, Pack, plain, series}
 use Rattle.format.specs.Sheet.{valOf, valBytes, targetOf, targetBytes, partOf, partBytes, TS, TG}
 use Rattle.format.proofs.coding.Digits.{length-fixed}
 use Rattle.items.specs.Meet.{levelOf}
-use Rattle.walks.specs.Runs.{Ran, madeOf, levelRun, seriesRun}
+use Rattle.levels.specs.Runs.{Ran, madeOf, levelRun, seriesRun}
 use Rattle.stores.proofs.Puts.{Puts, puts-sized, puts-fixed, Parted, head-room, head-behind, rest-room, rest-put}
 use Rattle.stores.proofs.Writing.{each}
 use Rattle.stores.proofs.Entries.{LevelWriting, EntryAt, entry-stands, valueAt, value-long, stored, entry-fits, entry-more, one-is, packs-run, packs-asked}

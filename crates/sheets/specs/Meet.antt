@@ -7,7 +7,7 @@ use Rattle.format.specs.Lists.{flatAll}
 use Rattle.format.specs.Table.{Form, Level, isSet, ruleOf, short}
 use Rattle.format.specs.Packet.{Pack, Entry, plain, series}
 use Rattle.format.specs.Sheet.{valBytes, targetBytes, targetOf, partBytes, partOf}
-use Rattle.walks.specs.Runs.{levelRun, seriesRun, madeOf}
+use Rattle.levels.specs.Runs.{levelRun, seriesRun, madeOf}
 
 -- an item's record; the set's checksum has none
 unfoldable pub itemSheet : Level → ℕ → List ℕ → List ℕ

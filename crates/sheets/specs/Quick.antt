@@ -10,7 +10,7 @@ use Rattle.format.specs.Read.{onePack}
 use Rattle.format.specs.Run.{always}
 use Rattle.format.specs.Table.{Form}
 use Rattle.items.specs.Meet.{levelOf}
-use Rattle.walks.specs.Meet.{stepAt}
+use Rattle.levels.specs.Meet.{stepAt}
 use Rattle.stores.specs.Writing.{Writing}
 use Rattle.sheets.specs.Meet.{entrySheet, packSheet, levelSheet, seriesSheet}
 

@@ -10,7 +10,7 @@ ghost use Rattle.items.specs.Meet.{formOf, levelOf, itemTable};
 ghost use Rattle.format.specs.Table.{pack};
 ghost use Rattle.sheets.specs.Meet.{itemSheet, levelSheet, seriesSheet};
 ghost use Rattle.sheets.specs.Quick.{LevelPassed};
-ghost use Rattle.walks.specs.Runs.{Ran, levelRun, seriesRun};
+ghost use Rattle.levels.specs.Runs.{Ran, levelRun, seriesRun};
 use heads::Head;
 
 // ---- records
@@ -90,7 +90,7 @@ fn rest_sheet(
         };
         let from = p + used + width;
         let next = from + size;
-        k = if walks::is_series(set, key) {
+        k = if levels::is_series(set, key) {
             let m = stores::put_number(out, k, 21587, 2);
             m + pack_sheet(table, &s[from..next], alone, &mut out[m..])
         } else {

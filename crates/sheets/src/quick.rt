@@ -6,7 +6,7 @@ ghost use Rattle.format.specs.Table.{pack};
 ghost use Rattle.items.specs.Meet.{formOf};
 ghost use Rattle.sheets.specs.Meet.{levelSheet, seriesSheet};
 ghost use Rattle.sheets.specs.Quick.{LevelPassed, SeriesPassed, Glanced};
-ghost use Rattle.walks.specs.Runs.{Ran, levelRun, seriesRun};
+ghost use Rattle.levels.specs.Runs.{Ran, levelRun, seriesRun};
 ghost use mathlib.Core.Bool.{false};
 use heads::Head;
 use stores::Passed;

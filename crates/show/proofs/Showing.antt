@@ -23,8 +23,8 @@ use Rattle.format.proofs.rows.Find.{number-snoc}
 use Rattle.coding.proofs.Rooms.{tail-part}
 use Rattle.items.proofs.Tests.{bind-so}
 use Rattle.heads.proofs.Heads.{mid-part}
-use Rattle.walks.specs.declared.Sizes.{Sizes}
-use Rattle.walks.proofs.Parsed.{Sealing, Parsed}
+use Rattle.levels.specs.declared.Sizes.{Sizes}
+use Rattle.levels.proofs.Parsed.{Sealing, Parsed}
 use Rattle.checks.specs.declared.Checked.{Checked}
 use Rattle.checks.specs.declared.Checked.the-variants.{Fine, Wrong}
 use Rattle.checks.specs.Meet.{checkedOf}

@@ -6,7 +6,7 @@ ghost use lib.ListN.{length};
 ghost use Rattle.format.specs.Read.{parse};
 ghost use Rattle.format.specs.Show as Show;
 ghost use Rattle.items.specs.Meet.{formOf};
-ghost use Rattle.walks.specs.declared.Sizes.{Sizes};
+ghost use Rattle.levels.specs.declared.Sizes.{Sizes};
 ghost use Rattle.checks.specs.declared.Checked.the-variants.{Fine};
 ghost use Rattle.checks.specs.Meet.{checkedOf};
 ghost use Rattle.edits.specs.Meet.{holderOf};

@@ -21,8 +21,8 @@ use Rattle.format.proofs.words.Keys.{all-map}
 use Rattle.format.proofs.reading.Packets.{set-says, set-once}
 use Rattle.format.proofs.rows.Find.{OneSeries, one-series}
 use Rattle.items.proofs.Tests.{bind-not}
-use Rattle.walks.specs.Meet.{stepAt, deepenAt}
-use Rattle.walks.specs.Runs.{Ran, levelRun}
+use Rattle.levels.specs.Meet.{stepAt, deepenAt}
+use Rattle.levels.specs.Runs.{Ran, levelRun}
 use Rattle.spots.specs.declared.Spot.{Spot}
 use Rattle.spots.specs.Meet.{thingsOf, hasTag, entriesOf, packsOf, entryLead}
 use Rattle.spots.proofs.Splices.{Missed, ask-absent}

@@ -23,10 +23,10 @@ use Rattle.heads.specs.declared.Head.{Head}
 use Rattle.heads.specs.declared.Head.the-variants as heads
 use Rattle.heads.specs.Meet.{itemHeadOf}
 use Rattle.heads.proofs.Heads.{mid-part}
-use Rattle.walks.specs.Meet.{stepAt}
-use Rattle.walks.specs.Runs.{Ran, madeOf, levelRun, seriesRun}
-use Rattle.walks.proofs.ItemTurns.{level-is}
-use Rattle.walks.proofs.Steps.{EntryHere, entry-here, no-head-entry}
+use Rattle.levels.specs.Meet.{stepAt}
+use Rattle.levels.specs.Runs.{Ran, madeOf, levelRun, seriesRun}
+use Rattle.levels.proofs.ItemTurns.{level-is}
+use Rattle.levels.proofs.Steps.{EntryHere, entry-here, no-head-entry}
 use Rattle.stores.specs.Writing.{Writing}
 use Rattle.stores.proofs.Puts.{Puts}
 use Rattle.stores.proofs.Writing.{Emits, writing-start, writing-done, Next, next-here, next-room, writing-more}

@@ -19,9 +19,9 @@ use Rattle.coding.proofs.Rooms.{tail-part}
 use Rattle.heads.specs.declared.Head.{Head}
 use Rattle.heads.specs.declared.Head.the-variants as heads
 use Rattle.heads.specs.Meet.{packHeadOf}
-use Rattle.walks.specs.Runs.{Ran, madeOf, levelRun, seriesRun}
-use Rattle.walks.proofs.PackTurns.{drop-take}
-use Rattle.walks.proofs.Steps.{PackHere, pack-here, no-head-pack}
+use Rattle.levels.specs.Runs.{Ran, madeOf, levelRun, seriesRun}
+use Rattle.levels.proofs.PackTurns.{drop-take}
+use Rattle.levels.proofs.Steps.{PackHere, pack-here, no-head-pack}
 use Rattle.stores.specs.Writing.{Writing}
 use Rattle.stores.proofs.Puts.{Puts}
 use Rattle.stores.proofs.Writing.{Emits, writing-start, writing-done, Next, next-here, next-room, writing-more}

@@ -8,7 +8,7 @@ use Rattle.format.specs.Packet.{Entry, plain}
 use Rattle.format.specs.Read.{unsealed}
 use Rattle.format.specs.Rows.{sealItem}
 use Rattle.format.proofs.words.Flats.{flat-snoc}
-use Rattle.walks.proofs.Parsed.{Sealing}
+use Rattle.levels.proofs.Parsed.{Sealing}
 
 module _ (emit : Entry → List ℕ) (no-seal : (c : List ℕ) → emit (plain (sealItem c)) ≡ []) where
   pub unsealed-same : (f : Form) (es : List Entry) (sum : List ℕ) → Sealing f es sum → flatAll emit (unsealed es) ≡ flatAll emit es

@@ -1,31 +1,22 @@
 // The walks that check a packet: one item at a time, the item walk and the pack walk, with the sizes of what they find.
 ghost use mathlib.Core.Path.{_≡_};
 ghost use Prim.Native.Nat.{ℕ, _≤_};
-ghost use mathlib.Core.Bool.{_&&_, _||_, false};
+ghost use mathlib.Core.Bool.{false};
 ghost use mathlib.Core.List.{List};
 ghost use lib.ListN.{length, drop};
-ghost use lib.Dec.{eqb};
 ghost use Rattle.format.specs.Read.{item};
 ghost use Rattle.items.specs.Meet.{formOf, levelOf, itemTable, glanceTable};
 ghost use Rattle.heads.specs.Meet.{peek, Past, Clear};
-ghost use Rattle.walks.specs.Going.{LevelGoing, SeriesGoing};
-ghost use Rattle.walks.specs.Meet.{pieceOf, pieceFault, itemSizes, stopAt, laterBy, seriesFrom, markTag, levelWalk, seriesWalk, Within};
+ghost use Rattle.levels.specs.Going.{LevelGoing, SeriesGoing};
+ghost use Rattle.levels.specs.Meet.{pieceOf, pieceFault, levelWalk, seriesWalk, Within};
 use heads::Head;
-use quick::Quick;
-
-// An item that may stand where it does: its tag, where its value begins, its length, and its shortest length; or the refusal's number.
-pub enum Piece {
-    Whole {
-        tag: u64,
-        from: usize,
-        size: usize,
-        short: usize,
-    },
-    Fault(u64),
-}
+use levels::Piece;
+use levels::Walked;
+use levels::quick;
+use levels::quick::Quick;
 
 // The item at p of a level s; no tag before p is above top or below low, and none repeats before clear.
-pub fn item_at(
+fn item_at(
     table: &[u32],
     s: &[u8],
     p: usize,
@@ -74,7 +65,7 @@ pub fn item_at(
     }
 }
 
-pub fn piece_fault(h: Head) -> Piece
+fn piece_fault(h: Head) -> Piece
     ensures { λ r. ⌜ r ≡ pieceFault h ⌝ }
 {
     match h {
@@ -85,114 +76,6 @@ pub fn piece_fault(h: Head) -> Piece
             size: _,
         } => Piece::Fault(0),
         Head::Fault(n) => Piece::Fault(n),
-    }
-}
-
-// The bytes in the sheet, the rows, the bytes in normal form, and those of a series' packs.
-pub struct Sizes {
-    pub sheet: usize,
-    pub rows: usize,
-    pub normal: usize,
-    pub inner: usize,
-}
-
-// ---- walks
-
-// What was walked, and whether it holds what marks its level; or the first fault, from the start of what was walked.
-pub enum Walked {
-    Good { sizes: Sizes, mark: bool },
-    Bad { number: u64, place: usize },
-}
-
-pub fn stop(a: Piece, p: usize) -> Walked
-    ensures { λ r. ⌜ r ≡ stopAt p a ⌝ }
-{
-    match a {
-        Piece::Whole {
-            tag: _,
-            from: _,
-            size: _,
-            short: _,
-        } => Walked::Bad {
-            number: 0,
-            place: 0,
-        },
-        Piece::Fault(n) => Walked::Bad {
-            number: n,
-            place: p,
-        },
-    }
-}
-
-pub fn later(w: Walked, k: usize) -> Walked
-    requires { ⌜ Within w 65536 × (k ≤ 65536) ⌝ }
-    ensures { λ r. ⌜ r ≡ laterBy k w ⌝ }
-{
-    match w {
-        Walked::Good { sizes, mark } => Walked::Good { sizes, mark },
-        Walked::Bad { number, place } => Walked::Bad {
-            number,
-            place: k + place,
-        },
-    }
-}
-
-pub fn larger(a: u64, b: u64) -> u64
-    ensures { λ r. ⌜ (a ≤ r) × (b ≤ r) ⌝ }
-{
-    if a < b { b } else { a }
-}
-
-pub fn smaller(a: u64, b: u64) -> u64
-    ensures { λ r. ⌜ (r ≤ a) × (r ≤ b) ⌝ }
-{
-    if a < b { a } else { b }
-}
-
-pub fn is_series(set: bool, tag: u64) -> bool
-    ensures { λ r. ⌜ r ≡ (set && eqb tag 101) ⌝ }
-{
-    if set { tag == 101 } else { false }
-}
-
-// The tag that marks a level: the set's checksum, a pack's location.
-fn mark_tag(set: bool) -> u64
-    ensures { λ r. ⌜ r ≡ markTag (levelOf set) ⌝ }
-{
-    if set { 1 } else { 17 }
-}
-
-pub fn is_mark(set: bool, tag: u64) -> bool
-    ensures { λ r. ⌜ r ≡ eqb tag (markTag (levelOf set)) ⌝ }
-{
-    tag == mark_tag(set)
-}
-
-// An item that is no series.
-pub fn one_item(set: bool, tag: u64, n: usize) -> Walked
-    requires { ⌜ (tag ≤ 16383) × (n ≤ 65536) ⌝ }
-    ensures { λ r. ⌜ r ≡ Walked.Good (itemSizes (levelOf set) tag n) (eqb tag (markTag (levelOf set))) ⌝ }
-{
-    Walked::Good {
-        sizes: weights::plain_sizes(set, tag, n),
-        mark: is_mark(set, tag),
-    }
-}
-
-// A series, given its packs, whose bytes begin at k.
-pub fn series_of(w: Walked, k: usize) -> Walked
-    requires { ⌜ Within w 65536 × (k ≤ 65536) ⌝ }
-    ensures { λ r. ⌜ r ≡ seriesFrom k w ⌝ }
-{
-    match w {
-        Walked::Good { sizes, mark: _ } => Walked::Good {
-            sizes: weights::series_sizes(sizes),
-            mark: false,
-        },
-        Walked::Bad { number, place } => Walked::Bad {
-            number,
-            place: k + place,
-        },
     }
 }
 
@@ -239,33 +122,33 @@ pub fn item_rest(
             short,
         } = a
         else {
-            return stop(a, p);
+            return levels::stop(a, p);
         };
         let at = p + from;
         let next = at + size;
-        let w = if is_series(set, tag) {
+        let w = if levels::is_series(set, tag) {
             let packs = &s[at..next];
-            series_of(
+            levels::series_of(
                 pack_walk(
                     table,
                     glances,
                     packs,
                     alone,
-                    packs::packs(glances, packs, alone),
+                    levels::packs::packs(glances, packs, alone),
                 ),
                 from,
             )
         } else {
-            one_item(set, tag, short)
+            levels::one_item(set, tag, short)
         };
         let Walked::Good { sizes, mark: m } = w else {
-            return later(w, p);
+            return levels::later(w, p);
         };
-        sum = weights::plus(sum, sizes);
+        sum = levels::weights::plus(sum, sizes);
         mark = coding::either(mark, m);
         clear = repeats::clear::after(s, p, clear, top, low, tag, false, false, set);
-        top = larger(top, tag);
-        low = smaller(low, tag);
+        top = levels::larger(top, tag);
+        low = levels::smaller(low, tag);
         p = next;
     }
     Walked::Good { sizes: sum, mark }
@@ -290,7 +173,7 @@ pub fn pack_walk(table: &[u32], glances: &[u32], s: &[u8], alone: bool, q: Quick
             size,
         } = h
         else {
-            return stop(piece_fault(h), p);
+            return levels::stop(piece_fault(h), p);
         };
         if repeats::is_seen(s, p, clear, top, low, key, false, true, false) {
             return Walked::Bad {
@@ -310,13 +193,13 @@ pub fn pack_walk(table: &[u32], glances: &[u32], s: &[u8], alone: bool, q: Quick
             quick::run(glances, items, false, alone),
         );
         let Walked::Good { sizes, mark } = w else {
-            return later(w, from);
+            return levels::later(w, from);
         };
         if coding::either(!alone, mark) {
-            sum = weights::plus(sum, weights::pack_sizes(used, sizes));
+            sum = levels::weights::plus(sum, levels::weights::pack_sizes(used, sizes));
             clear = repeats::clear::after(s, p, clear, top, low, key, false, true, false);
-            top = larger(top, key);
-            low = smaller(low, key);
+            top = levels::larger(top, key);
+            low = levels::smaller(low, key);
             p = next;
         } else {
             return Walked::Bad {
@@ -330,7 +213,3 @@ pub fn pack_walk(table: &[u32], glances: &[u32], s: &[u8], alone: bool, q: Quick
         mark: false,
     }
 }
-
-pub mod quick; // quick.rt: the quick way over a level
-pub mod packs; // packs.rt: the quick way over a series
-pub mod weights; // weights.rt: the sizes of an item, a pack and the series

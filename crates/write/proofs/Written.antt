@@ -17,8 +17,8 @@ use Rattle.format.specs.Room.{leaves}
 use Rattle.items.specs.Meet.{formOf}
 use Rattle.items.proofs.Tests.{bind-so, bind-not}
 use Rattle.coding.proofs.Rooms.{tail-part}
-use Rattle.walks.specs.Meet.{total, weightOfPart}
-use Rattle.walks.specs.Runs.{Ran}
+use Rattle.levels.specs.Meet.{total, weightOfPart}
+use Rattle.levels.specs.Runs.{Ran}
 use Rattle.records.specs.declared.Sheeted.{Sheeted}
 use Rattle.records.specs.declared.Sheeted.the-variants.{Fine, Wrong}
 use Rattle.records.specs.Meet.{sheetedOf}

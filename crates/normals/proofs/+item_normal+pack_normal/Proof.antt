@@ -6,7 +6,7 @@ use borrow.Author.Needs.{needs}
 use borrow.Fn.Kinds.{In}
 use borrow.Fn.PlainCycle.{Measures, is, falls, and}
 use Rattle.items.specs.Meet.{formOf}
-use Rattle.walks.proofs.ItemTurns.{depth, series-deep}
+use Rattle.levels.proofs.ItemTurns.{depth, series-deep}
 use Rattle.stores.proofs.Writing.{each}
 use Rattle.stores.proofs.Entries.{entry-fault, entry-room}
 use Rattle.stores.proofs.Packs.{series-start, series-done, pack-fault, pack-room, items-asked}
@@ -24,7 +24,7 @@ use Rattle.normals.proofs.put_normal.Reads as put-normal-reads
 use Rattle.normals.proofs.put_pack.Reads as put-pack-reads
 use Rattle.normals.proofs.put_series.Reads as put-series-reads
 use Rattle.stores.proofs.copy_run.Reads as copy-run-reads
-use Rattle.walks.proofs.is_series.Reads as is-series-reads
+use Rattle.levels.proofs.is_series.Reads as is-series-reads
 use Rattle.walks.proofs.item_walk.Reads as item-walk-reads
 use Rattle.normals.proofs.+item_normal+pack_normal.{statement}
 use Rattle.normals.proofs.+item_normal+pack_normal.Tie.{close}

@@ -14,13 +14,13 @@ use Rattle.format.specs.Table.{pack, isAlone}
 use Rattle.items.specs.Meet.{formOf}
 use Rattle.heads.specs.Meet.{peek, Clear}
 use Rattle.repeats.proofs.Clears.{clear-none}
-use Rattle.walks.specs.declared.Walked.the-variants.{Good}
-use Rattle.walks.specs.Meet.{plusSizes, Within}
-use Rattle.walks.proofs.Turns.{within-more, told-as, turn-done, turn-over}
+use Rattle.levels.specs.declared.Walked.the-variants.{Good}
+use Rattle.levels.specs.Meet.{plusSizes, Within}
+use Rattle.levels.proofs.Turns.{within-more, told-as, turn-done, turn-over}
 use Rattle.records.specs.Meet.{recordsWalk}
 use Rattle.records.specs.Going.{RecordsGoing, TargetsGoing}
-use Rattle.walks.proofs.ItemTurns.{depth, series-deep}
-use Rattle.walks.proofs.PackTurns.{either-is}
+use Rattle.levels.proofs.ItemTurns.{depth, series-deep}
+use Rattle.levels.proofs.PackTurns.{either-is}
 use Rattle.records.proofs.PartTurns.{PartAt, records-start, piece-fault, PartTold, item-small, item-told, series-room, lent-small, series-told, part-bad, bad-within, part-room, good-small, part-more}
 use Rattle.records.proofs.TargetTurns.{TargetAt, same-good, records-over, head-fault, target-room, vals-within, vals-fault, next-room, vals-small, no-location, target-small, target-more}
 use Rattle.records.proofs.TargetTurns as target-turns
@@ -37,18 +37,18 @@ use Rattle.records.proofs.goes_on.Reads as goes-on-reads
 use Rattle.records.proofs.higher.Reads as higher-reads
 use Rattle.records.proofs.quick.run.Reads as run-reads
 use Rattle.records.proofs.targets.targets.Reads as targets-reads
-use Rattle.walks.proofs.later.Reads as later-reads
+use Rattle.levels.proofs.later.Reads as later-reads
 use Rattle.records.proofs.part_at.Reads as part-at-reads
-use Rattle.walks.proofs.series_of.Reads as series-of-reads
+use Rattle.levels.proofs.series_of.Reads as series-of-reads
 use Rattle.records.proofs.target_at.Reads as target-at-reads
 use Rattle.coding.proofs.either.Reads as either-reads
-use Rattle.walks.proofs.is_series.Reads as is-series-reads
-use Rattle.walks.proofs.larger.Reads as larger-reads
-use Rattle.walks.proofs.one_item.Reads as one-item-reads
-use Rattle.walks.proofs.weights.pack_sizes.Reads as pack-sizes-reads
-use Rattle.walks.proofs.weights.plus.Reads as plus-reads
-use Rattle.walks.proofs.smaller.Reads as smaller-reads
-use Rattle.walks.proofs.stop.Reads as stop-reads
+use Rattle.levels.proofs.is_series.Reads as is-series-reads
+use Rattle.levels.proofs.larger.Reads as larger-reads
+use Rattle.levels.proofs.one_item.Reads as one-item-reads
+use Rattle.levels.proofs.weights.pack_sizes.Reads as pack-sizes-reads
+use Rattle.levels.proofs.weights.plus.Reads as plus-reads
+use Rattle.levels.proofs.smaller.Reads as smaller-reads
+use Rattle.levels.proofs.stop.Reads as stop-reads
 use Rattle.records.proofs.+item_records+target_records.{statement}
 use Rattle.records.proofs.+item_records+target_records.Tie.{close}
 

@@ -7,7 +7,7 @@ use borrow.Author.Needs.{needs}
 use borrow.Fn.Kinds.{In}
 use borrow.Fn.PlainCycle.{Measures, is, falls, and}
 use Rattle.items.specs.Meet.{formOf}
-use Rattle.walks.proofs.ItemTurns.{depth, series-deep}
+use Rattle.levels.proofs.ItemTurns.{depth, series-deep}
 use Rattle.stores.proofs.Entries.{level-done, entry-fault, entry-room, value-long, packs-asked}
 use Rattle.stores.proofs.Packs.{series-done, pack-fault, pack-room, items-long, items-asked}
 use Rattle.rows.proofs.LevelTurns.{LevelRows, level-rows, RowsEntry, row-room, entry-end, item-more, series-fits, series-end, series-more}
@@ -21,7 +21,7 @@ use Rattle.rows.proofs.+item_rows+pack_rows.Lts-pack_rows as pack-rows-
 use Rattle.heads.proofs.item_head.Reads as item-head-reads
 use Rattle.heads.proofs.quick_pack_head.Reads as quick-pack-head-reads
 use Rattle.stores.proofs.put_row.Reads as put-row-reads
-use Rattle.walks.proofs.is_series.Reads as is-series-reads
+use Rattle.levels.proofs.is_series.Reads as is-series-reads
 use Rattle.rows.proofs.+item_rows+pack_rows.{statement}
 use Rattle.rows.proofs.+item_rows+pack_rows.Tie.{close}
 

@@ -10,7 +10,7 @@ use borrow.Author.Needs.{needs}
 use borrow.Fn.Kinds.{In}
 use borrow.Fn.PlainCycle.{Measures, is, falls, and}
 use Rattle.items.specs.Meet.{formOf}
-use Rattle.walks.proofs.ItemTurns.{depth, series-deep}
+use Rattle.levels.proofs.ItemTurns.{depth, series-deep}
 use Rattle.stores.proofs.Entries.{level-done, entry-fault, entry-room}
 use Rattle.stores.proofs.Packs.{series-done, pack-fault, pack-room}
 use Rattle.sheets.specs.Quick.{LevelPassed, SeriesPassed}
@@ -31,7 +31,7 @@ use Rattle.sheets.proofs.quick.packs.Reads as packs-reads
 use Rattle.sheets.proofs.put_plain.Reads as put-plain-reads
 use Rattle.sheets.proofs.put_target.Reads as put-target-reads
 use Rattle.stores.proofs.put_number.Reads as put-number-reads
-use Rattle.walks.proofs.is_series.Reads as is-series-reads
+use Rattle.levels.proofs.is_series.Reads as is-series-reads
 use Rattle.sheets.proofs.+pack_items+pack_sheet+rest_sheet.{statement}
 use Rattle.sheets.proofs.+pack_items+pack_sheet+rest_sheet.Tie.{close}
 

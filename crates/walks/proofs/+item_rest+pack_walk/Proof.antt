@@ -1,4 +1,4 @@
--- `walks::item_rest` and `walks::pack_walk` meet their contracts: each turn moves one item or pack from what is to come to what was walked.
+-- `levels::item_rest` and `levels::pack_walk` meet their contracts: each turn moves one item or pack from what is to come to what was walked.
 -- In the item walk's answers `a` is where an item was read; in the pack walk's `a` is where a pack's head was, and `e` where its id was found to be new.
 use mathlib.Core.Path.{refl, ap, _∙_}
 use mathlib.Core.Bool.{true, false}
@@ -13,11 +13,11 @@ use Rattle.items.specs.Meet.{formOf}
 use Rattle.heads.specs.Meet.{peek, Clear}
 use Rattle.heads.proofs.Before.{pack-key}
 use Rattle.repeats.proofs.Clears.{clear-none}
-use Rattle.walks.specs.Going.{LevelGoing, SeriesGoing}
-use Rattle.walks.specs.Meet.{plusSizes}
-use Rattle.walks.proofs.Turns.{turn-done}
-use Rattle.walks.proofs.ItemTurns.{ItemAt, depth, series-deep, value-long, item-fault, piece-stood, piece-room, EntryTold, item-told, series-within, series-told, entry-bad, bad-within, good-small, entry-more}
-use Rattle.walks.proofs.PackTurns.{PackAt, either-is, lent-long, head-fault, head-stood, head-room, id-again, items-within, items-fault, no-location, items-small, pack-small, pack-more}
+use Rattle.levels.specs.Going.{LevelGoing, SeriesGoing}
+use Rattle.levels.specs.Meet.{plusSizes}
+use Rattle.levels.proofs.Turns.{turn-done}
+use Rattle.levels.proofs.ItemTurns.{ItemAt, depth, series-deep, value-long, item-fault, piece-stood, piece-room, EntryTold, item-told, series-within, series-told, entry-bad, bad-within, good-small, entry-more}
+use Rattle.levels.proofs.PackTurns.{PackAt, either-is, lent-long, head-fault, head-stood, head-room, id-again, items-within, items-fault, no-location, items-small, pack-small, pack-more}
 use Rattle.walks.proofs.item_rest.Reads as item-rest
 use Rattle.walks.proofs.item_rest.Kinds as item-rest-kinds
 use Rattle.walks.proofs.+item_rest+pack_walk.Lts-item_rest as item-rest-lts
@@ -28,20 +28,20 @@ use Rattle.repeats.proofs.clear.after.Reads as after-reads
 use Rattle.repeats.proofs.is_seen.Reads as is-seen-reads
 use Rattle.heads.proofs.quick_pack_head.Reads as quick-pack-head-reads
 use Rattle.coding.proofs.either.Reads as either-reads
-use Rattle.walks.proofs.is_series.Reads as is-series-reads
+use Rattle.levels.proofs.is_series.Reads as is-series-reads
 use Rattle.walks.proofs.item_at.Reads as item-at-reads
-use Rattle.walks.proofs.larger.Reads as larger-reads
-use Rattle.walks.proofs.later.Reads as later-reads
-use Rattle.walks.proofs.one_item.Reads as one-item-reads
+use Rattle.levels.proofs.larger.Reads as larger-reads
+use Rattle.levels.proofs.later.Reads as later-reads
+use Rattle.levels.proofs.one_item.Reads as one-item-reads
 use Rattle.walks.proofs.piece_fault.Reads as piece-fault-reads
-use Rattle.walks.proofs.weights.pack_sizes.Reads as pack-sizes-reads
-use Rattle.walks.proofs.weights.plus.Reads as plus-reads
-use Rattle.walks.proofs.quick.onward.Reads as onward-reads
-use Rattle.walks.proofs.packs.packs.Reads as packs-reads
-use Rattle.walks.proofs.quick.run.Reads as run-reads
-use Rattle.walks.proofs.series_of.Reads as series-of-reads
-use Rattle.walks.proofs.smaller.Reads as smaller-reads
-use Rattle.walks.proofs.stop.Reads as stop-reads
+use Rattle.levels.proofs.weights.pack_sizes.Reads as pack-sizes-reads
+use Rattle.levels.proofs.weights.plus.Reads as plus-reads
+use Rattle.levels.proofs.quick.onward.Reads as onward-reads
+use Rattle.levels.proofs.packs.packs.Reads as packs-reads
+use Rattle.levels.proofs.quick.run.Reads as run-reads
+use Rattle.levels.proofs.series_of.Reads as series-of-reads
+use Rattle.levels.proofs.smaller.Reads as smaller-reads
+use Rattle.levels.proofs.stop.Reads as stop-reads
 use Rattle.walks.proofs.+item_rest+pack_walk.{statement}
 use Rattle.walks.proofs.+item_rest+pack_walk.Tie.{close}
 

@@ -1,10 +1,10 @@
--- `walks::item_at` meets its contract: each way out is a case of `item`.
+-- `levels::item_at` meets its contract: each way out is a case of `item`.
 -- In each answer h is where the head was taken apart, and k where the item was found to stand.
 use mathlib.Core.Path.{sym}
 use native.Mathlib.Omega.{arith}
 use borrow.Author.Needs.{needs}
 use Rattle.heads.proofs.Before.{item-key}
-use Rattle.walks.proofs.Pieces.{piece-tail, piece-head, piece-within, piece-empty, piece-standing, piece-valued, piece-whole}
+use Rattle.levels.proofs.Pieces.{piece-tail, piece-head, piece-within, piece-empty, piece-standing, piece-valued, piece-whole}
 use Rattle.walks.proofs.item_at.Statement.{statement}
 use Rattle.walks.proofs.item_at.Tie as tie
 

@@ -1,7 +1,7 @@
--- `walks::piece_fault` meets its contract.
+-- `levels::piece_fault` meets its contract.
 use mathlib.Core.Path.{sym, ap}
 use borrow.Author.Needs.{needs}
-use Rattle.walks.specs.Meet.{pieceFault}
+use Rattle.levels.specs.Meet.{pieceFault}
 use Rattle.walks.proofs.piece_fault.Statement.{statement}
 use Rattle.walks.proofs.piece_fault.Tie as tie
 

@@ -12,12 +12,12 @@ use Rattle.checks.proofs.sets.seal.Statement.{statement}
 use Rattle.checks.proofs.sets.seal.Tie as tie
 use Rattle.checks.proofs.sets.seal.Reads as reads
 use Rattle.checks.proofs.sets.seal.Lts as lts
-use Rattle.walks.proofs.larger.Reads as larger-reads
-use Rattle.walks.proofs.quick.stands.Reads as stands-reads
+use Rattle.levels.proofs.larger.Reads as larger-reads
+use Rattle.levels.proofs.quick.stands.Reads as stands-reads
 use Rattle.checks.proofs.sets.head_at.Reads as head-at-reads
 use Rattle.checks.proofs.sets.is_seal_next.Reads as is-seal-next-reads
-use Rattle.walks.proofs.weights.plain_sizes.Reads as plain-sizes-reads
-use Rattle.walks.proofs.weights.plus.Reads as plus-reads
+use Rattle.levels.proofs.weights.plain_sizes.Reads as plain-sizes-reads
+use Rattle.levels.proofs.weights.plus.Reads as plus-reads
 
 abbrev Head-read : Type 0
 Head-read = lts.After-h (head-at-reads.Asked, head-at-reads.Learnt, is-seal-next-reads.Asked, is-seal-next-reads.Learnt, plain-sizes-reads.Asked, plain-sizes-reads.Learnt, plus-reads.Asked, plus-reads.Learnt, larger-reads.Asked, larger-reads.Learnt, stands-reads.Asked, stands-reads.Learnt) reads.Pre reads.Post

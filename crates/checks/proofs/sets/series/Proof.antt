@@ -7,15 +7,15 @@ use lib.ListN.{length}
 use borrow.Author.Needs.{needs}
 use borrow.Author.Tests.{not-false}
 use Rattle.items.specs.Meet.{formOf}
-use Rattle.walks.proofs.Turns.{turn-done}
+use Rattle.levels.proofs.Turns.{turn-done}
 use Rattle.checks.proofs.SetTurns.{HeadAt, head-room, packs-long, series-asks, series-goes}
 use Rattle.checks.proofs.sets.series.Statement.{statement}
 use Rattle.checks.proofs.sets.series.Tie as tie
 use Rattle.checks.proofs.sets.series.Reads as reads
 use Rattle.checks.proofs.sets.series.Lts as lts
-use Rattle.walks.proofs.packs.is_lone.Reads as is-lone-reads
-use Rattle.walks.proofs.packs.lone.Reads as lone-reads
-use Rattle.walks.proofs.packs.packs.Reads as packs-reads
+use Rattle.levels.proofs.packs.is_lone.Reads as is-lone-reads
+use Rattle.levels.proofs.packs.lone.Reads as lone-reads
+use Rattle.levels.proofs.packs.packs.Reads as packs-reads
 use Rattle.checks.proofs.sets.after_series.Reads as after-series-reads
 use Rattle.checks.proofs.sets.head_at.Reads as head-at-reads
 use Rattle.checks.proofs.sets.is_series_next.Reads as is-series-next-reads

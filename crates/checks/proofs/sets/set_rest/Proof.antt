@@ -2,7 +2,7 @@
 use native.Mathlib.Omega.{arith}
 use lib.ListN.{length}
 use borrow.Author.Needs.{needs}
-use Rattle.walks.proofs.Turns.{turn-done, told-as}
+use Rattle.levels.proofs.Turns.{turn-done, told-as}
 use Rattle.checks.proofs.sets.set_rest.Statement.{statement}
 use Rattle.checks.proofs.sets.set_rest.Tie as tie
 

@@ -3,7 +3,7 @@ use native.Mathlib.Omega.{arith}
 use lib.ListN.{length}
 use Rattle.coding.proofs.Rooms.{tail-part}
 use borrow.Author.Needs.{needs}
-use Rattle.walks.proofs.Turns.{turn-done, told-as}
+use Rattle.levels.proofs.Turns.{turn-done, told-as}
 use Rattle.checks.proofs.sets.set_walk.Statement.{statement}
 use Rattle.checks.proofs.sets.set_walk.Tie as tie
 

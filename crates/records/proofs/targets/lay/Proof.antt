@@ -20,8 +20,8 @@ use Rattle.coding.proofs.either.Reads as either-reads
 use Rattle.items.proofs.quick.first_mark.Reads as first-mark-reads
 use Rattle.records.proofs.quick.glance.Reads as glance-reads
 use Rattle.records.proofs.quick.told_sizes.Reads as told-sizes-reads
-use Rattle.walks.proofs.is_mark.Reads as is-mark-reads
-use Rattle.walks.proofs.quick.stands.Reads as stands-reads
+use Rattle.levels.proofs.is_mark.Reads as is-mark-reads
+use Rattle.levels.proofs.quick.stands.Reads as stands-reads
 
 abbrev Inv-loop : tie.InvT-loop
 Inv-loop glances s alone marks₀ p₀ count₀ mark₀ top₀ marks p count mark top = Laying (formOf alone) marks s p count mark top

@@ -10,10 +10,10 @@ use borrow.Author.Needs.{needs}
 use borrow.Author.Tests.{not-false}
 use Rattle.format.specs.Sheet.{TG, is}
 use Rattle.items.specs.Meet.{formOf}
-use Rattle.walks.specs.declared.Piece.the-variants as piece
-use Rattle.walks.specs.Meet.{sizes}
-use Rattle.walks.specs.Going.{quickAt, Reached}
-use Rattle.walks.proofs.Turns.{going-wide, new-key, reach-first, reach-over, reach-under}
+use Rattle.levels.specs.declared.Piece.the-variants as piece
+use Rattle.levels.specs.Meet.{sizes}
+use Rattle.levels.specs.Going.{quickAt, Reached}
+use Rattle.levels.proofs.Turns.{going-wide, new-key, reach-first, reach-over, reach-under}
 use Rattle.records.specs.Going.{TargetsGoing, TargetsPassed}
 use Rattle.records.specs.Targets.{Held, Over, Modelled}
 use Rattle.records.proofs.Opens.{target-whole}
@@ -29,7 +29,7 @@ use Rattle.heads.proofs.records.is_mark.Reads as is-mark-reads
 use Rattle.records.proofs.targets.is_target_as.Reads as is-target-as-reads
 use Rattle.records.proofs.targets.model_of.Reads as model-of-reads
 use Rattle.records.proofs.targets.passed.Reads as passed-reads
-use Rattle.walks.proofs.packs.no_model.Reads as no-model-reads
+use Rattle.levels.proofs.packs.no_model.Reads as no-model-reads
 
 abbrev Inv-loop : tie.InvT-loop
 Inv-loop glances s alone p₀ rows₀ normal₀ top₀ low₀ marks₀ m₀ p rows normal top low marks m = TargetsGoing (formOf alone) s p (sizes p rows normal 0) top low × (p < length s → is TG (drop p s) ≡ true) × (p ≡ 0 → low ≡ 18446744073709551615) × (0 < p → low ≤ top) × (top ≤ 16383) × Modelled alone marks s m × (m .from ≤ p)

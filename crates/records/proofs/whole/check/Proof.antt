@@ -2,7 +2,7 @@
 -- In each answer k is where the form was read.
 use native.Mathlib.Omega.{arith}
 use borrow.Author.Needs.{needs}
-use Rattle.walks.proofs.Turns.{within-more}
+use Rattle.levels.proofs.Turns.{within-more}
 use Rattle.records.proofs.Sheeting.{check-long, check-cut, check-unmarked, check-form, check-bad, check-none, check-good}
 use Rattle.records.proofs.whole.check.Statement.{statement}
 use Rattle.records.proofs.whole.check.Tie as tie

@@ -3,7 +3,7 @@ use native.Mathlib.Omega.{arith}
 use lib.ListN.{length}
 use Rattle.coding.proofs.Rooms.{tail-part}
 use borrow.Author.Needs.{needs}
-use Rattle.walks.proofs.Turns.{turn-done, told-as}
+use Rattle.levels.proofs.Turns.{turn-done, told-as}
 use Rattle.records.proofs.whole.set_records.Statement.{statement}
 use Rattle.records.proofs.whole.set_records.Tie as tie
 

@@ -2,7 +2,7 @@
 use mathlib.Core.Path.{sym, ap, subst}
 use native.Mathlib.Omega.{arith}
 use borrow.Author.Needs.{needs}
-use Rattle.walks.specs.Meet.{Within}
+use Rattle.levels.specs.Meet.{Within}
 use Rattle.records.specs.Meet.{partsFault}
 use Rattle.records.proofs.whole.wrong_parts.Statement.{statement}
 use Rattle.records.proofs.whole.wrong_parts.Tie as tie

@@ -17,9 +17,9 @@ use Rattle.format.proofs.table.Tags.{nameable-high}
 use Rattle.format.proofs.sheets.Values.{mark-says}
 use Rattle.items.specs.Meet.{levelOf}
 use Rattle.heads.proofs.Spans.{size-at}
-use Rattle.records.specs.Meet.{moreAt, partStep}
+use Rattle.skims.specs.Meet.{moreAt, partStep}
 use Rattle.levels.proofs.Maps.{mapped}
-use Rattle.records.proofs.Runs.{vals-run}
+use Rattle.skims.proofs.Runs.{vals-run}
 use Rattle.packets.specs.Meet.{recordsRun, targetsRun}
 
 -- ---- a part

@@ -17,7 +17,7 @@ use Rattle.coding.proofs.Counts.{len-one}
 use Rattle.coding.proofs.Rooms.{tail-part}
 use Rattle.levels.specs.Meet.{total, weightOfVal}
 use Rattle.levels.specs.Runs.{madeOf}
-use Rattle.records.proofs.Runs.{vals-used}
+use Rattle.skims.proofs.Runs.{vals-used}
 use Rattle.stores.specs.Writing.{Writing}
 use Rattle.stores.proofs.Puts.{Puts, Parted, head-room}
 use Rattle.stores.proofs.Stores.{sets-append, sets-swap, sets-under, tail-length, tail-stored}

@@ -19,8 +19,8 @@ use Rattle.coding.proofs.Rooms.{tail-part}
 use Rattle.coding.proofs.Lens.{two-small}
 use Rattle.items.specs.Meet.{levelOf}
 use Rattle.levels.specs.Runs.{Ran, madeOf}
-use Rattle.records.specs.Meet.{moreAt, partStep}
-use Rattle.records.proofs.Runs.{targets-used}
+use Rattle.skims.specs.Meet.{moreAt, partStep}
+use Rattle.skims.proofs.Runs.{targets-used}
 use Rattle.stores.proofs.Puts.{Puts, Parted, head-room, head-behind, rest-room, rest-put}
 use Rattle.stores.proofs.Writing.{each, writing-begins, none-over, writing-done, writing-over, Next, next-here, next-room, writing-passes, long}
 use Rattle.stores.proofs.Entries.{ran, ran-ok}

@@ -9,7 +9,7 @@ ghost use Rattle.items.specs.Meet.{formOf, levelOf, itemTable, glanceTable};
 ghost use Rattle.heads.specs.Meet.{peek, Past, Clear};
 ghost use Rattle.heads.specs.Records.{peekVal};
 ghost use Rattle.levels.specs.Meet.{Within};
-ghost use Rattle.records.specs.Meet.{pieceBy, valueWhole, seriesWhole, targetWhole, seriesOpens, targetOpens, partPiece, moreAt, recordsWalk, targetsWalk};
+ghost use Rattle.skims.specs.Meet.{pieceBy, valueWhole, seriesWhole, targetWhole, seriesOpens, targetOpens, partPiece, moreAt, recordsWalk, targetsWalk};
 use heads::records::Field;
 use levels::Piece;
 use levels::Sizes;
@@ -98,7 +98,7 @@ pub fn part_at(
     requires { ⌜ (now table ≡ itemTable) × (length (now s) ≤ 65536) × (p ≤ length (now s)) × Clear (peek true false set) (now s) clear × (now glances ≡ glanceTable) ⌝ }
     ensures { λ r. ⌜ ((seen : List ℕ) → Past (peek true false set) (now (s .entry)) p top low seen → r ≡ partPiece (levelOf set) (formOf alone) seen (drop p (now (s .entry)))) ⌝ }
 {
-    let g = quick::glance_begun(glances, s, p, set, alone, top);
+    let g = skims::quick::glance_begun(glances, s, p, set, alone, top);
     if 0 < g.next {
         let size = g.next - (p + 6);
         return Piece::Whole {
@@ -153,15 +153,6 @@ fn target_at(s: &[u8], p: usize, clear: usize, top: u64, low: u64) -> Piece
 
 // ---- walks
 
-// Whether a level goes on at p: the set to its end, a target while `TI`s stand there.
-pub fn goes_on(s: &[u8], p: usize, set: bool) -> bool
-    ensures { λ r. ⌜ r ≡ moreAt (levelOf set) (drop p (now (s .entry))) ⌝ }
-{
-    if set {
-        return true;
-    }
-    heads::records::is_mark(s, p, b'T', b'I')
-}
 
 // The records of a level: the set, or a target. A part takes as many bytes as it adds to the sheet.
 pub fn item_records(table: &[u32], glances: &[u32], s: &[u8], set: bool, alone: bool) -> Walked
@@ -180,7 +171,7 @@ pub fn item_records(table: &[u32], glances: &[u32], s: &[u8], set: bool, alone: 
     let mut low: u64 = 18446744073709551615;
     let mut clear: usize = 0;
     while p < s.len() {
-        if !goes_on(s, p, set) {
+        if !skims::goes_on(s, p, set) {
             return Walked::Good { sizes: sum, mark };
         }
         let a = part_at(table, glances, s, p, clear, set, alone, top, low);
@@ -216,7 +207,7 @@ pub fn target_records(table: &[u32], glances: &[u32], s: &[u8], alone: bool) -> 
     requires { ⌜ (now table ≡ itemTable) × (length (now s) ≤ 65536) × (now glances ≡ glanceTable) ⌝ }
     ensures { λ r. ⌜ (r ≡ targetsWalk (formOf alone) (now (s .entry))) × Within r (length (now (s .entry))) ⌝ }
 {
-    let q = targets::targets(glances, s, alone);
+    let q = skims::targets::targets(glances, s, alone);
     let mut p = q.at;
     let mut sum = q.sizes;
     let mut top = q.top;
@@ -241,10 +232,10 @@ pub fn target_records(table: &[u32], glances: &[u32], s: &[u8], alone: bool) -> 
         };
         let from = p + 10;
         let items = &s[from..];
-        let q = quick::run(glances, items, false, alone);
+        let q = skims::quick::run(glances, items, false, alone);
         let mut sizes = q.sizes;
         let mut mark = q.mark;
-        if goes_on(items, q.at, false) {
+        if skims::goes_on(items, q.at, false) {
             let w = item_records(table, glances, items, false, alone);
             let Walked::Good { sizes: z, mark: m } = w else {
                 return levels::later(w, from);
@@ -273,22 +264,3 @@ pub fn target_records(table: &[u32], glances: &[u32], s: &[u8], alone: bool) -> 
         mark: false,
     }
 }
-
-// ---- the whole sheet
-
-// Its form, the bytes of its packet's set but for the checksum, and those of the series' packs; or the refusal.
-pub enum Sheeted {
-    Fine {
-        alone: bool,
-        normal: usize,
-        inner: usize,
-    },
-    Wrong {
-        number: u64,
-        place: usize,
-    },
-}
-
-pub mod quick; // quick.rt: the quick way over a level, and over targets
-pub mod targets; // targets.rt: the quick way over the targets of a series
-pub mod whole; // whole.rt: the whole sheet

@@ -19,10 +19,10 @@ use Rattle.items.proofs.Tests.{bind-so, bind-not}
 use Rattle.coding.proofs.Rooms.{tail-part}
 use Rattle.levels.specs.Meet.{total, weightOfPart}
 use Rattle.levels.specs.Runs.{Ran}
-use Rattle.records.specs.declared.Sheeted.{Sheeted}
-use Rattle.records.specs.declared.Sheeted.the-variants.{Fine, Wrong}
-use Rattle.records.specs.Meet.{sheetedOf}
-use Rattle.records.proofs.Sizings.{packet-large, inner-less}
+use Rattle.sheet_checks.specs.declared.Sheeted.{Sheeted}
+use Rattle.sheet_checks.specs.declared.Sheeted.the-variants.{Fine, Wrong}
+use Rattle.sheet_checks.specs.Meet.{sheetedOf}
+use Rattle.sheet_checks.proofs.Sizings.{packet-large, inner-less}
 use Rattle.frames.specs.Meet.{frameSize}
 use Rattle.packets.specs.Meet.{recordsRun, recordsNormal, InnerParts}
 use Rattle.packets.proofs.Sheet.{SheetRead, sheet-read, packet-whole, parts-ran, inner-parts}

@@ -6,7 +6,7 @@ ghost use Rattle.answers.specs.Meet.{leftOf};
 ghost use Rattle.write.specs.Meet.{sheetRefusal};
 use answers::Answer;
 use answers::answer_of;
-use records::Sheeted;
+use sheet_checks::Sheeted;
 
 // A refusal of a sheet passed up.
 fn sheet_refusal(c: Sheeted) -> Answer
@@ -26,7 +26,7 @@ fn sheet_refusal(c: Sheeted) -> Answer
 pub fn write(sheet: &[u8], packet: &mut [u8]) -> Answer
     ensures { λ r. ⌜ leftOf r (now (packet .exit)) ≡ leaves (now (packet .entry)) (Calls.write (now (sheet .entry))) ⌝ }
 {
-    let c = records::whole::check(sheet);
+    let c = sheet_checks::check(sheet);
     let Sheeted::Fine {
         alone,
         normal,

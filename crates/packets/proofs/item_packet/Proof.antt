@@ -16,7 +16,7 @@ use Rattle.heads.proofs.records.is_mark.Reads as is-mark-reads
 use Rattle.normals.proofs.put_series.Reads as put-series-reads
 use Rattle.packets.proofs.target_packet.Reads as target-packet-reads
 use Rattle.packets.proofs.two_at.Reads as two-at-reads
-use Rattle.records.proofs.goes_on.Reads as goes-on-reads
+use Rattle.skims.proofs.goes_on.Reads as goes-on-reads
 use Rattle.stores.proofs.coded.put_short.Reads as put-short-reads
 
 abbrev Inv-loop : tie.InvT-loop

@@ -17,13 +17,13 @@ use Rattle.repeats.proofs.Clears.{clear-none}
 use Rattle.levels.specs.declared.Walked.the-variants.{Good}
 use Rattle.levels.specs.Meet.{plusSizes, Within}
 use Rattle.levels.proofs.Turns.{within-more, told-as, turn-done, turn-over}
-use Rattle.records.specs.Meet.{recordsWalk}
-use Rattle.records.specs.Going.{RecordsGoing, TargetsGoing}
+use Rattle.skims.specs.Meet.{recordsWalk}
+use Rattle.skims.specs.Going.{RecordsGoing, TargetsGoing}
 use Rattle.levels.proofs.ItemTurns.{depth, series-deep}
 use Rattle.levels.proofs.PackTurns.{either-is}
-use Rattle.records.proofs.PartTurns.{PartAt, records-start, piece-fault, PartTold, item-small, item-told, series-room, lent-small, series-told, part-bad, bad-within, part-room, good-small, part-more}
-use Rattle.records.proofs.TargetTurns.{TargetAt, same-good, records-over, head-fault, target-room, vals-within, vals-fault, next-room, vals-small, no-location, target-small, target-more}
-use Rattle.records.proofs.TargetTurns as target-turns
+use Rattle.skims.proofs.PartTurns.{PartAt, records-start, piece-fault, PartTold, item-small, item-told, series-room, lent-small, series-told, part-bad, bad-within, part-room, good-small, part-more}
+use Rattle.skims.proofs.TargetTurns.{TargetAt, same-good, records-over, head-fault, target-room, vals-within, vals-fault, next-room, vals-small, no-location, target-small, target-more}
+use Rattle.skims.proofs.TargetTurns as target-turns
 use Rattle.records.proofs.item_records.Reads as item-records
 use Rattle.records.proofs.item_records.Kinds as item-records-kinds
 use Rattle.records.proofs.+item_records+target_records.Lts-item_records as item-records-lts
@@ -33,10 +33,10 @@ use Rattle.records.proofs.+item_records+target_records.Lts-target_recor
 use Rattle.coding.proofs.widths.oid_width.Reads as oid-width-reads
 use Rattle.repeats.proofs.clear.after.Reads as after-reads
 use Rattle.heads.proofs.records.is_mark.Reads as is-mark-reads
-use Rattle.records.proofs.goes_on.Reads as goes-on-reads
+use Rattle.skims.proofs.goes_on.Reads as goes-on-reads
 use Rattle.records.proofs.higher.Reads as higher-reads
-use Rattle.records.proofs.quick.run.Reads as run-reads
-use Rattle.records.proofs.targets.targets.Reads as targets-reads
+use Rattle.skims.proofs.quick.run.Reads as run-reads
+use Rattle.skims.proofs.targets.targets.Reads as targets-reads
 use Rattle.levels.proofs.later.Reads as later-reads
 use Rattle.records.proofs.part_at.Reads as part-at-reads
 use Rattle.levels.proofs.series_of.Reads as series-of-reads

@@ -2,8 +2,8 @@
 use mathlib.Core.Path.{sym, _∙_}
 use native.Mathlib.Omega.{arith}
 use borrow.Author.Needs.{needs}
-use Rattle.records.proofs.Opens.{value-inner, value-set, clear-set, past-set, part-inner, part-value, part-series, part-unknown}
-use Rattle.records.proofs.Glances.{glance-next, glance-piece}
+use Rattle.skims.proofs.Opens.{value-inner, value-set, clear-set, past-set, part-inner, part-value, part-series, part-unknown}
+use Rattle.skims.proofs.Glances.{glance-next, glance-piece}
 use Rattle.records.proofs.part_at.Statement.{statement}
 use Rattle.records.proofs.part_at.Tie as tie
 

@@ -1,7 +1,7 @@
 -- `records::series_at` meets its contract: each way out is a case of `seriesOpens`.
 use mathlib.Core.Path.{sym}
 use borrow.Author.Needs.{needs}
-use Rattle.records.proofs.Opens.{series-key, series-alone, series-standing, series-whole}
+use Rattle.skims.proofs.Opens.{series-key, series-alone, series-standing, series-whole}
 use Rattle.records.proofs.series_at.Statement.{statement}
 use Rattle.records.proofs.series_at.Tie as tie
 

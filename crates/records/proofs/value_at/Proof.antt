@@ -5,8 +5,8 @@ use Prim.Native.Nat.{_-_}
 use native.Mathlib.Omega.{arith}
 use lib.ListN.{length, take, drop}
 use borrow.Author.Needs.{needs}
-use Rattle.records.proofs.Opens.{value-key}
-use Rattle.records.proofs.Values.{value-tail, value-cut, value-within, value-empty, value-standing, value-valued, value-long, value-whole}
+use Rattle.skims.proofs.Opens.{value-key}
+use Rattle.skims.proofs.Values.{value-tail, value-cut, value-within, value-empty, value-standing, value-valued, value-long, value-whole}
 use Rattle.records.proofs.value_at.Statement.{statement}
 use Rattle.records.proofs.value_at.Tie as tie
 

@@ -1,0 +1,3 @@
+pub mod SetTurns
+pub mod Sheeting
+pub mod Sizings

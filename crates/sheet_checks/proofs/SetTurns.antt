@@ -1,0 +1,77 @@
+-- The quick way's turn over the series that ends the set: it is read as the walk over the set's records reads it.
+use mathlib.Core.Path.{_≡_, refl, sym, ap, _∙_}
+use Prim.Native.Nat.{ℕ, _+_, _≤_, _<_}
+use native.Mathlib.Omega.{arith}
+use mathlib.Core.Bool.{Bool, true, false}
+use mathlib.Core.List.{List}
+use lib.ListN.{length, drop, length-drop}
+use lib.Dec.{eqb}
+use Rattle.format.specs.Coding.{Bytes}
+use Rattle.format.specs.Table.{Form, set, mayStand}
+use Rattle.format.specs.Sheet.{IT, TS, TG, is}
+use Rattle.format.proofs.sheets.Values.{mark-says}
+use Rattle.coding.proofs.Rooms.{tail-part}
+use Rattle.items.proofs.Tests.{standing-0}
+use Rattle.heads.specs.Meet.{peek, Past}
+use Rattle.levels.specs.declared.Piece.the-variants as piece
+use Rattle.levels.specs.declared.Sizes.{Sizes}
+use Rattle.levels.specs.declared.quick.Quick.{Quick}
+use Rattle.levels.specs.declared.Walked.the-variants.{Good}
+use Rattle.levels.specs.Meet.{seriesSizes, plusSizes, Small}
+use Rattle.levels.proofs.Turns.{turn-done}
+use Rattle.levels.proofs.Glances.{begun-later}
+use Rattle.levels.proofs.Beyond.{or-false}
+use Rattle.skims.specs.Meet.{partPiece}
+use Rattle.skims.specs.Going.{RecordsGoing, TargetsPassed}
+use Rattle.skims.proofs.Opens.{series-whole, part-series}
+use Rattle.skims.proofs.PartTurns.{ts-room, targetsAt, PartAt, PartTold, series-told, good-small, part-more}
+
+-- a `TS` that the code has found at p, told to be new
+pub record SeriesAt (f : Form) (s : List ℕ) (p : ℕ) (sum : Sizes) (mark : Bool) (top low : ℕ) : Type 0 where
+  pub going : RecordsGoing true f s p sum mark top low
+  pub marked : is TS (drop p s) ≡ true
+  pub later : 0 < p
+  pub above : top < 101
+  pub bytes : Bytes s
+  pub most : length s ≤ 65536
+
+module _ {f : Form} {s : List ℕ} {p : ℕ} {sum : Sizes} {mark : Bool} {top low : ℕ} (i : SeriesAt f s p sum mark top low) where
+  pub room : p + 2 ≤ length s
+  room = ts-room s p (i .marked)
+
+  targets-long : length (targetsAt s p) + (p + 2) ≡ length s
+  targets-long = omega (arith, ap length (tail-part (p + 2) s), length-drop (p + 2) s, room)
+
+  -- all of them were walked
+  module _ (q : Quick) (g : TargetsPassed f (targetsAt s p) q) (some : q .at ≡ 0 → ⊥) (full : q .at ≡ length (targetsAt s p)) where
+    series-piece : (seen : List ℕ) → Past (peek true false true) s p top low seen → piece.Whole 101 2 0 0 ≡ partPiece set f seen (drop p s)
+    unfolding mayStand
+    series-piece seen past =
+        part-series f seen (drop p s) {b = true} refl {x = is IT (drop p s)} refl (ap (is IT) (mark-says TS (drop p s) (i .marked))) {y = is TS (drop p s)} refl (i .marked)
+        (series-whole f s p {x = is TG (drop (p + 2) s)} refl seen (rw tail-part at (g .3 (omega (arith, some)))) 0
+        (standing-0 set f seen 101 true (sym (past .under 101 (i .above))) refl (eqb p 0) (sym (past .first)) (sym (begun-later true f p 101 (i .later)))) refl)
+
+    part : PartAt true f s p sum mark top low 101 2 0 0
+    part = record {
+      going = i .going;
+      here = omega (arith, room);
+      more = refl;
+      it = piece.Whole 101 2 0 0;
+      told = series-piece;
+      whole = refl;
+      bytes = i .bytes;
+      most = i .most;
+    }
+
+    told-so : PartTold part (Good (seriesSizes (q .sizes)) false)
+    told-so = series-told part {x = true} refl refl (turn-done (g .0) (omega (arith, full))) refl
+
+    -- z is what the code says of its sizes
+    module _ {z : Sizes} (ez : z ≡ seriesSizes (q .sizes)) where
+      pub series-sums : Small sum × Small z
+      series-sums = rw ez (good-small part told-so refl)
+
+      pub series-more : {sum′ : Sizes} → sum′ ≡ plusSizes sum z → {low″ : ℕ} → (low″ ≤ low) × (low″ ≤ 101) → RecordsGoing true f s (length s) sum′ mark 101 low″
+      series-more es el =
+          let e : length s ≡ p + seriesSizes (q .sizes) .sheet = omega (arith, g .2, full, targets-long) in
+          rw e (part-more part told-so refl (es ∙ ap (plusSizes sum) ez) (or-false mark refl) (omega (arith, i .above), omega arith) el)

@@ -1,0 +1,153 @@
+// The whole sheet: `PK`, the form, and the parts.
+ghost use mathlib.Core.Path.{_≡_};
+ghost use Prim.Native.Nat.{_≤_};
+ghost use mathlib.Core.Bool.{true};
+ghost use lib.ListN.{length, take, drop};
+ghost use Rattle.format.specs.Coding.{bytesNumber};
+ghost use Rattle.format.specs.Table.{set};
+ghost use Rattle.format.specs.Sheet.{unsheet};
+ghost use Rattle.items.specs.Meet.{formOf, glanceTable};
+ghost use Rattle.levels.specs.Meet.{Within};
+ghost use Rattle.levels.specs.Going.{Begun};
+ghost use Rattle.skims.specs.Meet.{recordsWalk};
+ghost use Rattle.skims.specs.Going.{RecordsGoing};
+ghost use Rattle.sheet_checks.specs.Meet.{sheetedOf, partsFault};
+use levels::Walked;
+use levels::quick::Quick;
+use skims::quick;
+use skims::targets;
+
+// Its form, the bytes of its packet's set but for the checksum, and those of the series' packs; or the refusal.
+pub enum Sheeted {
+    Fine {
+        alone: bool,
+        normal: usize,
+        inner: usize,
+    },
+    Wrong {
+        number: u64,
+        place: usize,
+    },
+}
+
+// ---- its set
+
+// On over the series, if it ends the set and all its targets are told at a glance. It is told to be new: items stand before it, and none has
+// a tag so high.
+fn series(glances: &[u32], s: &[u8], alone: bool, q: Quick) -> Quick
+    requires { ⌜ (now glances ≡ glanceTable) × (length (now s) ≤ 65536) × RecordsGoing true (formOf alone) (now s) (q .at) (q .sizes) (q .mark) (q .top) (q .low) ⌝ }
+    ensures { λ r. ⌜ RecordsGoing true (formOf alone) (now (s .entry)) (r .at) (r .sizes) (r .mark) (r .top) (r .low) ⌝ }
+{
+    let p = q.at;
+    if !heads::records::is_mark(s, p, b'T', b'S') {
+        return q;
+    }
+    if p == 0 {
+        return q;
+    }
+    if 100 < q.top {
+        return q;
+    }
+    let t = &s[p + 2..];
+    let w = targets::targets(glances, t, alone);
+    if w.at == 0 {
+        return q;
+    }
+    if w.at != t.len() {
+        return q;
+    }
+    let sum = levels::weights::plus(q.sizes, levels::weights::series_sizes(w.sizes));
+    levels::quick::stands(s.len(), sum, q.mark, 101, levels::smaller(q.low, 101))
+}
+
+// Whether the first record may begin a set.
+fn starts(s: &[u8], alone: bool) -> bool
+    ensures { λ r. ⌜ (r ≡ true → Begun true (formOf alone) 0 (bytesNumber (take 2 (drop 2 (now (s .entry)))))) ⌝ }
+{
+    if s.len() < 4 {
+        return false;
+    }
+    items::begins(true, alone, coding::number_of(&s[2..], 2), true)
+}
+
+// The set from its start, as far as it is told at a glance.
+fn glanced(glances: &[u32], s: &[u8], alone: bool) -> Quick
+    requires { ⌜ (now glances ≡ glanceTable) × (length (now s) ≤ 65536) ⌝ }
+    ensures { λ r. ⌜ RecordsGoing true (formOf alone) (now (s .entry)) (r .at) (r .sizes) (r .mark) (r .top) (r .low) ⌝ }
+{
+    if !starts(s, alone) {
+        return targets::passed(0, 0, 0, 0, 0);
+    }
+    series(glances, s, alone, quick::run(glances, s, true, alone))
+}
+
+// The records of the set. Most sets are passed at a glance, to the end of their series; any other is walked from its start.
+fn set_records(glances: &[u32], s: &[u8], alone: bool) -> Walked
+    requires { ⌜ (now glances ≡ glanceTable) × (length (now s) ≤ 65536) ⌝ }
+    ensures { λ r. ⌜ (r ≡ recordsWalk set (formOf alone) (now (s .entry))) × Within r (length (now (s .entry))) ⌝ }
+{
+    let q = glanced(glances, s, alone);
+    if q.at == s.len() {
+        return levels::quick::walked(q);
+    }
+    // lent on as a part, so that the compiler keeps the slice itself in registers
+    let table = items::table();
+    records::item_records(&table, glances, &s[0..], true, alone)
+}
+
+// ---- the whole
+
+// A refusal among the parts, which begin at 3.
+fn wrong_parts(w: Walked) -> Sheeted
+    requires { ⌜ Within w 65536 ⌝ }
+    ensures { λ r. ⌜ r ≡ partsFault w ⌝ }
+{
+    match w {
+        Walked::Good { sizes: _, mark: _ } => Sheeted::Wrong {
+            number: 0,
+            place: 0,
+        },
+        Walked::Bad { number, place } => Sheeted::Wrong {
+            number,
+            place: 3 + place,
+        },
+    }
+}
+
+fn wrong(number: u64, place: usize) -> Sheeted
+    ensures { λ r. ⌜ r ≡ Sheeted.Wrong number place ⌝ }
+{
+    Sheeted::Wrong { number, place }
+}
+
+// The sizes of a sheet's packet, or the refusal: 1, 17, the parts, 14 where a standalone sheet has none.
+pub fn check(s: &[u8]) -> Sheeted
+    ensures { λ r. ⌜ r ≡ sheetedOf (unsheet (now (s .entry))) ⌝ }
+{
+    if 65536 < s.len() {
+        return wrong(1, 0);
+    }
+    if s.len() < 3 {
+        return wrong(17, 0);
+    }
+    if !heads::records::is_mark(s, 0, b'P', b'K') {
+        return wrong(17, 0);
+    }
+    if 1 < s[2] {
+        return wrong(17, 0);
+    }
+    let alone = s[2] == 1;
+    let glances = items::quick::glances();
+    let w = set_records(&glances, &s[3..], alone);
+    let Walked::Good { sizes, mark: _ } = w else {
+        return wrong_parts(w);
+    };
+    if coding::either(!alone, sizes.rows != 0) {
+        return Sheeted::Fine {
+            alone,
+            normal: sizes.normal,
+            inner: sizes.inner,
+        };
+    }
+    wrong(14, s.len())
+}

@@ -20,8 +20,8 @@ use Rattle.items.specs.Meet.{levelOf}
 use Rattle.items.specs.Quick.{Quick}
 use Rattle.items.proofs.Glances.{as-same}
 use Rattle.stores.proofs.Puts.{Puts, puts-then, puts-sized}
-use Rattle.stores.proofs.Codings.{short-total}
-use Rattle.stores.proofs.Shortest.{short-less, lastOf, last-is}
+use Rattle.coded.proofs.Codings.{short-total}
+use Rattle.coded.proofs.Shortest.{short-less, lastOf, last-is}
 use Rattle.normals.specs.Meet.{seriesFront}
 use Rattle.normals.proofs.Pieces.{series-long}
 use Rattle.edits.specs.declared.Place.{Place}

@@ -19,8 +19,8 @@ use Rattle.format.proofs.reading.Packs.{PackRead, pack-says}
 use Rattle.format.proofs.sheets.Same.{items-shrink}
 use Rattle.levels.specs.Meet.{total, weightOfItem}
 use Rattle.levels.specs.Runs.{madeOf}
-use Rattle.stores.proofs.Writing.{each}
-use Rattle.stores.proofs.Packs.{PackAt, one-pack, pack-stands, itemsAt, items-long, items-run}
+use Rattle.writes.proofs.Writing.{each}
+use Rattle.writes.proofs.Packs.{PackAt, one-pack, pack-stands, itemsAt, items-long, items-run}
 use Rattle.normals.specs.Meet.{entryNormal, packNormal, levelNormal}
 use Rattle.normals.proofs.Forms.{same-normal, body-long}
 

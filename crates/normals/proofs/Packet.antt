@@ -26,7 +26,7 @@ use Rattle.levels.proofs.Maps.{total-map}
 use Rattle.levels.proofs.Inners.{one-inside}
 use Rattle.levels.proofs.Totals.{pack-says, targets-normal, seal-last}
 use Rattle.levels.proofs.Parsed.{Sealing, Parsed}
-use Rattle.stores.proofs.Unsealed.{unsealed-same}
+use Rattle.writes.proofs.Unsealed.{unsealed-same}
 use Rattle.normals.specs.Meet.{itemNormal, entryNormal, packNormal, levelNormal, InnerIs, InnerRun}
 use Rattle.normals.proofs.Forms.{packs-normal}
 

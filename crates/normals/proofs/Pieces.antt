@@ -13,7 +13,7 @@ use Rattle.format.specs.Calls.{itemOf}
 use Rattle.format.proofs.coding.Lengths.{length-len}
 use Rattle.items.specs.Meet.{levelOf}
 use Rattle.stores.proofs.Puts.{Puts, puts-then, puts-sized, puts-fixed}
-use Rattle.stores.proofs.Shortest.{lastOf, last-is, NoSeal}
+use Rattle.coded.proofs.Shortest.{lastOf, last-is, NoSeal}
 use Rattle.normals.specs.Meet.{itemNormal, seriesFront, packFront}
 
 -- ---- heads

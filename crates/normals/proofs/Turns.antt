@@ -20,9 +20,9 @@ use Rattle.levels.specs.Runs.{Ran, madeOf, levelRun, seriesRun}
 use Rattle.levels.proofs.Turns.{within-of}
 use Rattle.stores.proofs.Stores.{tail-length}
 use Rattle.stores.proofs.Puts.{Puts, puts-then, Parted, head-room, head-behind, rest-room, rest-put}
-use Rattle.stores.proofs.Writing.{each}
-use Rattle.stores.proofs.Entries.{LevelWriting, EntryAt, level-start, level-done, entry-tag, entry-room, valueAt, value-long, stored, entry-fits, entry-more, one-is, packs-run, packs-asked}
-use Rattle.stores.proofs.Packs.{SeriesWriting, PackAt, pack-stands, pack-id, pack-room, itemsAt, items-long, items-run, items-asked, packed, pack-fits, pack-more}
+use Rattle.writes.proofs.Writing.{each}
+use Rattle.writes.proofs.Entries.{LevelWriting, EntryAt, level-start, level-done, entry-tag, entry-room, valueAt, value-long, stored, entry-fits, entry-more, one-is, packs-run, packs-asked}
+use Rattle.writes.proofs.Packs.{SeriesWriting, PackAt, pack-stands, pack-id, pack-room, itemsAt, items-long, items-run, items-asked, packed, pack-fits, pack-more}
 use Rattle.normals.specs.Meet.{itemNormal, entryNormal, packNormal, levelNormal, seriesNormal, seriesFront, packFront, InnerRun}
 use Rattle.normals.proofs.Copied.{items-same}
 use Rattle.normals.proofs.Forms.{entryBytes, run-bytes, pack-normal, no-inner, walk-sizes, walk-fault}

@@ -23,7 +23,7 @@ pub fn put_normal(table: &[u32], out: &mut [u8], at: usize, set: bool, tag: u64,
     }
     let rule = items::rule_of(table, set, tag);
     let n = items::short_size(rule, v);
-    stores::coded::put_short(out, at, tag, &v[v.len() - n..])
+    coded::put_short(out, at, tag, &v[v.len() - n..])
 }
 
 // What stands in front of a series' packs, n bytes; where it ends.
@@ -32,7 +32,7 @@ pub fn put_series(out: &mut [u8], at: usize, n: usize) -> usize
     ensures { λ r. ⌜ (r ≡ at + length (seriesFront n)) × (now (out .exit) ≡ sets (now (out .entry)) at (seriesFront n)) ⌝ }
 {
     let a = stores::put_number(out, at, 101, 1);
-    stores::coded::put_len(out, a, n)
+    coded::put_len(out, a, n)
 }
 
 // What stands in front of a pack's items, where its id and its items are n bytes; where it ends.
@@ -40,8 +40,8 @@ pub fn put_pack(out: &mut [u8], at: usize, n: usize, id: u64) -> usize
     requires { ⌜ (n ≤ 65536) × (id < 2 ^ 63) × (at + length (packFront n id) ≤ length (now out)) ⌝ }
     ensures { λ r. ⌜ (r ≡ at + length (packFront n id)) × (now (out .exit) ≡ sets (now (out .entry)) at (packFront n id)) ⌝ }
 {
-    let a = stores::coded::put_len(out, at, n);
-    stores::coded::put_oid(out, a, id)
+    let a = coded::put_len(out, at, n);
+    coded::put_oid(out, a, id)
 }
 
 // ---- the walks

@@ -11,7 +11,7 @@ use Rattle.format.specs.Coding.{lenWidth, lenBytes, oidBytes}
 use Rattle.format.proofs.coding.Digits.{digits-zero, digits-pos}
 use Rattle.format.proofs.coding.Lengths.{length-len}
 use Rattle.stores.proofs.Puts.{Puts, puts-then, puts-sized}
-use Rattle.stores.proofs.Codings.{short-length}
+use Rattle.coded.proofs.Codings.{short-length}
 use Rattle.normals.specs.Meet.{packFront}
 
 pub front-sized : (n id : ℕ) → length (packFront n id) ≡ lenWidth n + length (oidBytes id)

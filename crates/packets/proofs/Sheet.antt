@@ -22,7 +22,7 @@ use Rattle.levels.specs.Runs.{Ran, madeOf}
 use Rattle.levels.proofs.Inners.{one-inside}
 use Rattle.levels.proofs.Totals.{val-inner, targets-normal}
 use Rattle.skims.specs.Meet.{partStep}
-use Rattle.stores.proofs.Entries.{ran-ok}
+use Rattle.writes.proofs.Entries.{ran-ok}
 use Rattle.packets.specs.Meet.{recordsRun, partNormal, recordsNormal, InnerPart, InnerParts}
 use Rattle.packets.proofs.Forms.{flat-map}
 

@@ -10,7 +10,7 @@ use Rattle.format.specs.Packet.{flatItem}
 use Rattle.format.specs.Calls.{itemOf}
 use Rattle.coding.proofs.Counts.{len-one}
 use Rattle.stores.proofs.Puts.{Puts}
-use Rattle.stores.proofs.Codings.{short-length, short-oid, short-total, short-stored}
+use Rattle.coded.proofs.Codings.{short-length, short-oid, short-total, short-stored}
 
 -- ---- how it is told
 

@@ -18,12 +18,12 @@ use Rattle.coding.proofs.Rooms.{tail-part}
 use Rattle.levels.specs.Meet.{total, weightOfVal}
 use Rattle.levels.specs.Runs.{madeOf}
 use Rattle.skims.proofs.Runs.{vals-used}
-use Rattle.stores.specs.Writing.{Writing}
+use Rattle.writes.specs.Writing.{Writing}
 use Rattle.stores.proofs.Puts.{Puts, Parted, head-room}
 use Rattle.stores.proofs.Stores.{sets-append, sets-swap, sets-under, tail-length, tail-stored}
 use Rattle.stores.proofs.Shifts.{stored-reads}
-use Rattle.stores.proofs.Writing.{each, writing-begins, none-over, writing-over, Next, next-here, next-room, writing-passes, long}
-use Rattle.stores.proofs.Entries.{ran, ran-ok}
+use Rattle.writes.proofs.Writing.{each, writing-begins, none-over, writing-over, Next, next-here, next-room, writing-passes, long}
+use Rattle.writes.proofs.Entries.{ran, ran-ok}
 use Rattle.normals.specs.Meet.{packFront}
 use Rattle.packets.specs.Meet.{usedOf, recordsRun, targetsRun, targetNormal, partNormal, recordsNormal, targetsNormal}
 use Rattle.packets.specs.Writing.{RecordsAsked}

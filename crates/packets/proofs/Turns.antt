@@ -22,8 +22,8 @@ use Rattle.levels.specs.Runs.{Ran, madeOf}
 use Rattle.skims.specs.Meet.{moreAt, partStep}
 use Rattle.skims.proofs.Runs.{targets-used}
 use Rattle.stores.proofs.Puts.{Puts, Parted, head-room, head-behind, rest-room, rest-put}
-use Rattle.stores.proofs.Writing.{each, writing-begins, none-over, writing-done, writing-over, Next, next-here, next-room, writing-passes, long}
-use Rattle.stores.proofs.Entries.{ran, ran-ok}
+use Rattle.writes.proofs.Writing.{each, writing-begins, none-over, writing-done, writing-over, Next, next-here, next-room, writing-passes, long}
+use Rattle.writes.proofs.Entries.{ran, ran-ok}
 use Rattle.normals.specs.Meet.{seriesFront}
 use Rattle.packets.specs.Meet.{usedOf, recordsRun, targetsRun, targetNormal, recordsNormal, targetsNormal}
 use Rattle.packets.specs.Writing.{partBytes, RecordsAsked, RecordsWriting, Small}

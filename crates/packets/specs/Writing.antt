@@ -12,7 +12,7 @@ use Rattle.format.specs.Calls.{itemOf}
 use Rattle.items.specs.Meet.{levelOf}
 use Rattle.levels.specs.Runs.{Ran}
 use Rattle.skims.specs.Meet.{moreAt, partStep}
-use Rattle.stores.specs.Writing.{Writing}
+use Rattle.writes.specs.Writing.{Writing}
 use Rattle.normals.specs.Meet.{seriesFront}
 use Rattle.packets.specs.Meet.{usedOf, recordsRun, targetNormal, recordsNormal, InnerParts}
 

@@ -73,7 +73,7 @@ fn rest_vals(s: &[u8], from: usize, at: usize, alone: bool, out: &mut [u8]) -> P
         let tag = two_at(s, p + 2);
         let n = two_at(s, p + 4);
         let next = p + 6 + n as usize;
-        k = stores::coded::put_short(out, k, tag, &s[p + 6..next]);
+        k = coded::put_short(out, k, tag, &s[p + 6..next]);
         p = next;
     }
 }
@@ -124,7 +124,7 @@ pub fn item_packet(s: &[u8], set: bool, alone: bool, inner: usize, out: &mut [u8
             let tag = two_at(s, p + 2);
             let n = two_at(s, p + 4);
             let next = p + 6 + n as usize;
-            k = stores::coded::put_short(out, k, tag, &s[p + 6..next]);
+            k = coded::put_short(out, k, tag, &s[p + 6..next]);
             p = next;
         }
     }

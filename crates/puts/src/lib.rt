@@ -29,7 +29,7 @@ pub fn short_size(
         return v.len();
     }
     let table = items::table();
-    stores::coded::short_of(&table, set, tag, v)
+    coded::short_of(&table, set, tag, v)
 }
 
 // The bytes of the item that is put, with so many of the value; none for a removal.
@@ -59,7 +59,7 @@ fn put_item(
     if removal {
         return at;
     }
-    stores::coded::put_short(out, at, tag, &v[v.len() - m..])
+    coded::put_short(out, at, tag, &v[v.len() - m..])
 }
 
 // ---- the lengths around it
@@ -130,7 +130,7 @@ fn put_front(s: &[u8], set: bool, p: Place, n: usize, out: &mut [u8]) -> usize
     let a = stores::copy_run(out, 0, &s[0..series]);
     let b = normals::put_series(out, a, size);
     let c = stores::copy_run(out, b, &s[packs..pack]);
-    let d = stores::coded::put_len(out, c, m);
+    let d = coded::put_len(out, c, m);
     stores::copy_run(out, d, &s[body..at])
 }
 

@@ -19,7 +19,7 @@ use Rattle.format.proofs.sheets.Normal.{length-series}
 use Rattle.items.specs.Meet.{levelOf}
 use Rattle.levels.specs.Runs.{Ran, levelRun, madeOf}
 use Rattle.stores.proofs.Puts.{Puts, Parted, rest-room, rest-put}
-use Rattle.stores.proofs.Entries.{LevelWriting, EntryAt, level-start, entry, entry-stands, valueAt, value-long, stored, entry-fits, entry-more, one-is, packs-run}
+use Rattle.writes.proofs.Entries.{LevelWriting, EntryAt, level-start, entry, entry-stands, valueAt, value-long, stored, entry-fits, entry-more, one-is, packs-run}
 use Rattle.rows.specs.Meet.{numbers, seriesNumbers}
 use Rattle.rows.proofs.Numbers.{entryNumbers, entryNext, entries-emit, entry-four, same-row}
 

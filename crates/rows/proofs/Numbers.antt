@@ -8,7 +8,7 @@ use Rattle.format.specs.Coding.{oidBytes}
 use Rattle.format.specs.Lists.{flatAll}
 use Rattle.format.specs.Packet.{Item, Pack, Entry, plain, series, packBody, flatPack, flatEntry}
 use Rattle.format.specs.Rows.{Row, row, itemRow, itemRows, packRows, entryRows}
-use Rattle.stores.proofs.Writing.{Emits}
+use Rattle.writes.proofs.Writing.{Emits}
 use Rattle.rows.specs.Meet.{numbers, levelRows}
 
 pub numbers-append : (rs qs : List Row) → numbers (rs ++ qs) ≡ numbers rs ++ numbers qs

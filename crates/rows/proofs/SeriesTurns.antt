@@ -13,8 +13,8 @@ use Rattle.format.specs.Packet.{packBody, flatPack}
 use Rattle.format.specs.Rows.{itemRows}
 use Rattle.levels.specs.Runs.{Ran, seriesRun, madeOf}
 use Rattle.stores.proofs.Puts.{Puts, Parted, head-room, rest-room, rest-put}
-use Rattle.stores.proofs.Packs as Packs
-use Rattle.stores.proofs.Packs.{PackAt, one-pack, pack-stands, itemsAt, items-run, packed}
+use Rattle.writes.proofs.Packs as Packs
+use Rattle.writes.proofs.Packs.{PackAt, one-pack, pack-stands, itemsAt, items-run, packed}
 use Rattle.rows.specs.Meet.{numbers, levelNumbers}
 use Rattle.rows.proofs.Numbers.{level-pack, entriesNumbers, packNumbers, packs-emit, same-row}
 

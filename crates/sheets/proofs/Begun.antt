@@ -13,9 +13,9 @@ use Rattle.format.specs.Sheet.{TG}
 use Rattle.format.specs.Table.{Form, pack}
 use Rattle.stores.proofs.Stores.{sets-append, sets-swap, sets-under, sets-tail, tail-stored}
 use Rattle.stores.proofs.Puts.{Puts, Parted}
-use Rattle.stores.proofs.Writing.{each}
-use Rattle.stores.proofs.Entries.{level-done}
-use Rattle.stores.proofs.Packs.{itemsAt, items-long, pack-room, one-pack, packed}
+use Rattle.writes.proofs.Writing.{each}
+use Rattle.writes.proofs.Entries.{level-done}
+use Rattle.writes.proofs.Packs.{itemsAt, items-long, pack-room, one-pack, packed}
 use Rattle.sheets.specs.Meet.{entrySheet, packSheet}
 use Rattle.sheets.specs.Quick.{LevelPassed}
 use Rattle.sheets.proofs.Turns.{LevelSheets, SeriesSheets, SheetPack, pack-sheet, target-put, items-behind, items-more}

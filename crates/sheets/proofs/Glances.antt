@@ -22,7 +22,7 @@ use Rattle.coding.proofs.Rooms.{tail-part}
 use Rattle.heads.specs.declared.Head.the-variants as heads
 use Rattle.heads.proofs.Heads.{mid-part, item-head-tag, item-head-over, item-head-short}
 use Rattle.stores.proofs.Puts.{Puts}
-use Rattle.stores.proofs.Entries.{valueAt, value-long, entry-fault, entry-room}
+use Rattle.writes.proofs.Entries.{valueAt, value-long, entry-fault, entry-room}
 use Rattle.sheets.specs.Meet.{itemSheet, levelSheet}
 use Rattle.sheets.specs.Quick.{LevelPassed, Glanced}
 use Rattle.sheets.proofs.Records.{val-long}

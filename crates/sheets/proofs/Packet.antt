@@ -13,7 +13,7 @@ use Rattle.format.specs.Rows.{sealItem}
 use Rattle.format.specs.Sheet.{valOf, partOf, partBytes, content, formByte, sheetBytes}
 use Rattle.format.specs.Valid.{All}
 use Rattle.levels.proofs.Parsed.{Parsed}
-use Rattle.stores.proofs.Unsealed.{unsealed-same}
+use Rattle.writes.proofs.Unsealed.{unsealed-same}
 use Rattle.sheets.specs.Meet.{itemSheet, entrySheet, levelSheet}
 
 part-written : (e : Entry) → eqb (tagOfEntry e) 1 ≡ false → partBytes (partOf e) ≡ entrySheet set e

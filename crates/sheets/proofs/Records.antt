@@ -12,7 +12,7 @@ use Rattle.format.specs.Sheet.{valBytes, markOf, TG}
 use Rattle.format.proofs.coding.Digits.{length-fixed}
 use Rattle.items.specs.Meet.{levelOf}
 use Rattle.stores.proofs.Puts.{Puts, puts-then, puts-fixed}
-use Rattle.stores.proofs.Shortest.{lastOf, last-is, NoSeal}
+use Rattle.coded.proofs.Shortest.{lastOf, last-is, NoSeal}
 use Rattle.sheets.specs.Meet.{itemSheet}
 
 -- ---- an item

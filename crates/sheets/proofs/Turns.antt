@@ -17,9 +17,9 @@ use Rattle.format.proofs.coding.Digits.{length-fixed}
 use Rattle.items.specs.Meet.{levelOf}
 use Rattle.levels.specs.Runs.{Ran, madeOf, levelRun, seriesRun}
 use Rattle.stores.proofs.Puts.{Puts, puts-sized, puts-fixed, Parted, head-room, head-behind, rest-room, rest-put}
-use Rattle.stores.proofs.Writing.{each}
-use Rattle.stores.proofs.Entries.{LevelWriting, EntryAt, entry-stands, valueAt, value-long, stored, entry-fits, entry-more, one-is, packs-run, packs-asked}
-use Rattle.stores.proofs.Packs.{SeriesWriting, PackAt, pack-stands, itemsAt, items-run, items-asked, packed, pack-fits, pack-more}
+use Rattle.writes.proofs.Writing.{each}
+use Rattle.writes.proofs.Entries.{LevelWriting, EntryAt, entry-stands, valueAt, value-long, stored, entry-fits, entry-more, one-is, packs-run, packs-asked}
+use Rattle.writes.proofs.Packs.{SeriesWriting, PackAt, pack-stands, itemsAt, items-run, items-asked, packed, pack-fits, pack-more}
 use Rattle.sheets.specs.Meet.{itemSheet, entrySheet, packSheet, levelSheet, seriesSheet}
 
 -- the items of a pack, as the records of its target and as entries

@@ -11,7 +11,7 @@ use Rattle.format.specs.Run.{always}
 use Rattle.format.specs.Table.{Form}
 use Rattle.items.specs.Meet.{levelOf}
 use Rattle.levels.specs.Meet.{stepAt}
-use Rattle.stores.specs.Writing.{Writing}
+use Rattle.writes.specs.Writing.{Writing}
 use Rattle.sheets.specs.Meet.{entrySheet, packSheet, levelSheet, seriesSheet}
 
 -- p bytes of a level were passed, and k of its sheet stored into out₀

@@ -43,7 +43,7 @@ fn put_plain(table: &[u32], out: &mut [u8], at: usize, set: bool, tag: u64, v: &
             return at;
         }
     }
-    let n = stores::coded::short_of(table, set, tag, v);
+    let n = coded::short_of(table, set, tag, v);
     put_item(out, at, set, tag, &v[v.len() - n..])
 }
 

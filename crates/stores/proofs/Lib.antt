@@ -2,9 +2,3 @@ pub mod Stores
 pub mod Copies
 pub mod Shifts
 pub mod Puts
-pub mod Codings
-pub mod Shortest
-pub mod Writing
-pub mod Entries
-pub mod Packs
-pub mod Unsealed

@@ -169,5 +169,3 @@ pub fn put_row(out: &mut [u64], at: usize, a: u64, b: u64, c: u64, d: u64) -> us
     out[at + 3] = d;
     at + 4
 }
-
-pub mod coded; // coded.rt: lengths, tags and ids, and items

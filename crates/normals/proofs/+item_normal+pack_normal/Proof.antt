@@ -7,9 +7,9 @@ use borrow.Fn.Kinds.{In}
 use borrow.Fn.PlainCycle.{Measures, is, falls, and}
 use Rattle.items.specs.Meet.{formOf}
 use Rattle.levels.proofs.ItemTurns.{depth, series-deep}
-use Rattle.stores.proofs.Writing.{each}
-use Rattle.stores.proofs.Entries.{entry-fault, entry-room}
-use Rattle.stores.proofs.Packs.{series-start, series-done, pack-fault, pack-room, items-asked}
+use Rattle.writes.proofs.Writing.{each}
+use Rattle.writes.proofs.Entries.{entry-fault, entry-room}
+use Rattle.writes.proofs.Packs.{series-start, series-done, pack-fault, pack-room, items-asked}
 use Rattle.normals.specs.Meet.{packNormal}
 use Rattle.normals.proofs.Turns.{LevelNormals, level-begins, level-room, level-ends, NormalEntry, one-asked, one-more, head-asked, series-behind, series-asked, series-more, SeriesNormals, NormalPack, no-fault, body-few, pack-asked, items-behind, level-asked, items-more, copy-asked, copied-more}
 use Rattle.normals.proofs.item_normal.Reads as item-normal

@@ -3,8 +3,8 @@ use mathlib.Core.Logic.{⊎-elim}
 use borrow.Author.Needs.{needs}
 use Rattle.items.proofs.rule_of.Reads as rule-of-reads
 use Rattle.items.proofs.short_size.Reads as short-size-reads
-use Rattle.stores.proofs.coded.put_short.Reads as put-short-reads
-use Rattle.stores.proofs.Shortest.{NoSeal, other-tag, of-pack, short-less}
+use Rattle.coded.proofs.put_short.Reads as put-short-reads
+use Rattle.coded.proofs.Shortest.{NoSeal, other-tag, of-pack, short-less}
 use Rattle.normals.proofs.Pieces.{seal-stored, item-asked, item-stored}
 use Rattle.normals.proofs.put_normal.Statement.{statement}
 use Rattle.normals.proofs.put_normal.Reads as reads

@@ -17,7 +17,7 @@ use Rattle.normals.proofs.put_series.Reads as put-series-reads
 use Rattle.packets.proofs.target_packet.Reads as target-packet-reads
 use Rattle.packets.proofs.two_at.Reads as two-at-reads
 use Rattle.skims.proofs.goes_on.Reads as goes-on-reads
-use Rattle.stores.proofs.coded.put_short.Reads as put-short-reads
+use Rattle.coded.proofs.put_short.Reads as put-short-reads
 
 abbrev Inv-loop : tie.InvT-loop
 Inv-loop s set alone inner out₀ p₀ k₀ out p k = RecordsWriting inner set (formOf alone) s out₀ out p k

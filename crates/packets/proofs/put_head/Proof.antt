@@ -2,7 +2,7 @@
 use native.Mathlib.Omega.{arith}
 use lib.ListN.{length-set}
 use borrow.Author.Needs.{needs}
-use Rattle.stores.proofs.Codings.{short-oid}
+use Rattle.coded.proofs.Codings.{short-oid}
 use Rattle.packets.proofs.Forms.{len-some}
 use Rattle.packets.proofs.Heads.{front-sized, two-oid, short-head}
 use Rattle.packets.proofs.put_head.Statement.{statement}

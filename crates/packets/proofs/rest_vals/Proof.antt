@@ -18,7 +18,7 @@ use Rattle.packets.proofs.rest_vals.Reads as reads
 use Rattle.packets.proofs.rest_vals.Lts as lts
 use Rattle.heads.proofs.records.is_mark.Reads as is-mark-reads
 use Rattle.packets.proofs.two_at.Reads as two-at-reads
-use Rattle.stores.proofs.coded.put_short.Reads as put-short-reads
+use Rattle.coded.proofs.put_short.Reads as put-short-reads
 
 abbrev Inv-loop : tie.InvT-loop
 Inv-loop s from at alone out₀ p₀ k₀ out p k = (o : List ℕ) → RecordsWriting 0 false (formOf alone) s o out₀ from at → RecordsWriting 0 false (formOf alone) s o out p k

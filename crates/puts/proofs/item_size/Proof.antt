@@ -1,7 +1,7 @@
 -- `edits::puts::item_size` meets its contract.
 use native.Mathlib.Omega.{arith}
 use Rattle.items.specs.Meet.{levelOf}
-use Rattle.stores.proofs.Shortest.{short-less}
+use Rattle.coded.proofs.Shortest.{short-less}
 use Rattle.edits.proofs.Storing.{item-none, some-bytes, short-put, item-sized}
 use Rattle.puts.proofs.item_size.Statement.{statement}
 use Rattle.puts.proofs.item_size.Tie as tie

@@ -2,7 +2,7 @@
 use native.Mathlib.Omega.{arith}
 use borrow.Author.Needs.{needs}
 use Rattle.items.specs.Meet.{levelOf}
-use Rattle.stores.proofs.Shortest.{short-less}
+use Rattle.coded.proofs.Shortest.{short-less}
 use Rattle.edits.proofs.Storing.{item-stays, some-bytes, short-put, last-long, item-room, item-stored}
 use Rattle.puts.proofs.put_item.Statement.{statement}
 use Rattle.puts.proofs.put_item.Tie as tie

@@ -8,8 +8,8 @@ use borrow.Fn.Kinds.{In}
 use borrow.Fn.PlainCycle.{Measures, is, falls, and}
 use Rattle.items.specs.Meet.{formOf}
 use Rattle.levels.proofs.ItemTurns.{depth, series-deep}
-use Rattle.stores.proofs.Entries.{level-done, entry-fault, entry-room, value-long, packs-asked}
-use Rattle.stores.proofs.Packs.{series-done, pack-fault, pack-room, items-long, items-asked}
+use Rattle.writes.proofs.Entries.{level-done, entry-fault, entry-room, value-long, packs-asked}
+use Rattle.writes.proofs.Packs.{series-done, pack-fault, pack-room, items-long, items-asked}
 use Rattle.rows.proofs.LevelTurns.{LevelRows, level-rows, RowsEntry, row-room, entry-end, item-more, series-fits, series-end, series-more}
 use Rattle.rows.proofs.SeriesTurns.{SeriesRows, series-rows, RowsPack, pack-fits, pack-end, items-fit, items-end, pack-more}
 use Rattle.rows.proofs.item_rows.Reads as item-rows

@@ -1,8 +1,8 @@
 -- `sheets::item_sheet` meets its contract: at a level's start nothing is passed.
 use borrow.Author.Needs.{needs}
 use Rattle.items.specs.Meet.{levelOf}
-use Rattle.stores.proofs.Writing.{each}
-use Rattle.stores.proofs.Entries.{level-start}
+use Rattle.writes.proofs.Writing.{each}
+use Rattle.writes.proofs.Entries.{level-start}
 use Rattle.sheets.specs.Meet.{entrySheet}
 use Rattle.sheets.proofs.item_sheet.Statement.{statement}
 use Rattle.sheets.proofs.item_sheet.Tie as tie

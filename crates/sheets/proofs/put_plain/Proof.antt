@@ -2,8 +2,8 @@
 use mathlib.Core.Path.{refl}
 use mathlib.Core.Logic.{⊎-elim}
 use borrow.Author.Needs.{needs}
-use Rattle.stores.proofs.coded.short_of.Reads as short-of-reads
-use Rattle.stores.proofs.Shortest.{NoSeal, other-tag, of-pack, short-less}
+use Rattle.coded.proofs.short_of.Reads as short-of-reads
+use Rattle.coded.proofs.Shortest.{NoSeal, other-tag, of-pack, short-less}
 use Rattle.sheets.proofs.Records.{seal-stored, plain-room, plain-stored}
 use Rattle.sheets.proofs.put_item.Reads as put-item-reads
 use Rattle.sheets.proofs.put_plain.Statement.{statement}

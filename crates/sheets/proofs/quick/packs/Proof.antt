@@ -9,8 +9,8 @@ use Rattle.heads.specs.declared.Head.the-variants as heads
 use Rattle.heads.specs.Meet.{PackHeadIf}
 use Rattle.heads.proofs.Heads.{pack-head-if, pack-within}
 use Rattle.stores.proofs.Stores.{tail-length}
-use Rattle.stores.proofs.Writing.{each}
-use Rattle.stores.proofs.Packs.{series-start, pack-room}
+use Rattle.writes.proofs.Writing.{each}
+use Rattle.writes.proofs.Packs.{series-start, pack-room}
 use Rattle.sheets.specs.Meet.{packSheet}
 use Rattle.sheets.proofs.Turns.{SeriesSheets, SheetPack, target-room, items-behind, level-asked}
 use Rattle.sheets.proofs.Begun.{items-passed, items-begun}

@@ -6,8 +6,8 @@ use lib.ListN.{length}
 use borrow.Author.Needs.{needs}
 use Rattle.format.specs.Table.{pack}
 use Rattle.items.specs.Meet.{formOf}
-use Rattle.stores.proofs.Writing.{each}
-use Rattle.stores.proofs.Entries.{level-start}
+use Rattle.writes.proofs.Writing.{each}
+use Rattle.writes.proofs.Entries.{level-start}
 use Rattle.sheets.specs.Meet.{entrySheet}
 use Rattle.sheets.specs.Quick.{LevelPassed}
 use Rattle.sheets.proofs.Glances.{Turn, turn-fits, turn-room, turn-more}

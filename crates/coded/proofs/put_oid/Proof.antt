@@ -5,10 +5,10 @@ use native.Mathlib.Nat.{le-refl}
 use lib.ListN.{length-set}
 use borrow.Author.Needs.{needs}
 use Rattle.format.proofs.coding.Oids.{oid-some}
 use Rattle.stores.proofs.Stores.{DigitsLeft, digits-start, digits-step, digits-done}
-use Rattle.stores.proofs.Codings.{firsts, oid-long, short-oid, long-oid}
-use Rattle.stores.proofs.coded.put_oid.Statement.{statement}
-use Rattle.stores.proofs.coded.put_oid.Tie as tie
+use Rattle.coded.proofs.Codings.{firsts, oid-long, short-oid, long-oid}
+use Rattle.coded.proofs.put_oid.Statement.{statement}
+use Rattle.coded.proofs.put_oid.Tie as tie
 
 abbrev Inv-loop : tie.InvT-loop
 Inv-loop out₀ at n k i₀ m₀ out i m = (i ≤ i₀) × DigitsLeft 128 128 out₀ at (firsts n) out i m

@@ -1,8 +1,8 @@
 -- `stores::coded::marked7` meets its contract.
 use borrow.Author.Needs.{needs}
-use Rattle.stores.proofs.Codings.{marked-bits}
-use Rattle.stores.proofs.coded.marked7.Statement.{statement}
-use Rattle.stores.proofs.coded.marked7.Tie as tie
+use Rattle.coded.proofs.Codings.{marked-bits}
+use Rattle.coded.proofs.marked7.Statement.{statement}
+use Rattle.coded.proofs.marked7.Tie as tie
 
 low7-requires : tie.Need-low7-requires
 low7-requires c κs = search needs

@@ -22,10 +22,10 @@ use Rattle.heads.specs.Meet.{packHeadOf}
 use Rattle.levels.specs.Runs.{Ran, madeOf, levelRun, seriesRun}
 use Rattle.levels.proofs.PackTurns.{drop-take}
 use Rattle.levels.proofs.Steps.{PackHere, pack-here, no-head-pack}
-use Rattle.stores.specs.Writing.{Writing}
+use Rattle.writes.specs.Writing.{Writing}
 use Rattle.stores.proofs.Puts.{Puts}
-use Rattle.stores.proofs.Writing.{Emits, writing-start, writing-done, Next, next-here, next-room, writing-more}
-use Rattle.stores.proofs.Entries.{ran, ran-ok}
+use Rattle.writes.proofs.Writing.{Emits, writing-start, writing-done, Next, next-here, next-room, writing-more}
+use Rattle.writes.proofs.Entries.{ran, ran-ok}
 
 -- from the state σ₀ on
 pub record SeriesWriting (f : Form) (s out₀ out : List ℕ) (p k : ℕ) {S : Type 0} {emit : S → Pack → List ℕ} {next : S → Pack → S} {emits : S → List Pack → List ℕ}

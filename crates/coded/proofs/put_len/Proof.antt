@@ -5,9 +5,9 @@ use lib.ListN.{length, length-set}
 use lib.Seq.{length-sets}
 use borrow.Author.Needs.{needs}
 use Rattle.coding.proofs.Counts.{len-one, len-above, len-most}
-use Rattle.stores.proofs.Codings.{short-length, long-length}
-use Rattle.stores.proofs.coded.put_len.Statement.{statement}
-use Rattle.stores.proofs.coded.put_len.Tie as tie
+use Rattle.coded.proofs.Codings.{short-length, long-length}
+use Rattle.coded.proofs.put_len.Statement.{statement}
+use Rattle.coded.proofs.put_len.Tie as tie
 
 cast-out : tie.Need-cast-out
 cast-out c = search needs

@@ -1,9 +1,9 @@
 -- `stores::coded::put_short` meets its contract: the tag, the length, and the value, one after another.
 use native.Mathlib.Omega.{arith}
 use borrow.Author.Needs.{needs}
-use Rattle.stores.proofs.Codings.{short-total, short-stored}
-use Rattle.stores.proofs.coded.put_short.Statement.{statement}
-use Rattle.stores.proofs.coded.put_short.Tie as tie
+use Rattle.coded.proofs.Codings.{short-total, short-stored}
+use Rattle.coded.proofs.put_short.Statement.{statement}
+use Rattle.coded.proofs.put_short.Tie as tie
 
 put-oid-requires : tie.Need-put-oid-requires
 put-oid-requires c κs =

@@ -20,7 +20,7 @@ pub fn put_len(out: &mut [u8], at: usize, n: usize) -> usize
     }
     let k = coding::widths::len_width(n) - 1;
     out[at] = (128 + k) as u8;
-    super::put_number(out, at + 1, n as u64, k)
+    stores::put_number(out, at + 1, n as u64, k)
 }
 
 // The seven low bits, as the last byte has them.
@@ -77,5 +77,5 @@ pub fn put_short(out: &mut [u8], at: usize, tag: u64, v: &[u8]) -> usize
 {
     let a = put_oid(out, at, tag);
     let b = put_len(out, a, v.len());
-    super::copy(out, b, v)
+    stores::copy(out, b, v)
 }

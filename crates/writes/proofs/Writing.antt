@@ -12,8 +12,8 @@ use Rattle.format.specs.Lists.{flatAll}
 use Rattle.format.specs.Run.{Step, skip, run}
 use Rattle.format.proofs.words.Answers.{bind-then, after-then, ok-inj}
 use Rattle.format.proofs.reading.Runs.{skip-drop, drop-pred}
-use Rattle.stores.specs.Writing.{Writing}
+use Rattle.writes.specs.Writing.{Writing}
 use Rattle.stores.proofs.Stores.{sets-append}
 
 pub record Emits {X S : Type 0} (emit : S → X → List ℕ) (next : S → X → S) (emits : S → List X → List ℕ) : Type 0 where
   pub none : (σ : S) → emits σ [] ≡ []

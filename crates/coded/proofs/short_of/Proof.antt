@@ -1,8 +1,8 @@
 -- `stores::coded::short_of` meets its contract.
 use borrow.Author.Needs.{needs}
-use Rattle.stores.proofs.Shortest.{first-keeps, short-by}
-use Rattle.stores.proofs.coded.short_of.Statement.{statement}
-use Rattle.stores.proofs.coded.short_of.Tie as tie
+use Rattle.coded.proofs.Shortest.{first-keeps, short-by}
+use Rattle.coded.proofs.short_of.Statement.{statement}
+use Rattle.coded.proofs.short_of.Tie as tie
 
 shared-slice-read-if1 : tie.Need-shared-slice-read-if1
 shared-slice-read-if1 c = search needs

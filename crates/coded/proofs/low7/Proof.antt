@@ -1,8 +1,8 @@
 -- `stores::coded::low7` meets its contract.
 use native.Mathlib.Omega.{arith}
-use Rattle.stores.proofs.Codings.{low-bits}
-use Rattle.stores.proofs.coded.low7.Statement.{statement}
-use Rattle.stores.proofs.coded.low7.Tie as tie
+use Rattle.coded.proofs.Codings.{low-bits}
+use Rattle.coded.proofs.low7.Statement.{statement}
+use Rattle.coded.proofs.low7.Tie as tie
 
 cast-result : tie.Need-cast-result
 cast-result c = omega (arith, low-bits (c .args .n))

@@ -1,0 +1,4 @@
+pub mod Writing
+pub mod Entries
+pub mod Packs
+pub mod Unsealed

@@ -1,0 +1,1 @@
+// No code: laws about a loop that writes what a run reads.

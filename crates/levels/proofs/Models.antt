@@ -11,12 +11,13 @@ use Rattle.format.proofs.words.Bytes.{bytes-drop, bytes-take}
 use Rattle.coding.specs.Alike.{AlikeTo}
 use Rattle.coding.proofs.Alikes.{alike-same, alike-as}
 use Rattle.items.specs.Meet.{formOf}
+use Rattle.heads.specs.Meet.{peek}
 use Rattle.levels.specs.declared.quick.Quick.{Quick}
 use Rattle.levels.specs.declared.packs.Model.{Model}
 use Rattle.levels.specs.Going.{LevelGoing, SeriesGoing, Reached}
 use Rattle.levels.specs.Packs.{Laid, Told, As, Modelled}
 use Rattle.levels.proofs.Glances.{quickSizes, packedSizes, packed-plus}
-use Rattle.levels.proofs.Turns.{turn-done, new-key}
+use Rattle.levels.proofs.Turns.{turn-done, Fresh, reached-fresh}
 use Rattle.levels.proofs.PackTurns.{PackAt, either-is, head-stood, lent-long, pack-more}
 
 module _ (alone : Bool) {m a : List ℕ} {q : Quick} (l : Laid (formOf alone) m a q) (all : q .at ≡ length a) (located : not alone || q .mark ≡ true) where
@@ -73,12 +74,11 @@ run-told alone {q = q} g all located = record { count = q .sizes .rows; mark = q
 
 -- a pack whose items are told, in the series
 pub told-more : {alone : Bool} {s : List ℕ} {p rows : ℕ} (more : ℕ) {top low k u w n : ℕ} → PackAt (formOf alone) s p (packedSizes p rows more) top low k u w n → (w ≡ 1) × (n < 128) × (u ≤ 2) → {top′ low′ : ℕ}
-    → Reached p top low k top′ low′ → {r : ℕ} → Told alone (take (p + w + n - (p + w + u)) (drop (p + w + u) s)) r
+    → Fresh (peek false true false) s p top low k top′ low′ → {r : ℕ} → Told alone (take (p + w + n - (p + w + u)) (drop (p + w + u) s)) r
     → SeriesGoing (formOf alone) s (p + w + n) (packedSizes (p + w + n) (rows + r) (more + 5 - u)) top′ low′
 told-more {alone = alone} {p = p} {rows = rows} more {w = w} {n = n} i short b {r = r} t =
     let e : rows + r ≡ rows + 1 + t .count = omega (arith, t .rows-are) in
-    let new = new-key (b .new) in
-    rw e (pack-more i new refl (turn-done (t .going) (omega arith)) refl (either-is alone (t .mark) (sym (t .located))) refl (packed-plus p rows more w n short (head-stood i .body) (lent-long i new refl) refl) (b .over) (b .under))
+    rw e (pack-more i (b .new) refl (turn-done (t .going) (omega arith)) refl (either-is alone (t .mark) (sym (t .located))) refl (packed-plus p rows more w n short (head-stood i .body) (lent-long i (b .new) refl) refl) (b .over) (b .under))
 
 -- the first, as the code has its sizes
 pub told-first : {alone : Bool} {s : List ℕ} {top low k u w n : ℕ} → PackAt (formOf alone) s 0 (packedSizes 0 0 0) top low k u w n → (w ≡ 1) × (n < 128) × (u ≤ 2) → {top′ low′ : ℕ}
@@ -87,4 +87,4 @@ pub told-first : {alone : Bool} {s : List ℕ} {top low k u w n : ℕ} → PackA
 told-first {u = u} i short b {r = r} t =
     let z : 0 + r ≡ r = omega arith in
     let y : 0 + 5 - u ≡ 5 - u = omega arith in
-    rw (← z, ← y) (told-more 0 i short b t)
+    rw (← z, ← y) (told-more 0 i short (reached-fresh b) t)

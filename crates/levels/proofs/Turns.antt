@@ -83,6 +83,21 @@ new-key {look = look} {s = s} {p = p} {k = k} (inl e) seen q = sym (q .same k �
 new-key {k = k} (inr (inl h)) seen q = sym (q .under k h)
 new-key {k = k} (inr (inr h)) seen q = sym (q .over k h)
 
+-- a key that is new, by whatever tells it, and what it and the keys before are not above or below
+pub record Fresh (look : List ℕ → Got ℕ) (s : List ℕ) (p top low key top′ low′ : ℕ) : Type 0 where
+  pub new : (seen : List ℕ) → Past look s p top low seen → false ≡ has key seen
+  pub over : (top ≤ top′) × (key ≤ top′)
+  pub under : (low′ ≤ low) × (low′ ≤ key)
+  pub between : low′ ≤ top′
+
+module _ {look : List ℕ → Got ℕ} {s : List ℕ} {p top low key top′ low′ : ℕ} where
+  pub reached-fresh : Reached p top low key top′ low′ → Fresh look s p top low key top′ low′
+  reached-fresh r = record { new = new-key (r .new); over = r .over; under = r .under; between = r .between }
+
+  -- one that moves no bound
+  pub fresh-within : ((seen : List ℕ) → Past look s p top low seen → false ≡ has key seen) → key ≤ top → low ≤ key → top′ ≡ top → low′ ≡ low → Fresh look s p top low key top′ low′
+  fresh-within n h l et el = record { new = n; over = (omega arith, omega arith); under = (omega arith, omega arith); between = omega arith }
+
 -- how the code moves the bounds: by a key above all before, the first and any other, and by one below
 module _ (p top low key : ℕ) {top′ low′ : ℕ} where
   pub reach-first : top < key → key ≤ low → top′ ≡ key → low′ ≡ key → Reached p top low key top′ low′

@@ -147,9 +147,10 @@ fn passed(p: usize, rows: usize, more: usize, top: u64, low: u64) -> Quick
     quick::stands(p, sizes, false, top, low)
 }
 
-// The packs whose length has one byte and whose id has one or two, ids rising or falling, and whose items are all told at a glance, one after
-// another, from a series' start. Beside as many bytes as such a pack has, its sheet has four for each row, and five less those of its id.
-pub fn packs(glances: &[u32], s: &[u8], alone: bool) -> Quick
+// The packs whose length has one byte and whose id has one or two, and whose items are all told at a glance, one after another, from a series'
+// start: ids rising or falling, or noted in the bits lent. Beside as many bytes as such a pack has, its sheet has four for each row, and five less
+// those of its id.
+fn many(glances: &[u32], s: &[u8], alone: bool, bits: &mut [u64]) -> Quick
     requires { ⌜ (now glances ≡ glanceTable) × (length (now s) ≤ 8192) ⌝ }
     ensures { λ r. ⌜ SeriesGoing (formOf alone) (now (s .entry)) (r .at) (r .sizes) (r .top) (r .low) ⌝ }
 {
@@ -180,11 +181,15 @@ pub fn packs(glances: &[u32], s: &[u8], alone: bool) -> Quick
                 low = key;
             }
         } else {
-            if low <= key {
-                return passed(p, rows, more, top, low);
+            if key < low {
+                low = key;
+            } else {
+                if !repeats::notes::is_unnoted(bits, key) {
+                    return passed(p, rows, more, top, low);
+                }
             }
-            low = key;
         }
+        repeats::notes::note(bits, key);
         let from = p + width + used;
         let next = p + width + size;
         if !is_pack_as(m, &marks, s, from, next) {
@@ -203,6 +208,49 @@ pub fn packs(glances: &[u32], s: &[u8], alone: bool) -> Quick
         p = next;
     }
     passed(p, rows, more, top, low)
+}
+
+// The same where ids neither rise nor fall: the first 4,096 are noted.
+fn strewn(glances: &[u32], s: &[u8], alone: bool) -> Quick
+    requires { ⌜ (now glances ≡ glanceTable) × (length (now s) ≤ 8192) ⌝ }
+    ensures { λ r. ⌜ SeriesGoing (formOf alone) (now (s .entry)) (r .at) (r .sizes) (r .top) (r .low) ⌝ }
+{
+    let mut bits = [0u64; 64];
+    many(glances, s, alone, &mut bits)
+}
+
+// Whether it was an id neither above nor below all before that ended it.
+fn is_between(s: &[u8], q: Quick) -> bool
+    requires { ⌜ q .at ≤ length (now s) ⌝ }
+{
+    let at = q.at;
+    let h = heads::short_pack_head(&s[at..]);
+    let Head::Whole {
+        key,
+        used: _,
+        width: _,
+        size: _,
+    } = h
+    else {
+        return false;
+    };
+    if key < q.low {
+        return false;
+    }
+    key <= q.top
+}
+
+// Packs told at a glance from a series' start. Most series have ids that rise, and nothing is noted for them.
+pub fn packs(glances: &[u32], s: &[u8], alone: bool) -> Quick
+    requires { ⌜ (now glances ≡ glanceTable) × (length (now s) ≤ 8192) ⌝ }
+    ensures { λ r. ⌜ SeriesGoing (formOf alone) (now (s .entry)) (r .at) (r .sizes) (r .top) (r .low) ⌝ }
+{
+    let mut none = [0u64; 1];
+    let q = many(glances, s, alone, &mut none[0..0]);
+    if is_between(s, q) {
+        return strewn(glances, &s[0..], alone);
+    }
+    q
 }
 
 // The same of a series of one pack, for which no model is laid out: apart, so that it stands where it is called.

@@ -18,7 +18,7 @@ use Rattle.heads.proofs.Before.{Looks, heads-none, has-snoc, heads-more}
 
 module _ (look : List ℕ → Got ℕ) where
   -- one list of keys heads the first p bytes
-  heads-same : (js ks s : List ℕ) (p : ℕ) → Heads look s p js → Heads look s p ks → js ≡ ks
+  pub heads-same : (js ks s : List ℕ) (p : ℕ) → Heads look s p js → Heads look s p ks → js ≡ ks
   heads-same [] [] s p h g = refl
   heads-same [] (k ∷ ks) s p h (v, f, z, y, g) = absurd (omega arith)
   heads-same (j ∷ js) [] s p (u, e, z, y, h) g = absurd (omega arith)

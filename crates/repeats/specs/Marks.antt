@@ -1,19 +1,19 @@
--- A bit for each key of a quarter, modulo 4,096, in words of 64.
+-- A bit for each key of a quarter, modulo 4,096.
 use mathlib.Core.Path.{_≡_}
-use Prim.Native.Nat.{ℕ, _/_, _%_, _^_, _<_}
+use Prim.Native.Nat.{ℕ, _/_, _%_, _<_}
 use mathlib.Core.Bool.{Bool, true, false}
 use mathlib.Core.List.{List}
-use lib.ListN.{length, getD, drop}
-use lib.Dec.{eqb}
+use lib.ListN.{length, drop}
 use Rattle.format.specs.Answer.{Got}
 use Rattle.format.specs.Lists.{has}
 use Rattle.heads.specs.Meet.{Heads}
+use Rattle.repeats.specs.Notes.{noted}
 
 abbrev pub quarter : ℕ → ℕ
 quarter k = k / 4096 % 4
 
 unfoldable pub marked : List ℕ → ℕ → Bool
-marked marks k = eqb (getD marks (k / 64 % 64) 0 / 2 ^ (k % 64) % 2) 1
+marked marks k = noted marks (k % 4096)
 
 -- key is marked, if it is of the part, and what was marked
 pub record Marked (before after : List ℕ) (key part : ℕ) : Type 0 where

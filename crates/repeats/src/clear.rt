@@ -7,27 +7,26 @@ ghost use Rattle.heads.specs.Meet.{peek, Clear};
 ghost use Rattle.repeats.specs.Marks.{quarter, marked, Marked, ClearIn};
 
 // A bit for each key of a quarter, modulo 4,096: every tag has its own. A quarter at a time, as the bits stand on the stack.
-fn is_marked(marks: &[u64; 64], key: u64) -> bool
+fn is_marked(marks: &[u64], key: u64) -> bool
+    requires { ⌜ length (now marks) ≡ 64 ⌝ }
     ensures { λ r. ⌜ r ≡ marked (now (marks .entry)) key ⌝ }
 {
-    let i = (key / 64 % 64) as usize;
-    (marks[i] >> key % 64) % 2 == 1
+    super::notes::is_noted(marks, key % 4096)
 }
 
-fn mark(marks: &mut [u64; 64], key: u64, part: u64)
+fn mark(marks: &mut [u64], key: u64, part: u64)
     requires { ⌜ length (now marks) ≡ 64 ⌝ }
     ensures { λ r. ⌜ Marked (now (marks .entry)) (now (marks .exit)) key part ⌝ }
 {
     if key / 4096 % 4 != part {
         return;
     }
-    let i = (key / 64 % 64) as usize;
-    let w = marks[i];
-    marks[i] = w | 1 << key % 64;
+    super::notes::note(marks, key % 4096);
 }
 
 // Whether a key of the part may have stood before, where what stood there is marked: its bit is set.
-fn may_stand(key: u64, part: u64, marks: &[u64; 64]) -> bool
+fn may_stand(key: u64, part: u64, marks: &[u64]) -> bool
+    requires { ⌜ length (now marks) ≡ 64 ⌝ }
     ensures { λ r. ⌜ (r ≡ false → quarter key ≡ part → marked (now (marks .entry)) key ≡ false) ⌝ }
 {
     if key / 4096 % 4 != part {

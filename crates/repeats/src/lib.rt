@@ -52,5 +52,6 @@ pub fn is_seen(
     seen_before(s, p, key, sheet, ids, set)
 }
 
+pub mod notes; // notes.rt: keys that are noted
 pub mod clear; // clear.rt: how far no key repeats
 mod blocks; // blocks.rt: ids told apart in blocks of 64

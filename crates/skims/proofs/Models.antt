@@ -7,16 +7,17 @@ use mathlib.Core.List.{List}
 use lib.ListN.{length, drop, length-drop}
 use lib.Dec.{ltb}
 use borrow.Author.Tests.{ltb-true, ltb-false}
+use Rattle.format.specs.Answer.{got}
 use Rattle.format.specs.Coding.{Bytes, oidBytes}
 use Rattle.format.specs.Table.{pack}
 use Rattle.format.proofs.words.Bytes.{bytes-drop}
 use Rattle.coding.proofs.Rooms.{tail-part}
 use Rattle.items.specs.Meet.{formOf}
+use Rattle.heads.specs.Meet.{peek}
 use Rattle.levels.specs.declared.quick.Quick.{Quick}
 use Rattle.levels.specs.declared.packs.Model.{Model}
 use Rattle.levels.specs.declared.Walked.the-variants.{Good}
 use Rattle.levels.specs.Meet.{sizes, Within}
-use Rattle.levels.specs.Going.{Reached}
 use Rattle.levels.specs.Packs.{As}
 use Rattle.levels.proofs.Turns.{turn-done}
 use Rattle.levels.proofs.PackTurns.{either-is}
@@ -24,7 +25,7 @@ use Rattle.skims.specs.Meet.{recordsWalk}
 use Rattle.skims.specs.Going.{RecordsGoing, TargetsGoing}
 use Rattle.skims.specs.Targets.{Laid, Held, Over, Modelled}
 use Rattle.skims.proofs.Glances.{passed-plus}
-use Rattle.skims.proofs.TargetTurns.{TargetAt, records-over, lent, lent-long, lent-over, target-more}
+use Rattle.skims.proofs.TargetTurns.{TargetAt, records-over, lent, lent-long, lent-over, target-looks, target-more}
 
 -- none, as the code says it
 pub no-records : {alone : Bool} {marks s : List ℕ} {m : Model} → (m .from ≡ 0) × (m .size ≡ 128) × (m .rows ≡ 0) → length marks ≡ 160 → Modelled alone marks s m
@@ -58,9 +59,12 @@ module _ {alone : Bool} {s : List ℕ} {p rows normal top low id a b c : ℕ} (i
       go true e = records-over going (lent-over i size (over .next (ltb-true (p + 10 + size) (length s) e)))
       go false e = turn-done going (omega (arith, lent-long i, ltb-false (p + 10 + size) (length s) e))
 
-  pub held-more : {w : ℕ} → (w ≡ length (oidBytes id)) × (w ≤ 9) → {body : ℕ} → body ≡ w + (size + 4 - 4 * r) → body ≤ 127 → {top′ low′ : ℕ} → Reached p top low id top′ low′
+  pub held-looks : peek true true false (drop p s) ≡ got id (10 + size)
+  held-looks = target-looks i walked refl (either-is alone (h .mark) (sym (h .located))) refl
+
+  pub held-more : {w : ℕ} → (w ≡ length (oidBytes id)) × (w ≤ 9) → {body : ℕ} → body ≡ w + (size + 4 - 4 * r) → body ≤ 127 → {top′ low′ : ℕ} → (top ≤ top′) × (id ≤ top′) → (low′ ≤ low) × (low′ ≤ id)
       → TargetsGoing (formOf alone) s (p + 10 + size) (sizes (p + 10 + size) (rows + r) (normal + 1 + body) 0) top′ low′
-  held-more {w = w} ew {body = body} eb few o =
+  held-more {w = w} ew {body = body} eb few over-top under-low =
       let x : rows + r ≡ rows + 1 + h .count = omega (arith, h .rows-are) in
       let y : body ≡ w + (size - 4 * h .count) = omega (arith, h .rows-are, h .few, eb) in
-      rw (x, y) (target-more i walked refl ew (either-is alone (h .mark) (sym (h .located))) refl (passed-plus p rows normal w (sizes size (h .count) (size - 4 * h .count) 0) (omega (arith, y, few))) (o .over) (o .under))
+      rw (x, y) (target-more i walked refl ew (either-is alone (h .mark) (sym (h .located))) refl (passed-plus p rows normal w (sizes size (h .count) (size - 4 * h .count) 0) (omega (arith, y, few))) over-top under-low)

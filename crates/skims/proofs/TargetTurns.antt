@@ -152,6 +152,14 @@ module _ {f : Form} {s : List ℕ} {p : ℕ} {sum : Sizes} {top low id from size
             turn-bad (i .going) (i .here) (i .more) 14 0 (e ∙ ap (Bad 14) (sym (add-zero p)))
             (target-14 f (i .going .seen) (drop p s) id stood (ran .vs) (ran .ran) (rw (ran .marks) (sym ev ∙ tv))) (omega arith)
 
+        -- the target, and what a look at it reads
+        it-reads : v ≡ true → targetAt f (i .going .seen) (drop p s) ≡ ok (got (record { id = id; vals = ran .vs .val }) (10 + z .sheet))
+        it-reads tv = target-good f (i .going .seen) (drop p s) id stood (ran .vs) (ran .ran) (rw (ran .marks) (sym ev ∙ tv)) ∙ ap (λ n. ok (got (record { id = id; vals = ran .vs .val }) (10 + n))) took
+
+        pub target-looks : v ≡ true → peek true true false (drop p s) ≡ got id (10 + z .sheet)
+        unfolding peek
+        target-looks tv = target-peek f false (i .going .seen) (drop p s) _ (it-reads tv)
+
       -- w is how many bytes its id takes in a packet
       module _ {w : ℕ} (ew : (w ≡ length (oidBytes id)) × (w ≤ 9)) where
         pub target-small : {a : Sizes} → a ≡ packSizes w z → Small sum × Small a
@@ -163,15 +171,13 @@ module _ {f : Form} {s : List ℕ} {p : ℕ} {sum : Sizes} {top low id from size
         pub target-more : {v : Bool} → v ≡ (not (isAlone f) || m) → v ≡ true → {sum′ : Sizes} → sum′ ≡ plusSizes sum (packSizes w z)
             → {top′ : ℕ} → (top ≤ top′) × (id ≤ top′) → {low′ : ℕ} → (low′ ≤ low) × (low′ ≤ id)
             → TargetsGoing f s (p + 10 + z .sheet) sum′ top′ low′
-        unfolding peek
         target-more ev tv es et el =
-            let at = target-good f (i .going .seen) (drop p s) id stood (ran .vs) (ran .ran) (rw (ran .marks) (sym ev ∙ tv)) ∙ ap (λ n. ok (got (record { id = id; vals = ran .vs .val }) (10 + n))) took in
             let read : Reads weightOfTarget (λ t. false) idOfTarget (targetAt f (i .going .seen) (drop p s)) id (10 + z .sheet) (packSizes w z) false = record {
               it = record { id = id; vals = ran .vs .val };
-              reads = at;
+              reads = it-reads ev tv;
               key-is = refl;
               weighs = ap (λ n. packSizes n (total (weightOfVal pack) (ran .vs .val))) (sym (ew .0)) ∙ ap (packSizes w) (ran .weighs);
               marks = refl;
               few = slim-pack w z (ew .1) slim;
             } in
-            turn-more (i .going) (i .here) (i .more) read (target-peek f false (i .going .seen) (drop p s) _ at) (omega arith) (p + 10 + z .sheet) (add-assoc p 10 (z .sheet)) next-room es refl et el
+            turn-more (i .going) (i .here) (i .more) read (target-looks ev tv) (omega arith) (p + 10 + z .sheet) (add-assoc p 10 (z .sheet)) next-room es refl et el

@@ -103,9 +103,9 @@ pub fn passed(p: usize, rows: usize, normal: usize, top: u64, low: u64) -> Quick
     }
 }
 
-// The targets whose ids have one or two bytes in a packet and rise or fall, whose records are all told at a glance, and whose packs have a
-// byte for their length, one after another, from the series' start.
-pub fn targets(glances: &[u32], s: &[u8], alone: bool) -> Quick
+// The targets whose ids have one or two bytes in a packet, whose records are all told at a glance, and whose packs have a byte for their length,
+// one after another, from the series' start: ids rising or falling, or noted in the bits lent.
+fn many(glances: &[u32], s: &[u8], alone: bool, bits: &mut [u64]) -> Quick
     requires { ⌜ (now glances ≡ glanceTable) × (length (now s) ≤ 65536) ⌝ }
     ensures { λ r. ⌜ TargetsPassed (formOf alone) (now (s .entry)) r ⌝ }
 {
@@ -134,11 +134,15 @@ pub fn targets(glances: &[u32], s: &[u8], alone: bool) -> Quick
                 low = id;
             }
         } else {
-            if low <= id {
-                return passed(p, rows, normal, top, low);
+            if id < low {
+                low = id;
+            } else {
+                if !repeats::notes::is_unnoted(bits, id) {
+                    return passed(p, rows, normal, top, low);
+                }
             }
-            low = id;
         }
+        repeats::notes::note(bits, id);
         let from = p + 10;
         if !is_target_as(m, &marks, s, from) {
             m = model_of(glances, s, from, alone, &mut marks);
@@ -154,4 +158,41 @@ pub fn targets(glances: &[u32], s: &[u8], alone: bool) -> Quick
         normal = normal + 1 + body;
         p = from + m.size;
     }
+}
+
+// The same where ids neither rise nor fall: the first 4,096 are noted.
+fn strewn(glances: &[u32], s: &[u8], alone: bool) -> Quick
+    requires { ⌜ (now glances ≡ glanceTable) × (length (now s) ≤ 65536) ⌝ }
+    ensures { λ r. ⌜ TargetsPassed (formOf alone) (now (s .entry)) r ⌝ }
+{
+    let mut bits = [0u64; 64];
+    many(glances, s, alone, &mut bits)
+}
+
+// Whether it was an id neither above nor below all before that ended it.
+fn is_between(s: &[u8], q: Quick) -> bool
+    requires { ⌜ q .at ≤ length (now s) ⌝ }
+{
+    let at = q.at;
+    if s.len() - at < 10 {
+        return false;
+    }
+    let id = coding::eight_of(&s[at + 2..]);
+    if id < q.low {
+        return false;
+    }
+    id <= q.top
+}
+
+// Targets told at a glance from the series' start. Most series have ids that rise, and nothing is noted for them.
+pub fn targets(glances: &[u32], s: &[u8], alone: bool) -> Quick
+    requires { ⌜ (now glances ≡ glanceTable) × (length (now s) ≤ 65536) ⌝ }
+    ensures { λ r. ⌜ TargetsPassed (formOf alone) (now (s .entry)) r ⌝ }
+{
+    let mut none = [0u64; 1];
+    let q = many(glances, s, alone, &mut none[0..0]);
+    if is_between(s, q) {
+        return strewn(glances, &s[0..], alone);
+    }
+    q
 }

@@ -163,7 +163,7 @@ fn named_packets_are_what_they_say() {
     };
     let packs = |rows: &[Row]| rows.iter().filter(|row| row.target > 0 && row.tag == 0).count();
     assert_eq!(find("example-a").len(), 5);
-    for (name, count) in [("targets-12", 12), ("targets-290", 290), ("ids-falling", 290)] {
+    for (name, count) in [("targets-12", 12), ("targets-290", 290), ("ids-strewn-290", 290), ("ids-falling", 290)] {
         assert_eq!(packs(&find(name)), count);
     }
     assert_eq!(packs(&find("targets-290-standalone")), 290);

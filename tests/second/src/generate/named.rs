@@ -1,6 +1,7 @@
 //! Named inputs for benchmarks.
 
 use super::limits::{falling, most_items, most_packs};
+use super::random::Random;
 use super::tree::{Node, Outer, Tree};
 use crate::coding::shortest;
 use crate::packet::Form;
@@ -21,6 +22,8 @@ pub struct Named {
 ///   centroid, priority, confidence and location;
 /// - `targets-240-long`: the same out of normal form, each length in two
 ///   bytes and each pixel number with a leading zero;
+/// - `ids-strewn-12`, `ids-strewn-290`: `targets-12` and `targets-290` with
+///   their targets in no order;
 /// - `ids-falling`: `targets-290` from its last target to its first;
 /// - `items-falling`: `targets-290` with each pack's items from last to first;
 /// - `packs-falling`: `most-packs` from its last to its first;
@@ -35,6 +38,8 @@ pub fn named() -> Vec<Named> {
         ("targets-12-standalone", targets(Form::Standalone, 12, false)),
         ("targets-290-standalone", targets(Form::Standalone, 290, false)),
         ("targets-240-long", targets(embedded, 240, true)),
+        ("ids-strewn-12", strewn(targets(embedded, 12, false))),
+        ("ids-strewn-290", strewn(targets(embedded, 290, false))),
         ("ids-falling", falling(targets(embedded, 290, false))),
         ("items-falling", items_falling()),
         ("packs-falling", falling(most_packs())),
@@ -98,6 +103,15 @@ fn target(form: Form, id: u16, long: bool) -> Node {
         items.push(pixel(20, u32::from(column)));
     }
     Node::Pack { width, id: u64::from(id), items }
+}
+
+/// Its packs in no order.
+fn strewn(mut tree: Tree) -> Tree {
+    let mut random = Random::new(1, 0, 0);
+    if let Some(packs) = tree.packs() {
+        packs.sort_by_cached_key(|_| random.number());
+    }
+    tree
 }
 
 fn items_falling() -> Tree {

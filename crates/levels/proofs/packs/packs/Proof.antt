@@ -1,234 +1,54 @@
--- `levels::packs::packs` meets its contract: each turn is a turn of the pack walk. `a` is where a pack's head was read.
-use mathlib.Core.Path.{_≡_, refl, sym, ap}
-use mathlib.Core.Logic.{⊎-elim}
-use Prim.Native.Nat.{_+_, _-_, _≤_, _<_}
-use native.Mathlib.Omega.{arith}
-use lib.ListN.{length, take, drop}
+-- `levels::packs::packs` meets its contract.
 use borrow.Author.Needs.{needs}
-use borrow.Author.Tests.{not-false}
-use Rattle.items.specs.Meet.{formOf}
-use Rattle.heads.specs.declared.Head.the-variants as heads
-use Rattle.heads.proofs.Heads.{pack-head-if}
-use Rattle.levels.specs.declared.packs.Model.{Model}
-use Rattle.levels.specs.Going.{SeriesGoing, Reached}
-use Rattle.levels.specs.Packs.{Told, Modelled}
-use Rattle.levels.proofs.Glances.{packedSizes}
-use Rattle.levels.proofs.Turns.{going-wide, new-key, reach-first, reach-over, reach-under}
-use Rattle.levels.proofs.PackTurns.{PackAt, series-start, head-stood, head-room, lent-long}
-use Rattle.levels.proofs.Models.{no-items, as-model, told-more}
+use Rattle.coding.proofs.Rooms.{tail-part}
 use Rattle.levels.proofs.packs.packs.Statement.{statement}
 use Rattle.levels.proofs.packs.packs.Tie as tie
-use Rattle.levels.proofs.packs.packs.Reads as reads
-use Rattle.levels.proofs.packs.packs.Lts as lts
-use Rattle.heads.proofs.short_pack_head.Reads as short-pack-head-reads
-use Rattle.levels.proofs.packs.no_model.Reads as no-model-reads
-use Rattle.levels.proofs.packs.passed.Reads as passed-reads
-use Rattle.levels.proofs.packs.is_pack_as.Reads as is-pack-as-reads
-use Rattle.levels.proofs.packs.model_of.Reads as model-of-reads
-use Rattle.levels.proofs.packs.unmodelled.Reads as unmodelled-reads
 
-abbrev Inv-loop : tie.InvT-loop
-Inv-loop glances s alone p₀ rows₀ more₀ top₀ low₀ marks₀ m₀ misses₀ p rows more top low marks m misses =
-    SeriesGoing (formOf alone) s p (packedSizes p rows more) top low × (p ≡ 0 → low ≡ 18446744073709551615) × (0 < p → low ≤ top) × Modelled alone marks s m × (m .from ≤ p) × (misses ≤ p)
+sub-many : tie.Need-sub-many
+sub-many c = search needs
 
-abbrev μ-loop : tie.MeasureT-loop
-μ-loop glances s alone p₀ rows₀ more₀ top₀ low₀ marks₀ m₀ misses₀ p rows more top low marks m misses =
-    length s - p
+part-none-start : tie.Need-part-none-start
+part-none-start c = search needs
 
-abbrev Head-read : Type 0
-Head-read = lts.After-h (no-model-reads.Asked, no-model-reads.Learnt, short-pack-head-reads.Asked, short-pack-head-reads.Learnt, passed-reads.Asked, passed-reads.Learnt, is-pack-as-reads.Asked, is-pack-as-reads.Learnt, model-of-reads.Asked, model-of-reads.Learnt, unmodelled-reads.Asked, unmodelled-reads.Learnt) reads.Pre reads.Post Inv-loop μ-loop
+part-none-end : tie.Need-part-none-end
+part-none-end c = search needs
 
--- its length has one byte, its id one or two
-short : (a : Head-read) → (a .h .given .0 .1 .1 .0 ≡ 1) × (a .h .given .0 .1 .1 .1 .0 < 128) × (a .h .given .0 .1 .0 ≤ 2)
-short a = let i = pack-head-if _ (a .h .given .1) (a .before .before .short-pack-head .ensures) in (i .1, i .2, i .3)
+many-requires : tie.Need-many-requires
+many-requires c κs = search needs
 
-here : (a : Head-read) → PackAt (formOf (a .before .before .before .before .before .before .before .before .before .args .alone)) (a .before .before .before .before .before .before .before .before .before .args .s .now) (a .before .before .before .before .before .loop .p) (packedSizes (a .before .before .before .before .before .loop .p) (a .before .before .before .before .before .loop .rows) (a .before .before .before .before .before .loop .more)) (a .before .before .before .before .before .loop .top) (a .before .before .before .before .before .loop .low) (a .h .given .0 .0) (a .h .given .0 .1 .0) (a .h .given .0 .1 .1 .0) (a .h .given .0 .1 .1 .1 .0)
-here a = record {
-  going = a .before .before .before .before .before .loop .inv .0;
-  here = a .before .before .before .before .loop-test .taken;
-  it = heads.Whole _ _ _ _;
-  told = pack-head-if _ (a .h .given .1) (a .before .before .short-pack-head .ensures) .0;
-  is = refl;
-  bytes = λ i. a .before .before .before .before .before .before .before .shared-slice-known2 .given i .fits;
-  most = a .before .before .before .before .before .before .before .before .before .pre .1;
-}
+is-between-requires : tie.Need-is-between-requires
+is-between-requires c κs = c .before .many .ensures .to
 
--- it lies within the bytes lent, and its id within the pack
-room : (a : Head-read) → (a .before .before .before .before .before .loop .p + a .h .given .0 .1 .1 .0 + a .h .given .0 .1 .1 .1 .0 ≤ length (a .before .before .before .before .before .before .before .before .before .args .s .now)) × (a .h .given .0 .1 .0 ≤ a .h .given .0 .1 .1 .1 .0) × (length (a .before .before .before .before .before .before .before .before .before .args .s .now) ≤ 8192)
-room a = (head-room (here a), head-stood (here a) .body, a .before .before .before .before .before .before .before .before .before .pre .1)
+sub-strewn : tie.Need-sub-strewn
+sub-strewn c = search needs
 
--- its id is new, and between the bounds that the code has then
-reached : (j : lts.Joined1 (no-model-reads.Asked, no-model-reads.Learnt, short-pack-head-reads.Asked, short-pack-head-reads.Learnt, passed-reads.Asked, passed-reads.Learnt, is-pack-as-reads.Asked, is-pack-as-reads.Learnt, model-of-reads.Asked, model-of-reads.Learnt, unmodelled-reads.Asked, unmodelled-reads.Learnt) reads.Pre reads.Post Inv-loop μ-loop) → Reached (j .before .before .before .before .before .before .before .loop .p) (j .before .before .before .before .before .before .before .loop .top) (j .before .before .before .before .before .before .before .loop .low) (j .before .before .h .given .0 .0) (j .if1 .top) (j .if1 .low)
-reached j =
-    let i = j .before .before .before .before .before .before .before .loop .inv in
-    let most = head-stood (here (j .before .before)) .id-range in
-    ⊎-elim
-    (λ x. reach-first _ _ _ _ (x .0 .taken) (omega (arith, i .1 (x .1 .taken), most)) (x .2) (x .3))
-    (λ y. ⊎-elim
-    (λ x. reach-over _ _ _ _ (x .0 .taken) (i .2 (omega (arith, x .1 .left))) (x .2) (x .3))
-    (λ x. reach-under _ _ _ _ (omega (arith, x .0 .left)) (omega (arith, x .1 .left)) (x .2) (x .3))
-    y)
-    (j .if1 .came)
+part-strewn-start : tie.Need-part-strewn-start
+part-strewn-start c = search needs
 
--- the model then, as which this pack's items are told
-model : (j : lts.Joined4 (no-model-reads.Asked, no-model-reads.Learnt, short-pack-head-reads.Asked, short-pack-head-reads.Learnt, passed-reads.Asked, passed-reads.Learnt, is-pack-as-reads.Asked, is-pack-as-reads.Learnt, model-of-reads.Asked, model-of-reads.Learnt, unmodelled-reads.Asked, unmodelled-reads.Learnt) reads.Pre reads.Post Inv-loop μ-loop) → Modelled (j .before .before .before .before .before .before .before .before .before .before .before .before .before .before .args .alone) (j .if4 .marks) (j .before .before .before .before .before .before .before .before .before .before .before .before .before .before .args .s .now) (j .if4 .m) × (j .if4 .m .from ≤ j .before .before .before .before .before .before .before .before .before .before .loop .p + j .before .before .before .before .before .h .given .0 .1 .1 .0 + j .before .before .before .before .before .h .given .0 .1 .0) × Told (j .before .before .before .before .before .before .before .before .before .before .before .before .before .before .args .alone) (take (j .before .before .before .before .before .before .before .before .before .before .loop .p + j .before .before .before .before .before .h .given .0 .1 .1 .0 + j .before .before .before .before .before .h .given .0 .1 .1 .1 .0 - (j .before .before .before .before .before .before .before .before .before .before .loop .p + j .before .before .before .before .before .h .given .0 .1 .1 .0 + j .before .before .before .before .before .h .given .0 .1 .0)) (drop (j .before .before .before .before .before .before .before .before .before .before .loop .p + j .before .before .before .before .before .h .given .0 .1 .1 .0 + j .before .before .before .before .before .h .given .0 .1 .0) (j .before .before .before .before .before .before .before .before .before .before .before .before .before .before .args .s .now))) (j .if4 .m .rows) × (j .if4 .misses ≤ j .before .before .before .before .before .before .before .before .before .before .loop .p + 1)
-model j =
-    let a = j .before .before .before .before .before in
-    let i = j .before .before .before .before .before .before .before .before .before .before .loop .inv in
-    ⊎-elim
-    (λ x. rw (x .4, x .5) (⊎-elim
-    (λ y. let e = y .2 .ensures in rw (y .3, y .4) (e .0, e .1, e .2 (omega (arith, x .3 .left, ap (λ (m : Model). m .rows) (y .4))), omega (arith, x .6, i .5)))
-    (λ y. let e = y .1 .ensures in rw (y .2, y .3) (no-items (e .0) (e .1) (i .3 .long), omega (arith, e .0), e .2 (omega (arith, x .3 .left, ap (λ (m : Model). m .rows) (y .3))), omega (arith, x .6, i .5)))
-    (x .1 .came)))
-    (λ y. rw (y .1, y .2) (i .3, omega (arith, i .4), as-model (i .3) _ _ (omega (arith, room a)) (omega (arith, room a)) (λ k. j .before .before .before .before .before .before .before .before .before .before .before .before .shared-slice-known2 .given k .fits) (j .before .is-pack-as .ensures (not-false _ (y .0 .left))), omega (arith, y .3, i .5)))
-    (j .if4 .came)
+part-strewn-end : tie.Need-part-strewn-end
+part-strewn-end c = search needs
 
-no-model-requires : tie.Need-no-model-requires Inv-loop μ-loop
-no-model-requires c κs = search needs
+strewn-requires : tie.Need-strewn-requires
+strewn-requires c κs = search needs
 
-loop-holds : tie.Need-loop-holds Inv-loop μ-loop
-loop-holds c = let n = c .no-model .ensures in (series-start _ _, λ _. refl, λ h. absurd (omega (arith, h)), no-items (n .0) (n .1) refl, omega (arith, n), omega arith)
+returns : tie.Need-returns
+returns c = rw (tail-part 0 (c .before .before .before .before .before .before .before .before .before .args .s .now)) at (c .strewn .ensures)
 
-sub-short-pack-head : tie.Need-sub-short-pack-head Inv-loop μ-loop
-sub-short-pack-head c = search needs
-
-part-short-pack-head-start : tie.Need-part-short-pack-head-start Inv-loop μ-loop
-part-short-pack-head-start c = search needs
-
-part-short-pack-head-end : tie.Need-part-short-pack-head-end Inv-loop μ-loop
-part-short-pack-head-end c = search needs
-
-short-pack-head-requires : tie.Need-short-pack-head-requires Inv-loop μ-loop
-short-pack-head-requires c κs = search needs
-
-enum-known-h : tie.Need-enum-known-h Inv-loop μ-loop
-enum-known-h c = search needs
-
-enum-told : tie.Need-enum-told Inv-loop μ-loop
-enum-told c = search needs
-
-passed-requires : tie.Need-passed-requires Inv-loop μ-loop
-passed-requires c κs = let i = c .before .before .before .before .before .loop .inv .0 in omega (arith, i .few .sheet, i .to, c .before .before .before .before .before .before .before .before .before .pre .1)
-
-returns : tie.Need-returns Inv-loop μ-loop
-returns c = rw (c .passed .ensures) (c .before .before .before .before .before .before .loop .inv .0)
-
-passed-requires-2 : tie.Need-passed-requires-2 Inv-loop μ-loop
-passed-requires-2 c κs = let i = c .before .before .before .before .before .before .before .before .loop .inv .0 in omega (arith, i .few .sheet, i .to, c .before .before .before .before .before .before .before .before .before .before .before .before .pre .1)
-
-returns-2 : tie.Need-returns-2 Inv-loop μ-loop
-returns-2 c = rw (c .passed2 .ensures) (c .before .before .before .before .before .before .before .before .before .loop .inv .0)
-
-add-from : tie.Need-add-from Inv-loop μ-loop
-add-from c = omega (arith, room (c .before .before))
-
-add-from-2 : tie.Need-add-from-2 Inv-loop μ-loop
-add-from-2 c = omega (arith, room (c .before .before))
-
-add-next : tie.Need-add-next Inv-loop μ-loop
-add-next c = omega (arith, room (c .before .before))
-
-add-next-2 : tie.Need-add-next-2 Inv-loop μ-loop
-add-next-2 c = omega (arith, room (c .before .before))
-
-slice-aggregate-is-pack-as : tie.Need-slice-aggregate-is-pack-as Inv-loop μ-loop
-slice-aggregate-is-pack-as c = sym (c .before .before .before .before .before .before .before .before .loop .inv .3 .long)
-
-is-pack-as-requires : tie.Need-is-pack-as-requires Inv-loop μ-loop
-is-pack-as-requires c κs =
-    let a = c .before .before .before in
-    let i = c .before .before .before .before .before .before .before .before .loop .inv in
-    (i .3 .long, omega (arith, room a), omega (arith, room a), omega (arith, i .4))
-
-mul-if5 : tie.Need-mul-if5 Inv-loop μ-loop
-mul-if5 c = omega (arith, c .before .before .before .before .before .before .before .before .before .before .loop .inv .5, room (c .before .before .before .before .before))
-
-add-if5 : tie.Need-add-if5 Inv-loop μ-loop
-add-if5 c = omega (arith, room (c .before .before .before .before .before))
-
-model-of-requires : tie.Need-model-of-requires Inv-loop μ-loop
-model-of-requires c κs =
-    let a = c .before .before .before .before .before .before .before in
-    (c .before .before .before .before .before .before .before .before .before .before .before .before .before .before .before .before .pre .0, omega (arith, room a), omega (arith, room a), omega (arith, room a, short a), c .before .before .before .before .before .before .before .before .before .before .before .before .loop .inv .3 .long, λ i. c .before .before .before .before .before .before .before .before .before .before .before .before .before .before .shared-slice-known2 .given i .fits)
-
-unmodelled-requires : tie.Need-unmodelled-requires Inv-loop μ-loop
-unmodelled-requires c κs = let a = c .before .before .before .before .before .before in (c .before .before .before .before .before .before .before .before .before .before .before .before .before .before .before .pre .0, omega (arith, room a), omega (arith, room a), omega (arith, room a, short a))
-
-passed-requires-3 : tie.Need-passed-requires-3 Inv-loop μ-loop
-passed-requires-3 c κs = let i = c .before .before .before .before .before .before .before .before .before .before .before .before .before .loop .inv .0 in omega (arith, i .few .sheet, i .to, c .before .before .before .before .before .before .before .before .before .before .before .before .before .before .before .before .before .pre .1)
-
-returns-3 : tie.Need-returns-3 Inv-loop μ-loop
-returns-3 c = rw (c .passed3 .ensures) (going-wide (c .before .before .before .before .before .before .before .before .before .before .before .before .before .before .loop .inv .0) (reached (c .before .before .before .before .before .before .before) .over .0) (reached (c .before .before .before .before .before .before .before) .under .0))
-
-add-misses : tie.Need-add-misses Inv-loop μ-loop
-add-misses c = omega (arith, c .before .before .before .before .before .before .before .before .before .before .before .before .before .loop .inv .5, room (c .before .before .before .before .before .before .before .before))
-
-add-rows : tie.Need-add-rows Inv-loop μ-loop
-add-rows c = let i = c .before .before .before .before .before .before .before .before .before .before .before .loop .inv .0 in let t = model (c .before) .2 in omega (arith, i .few .rows, i .to, t .rows-are, t .going .few .rows, lent-long (here (c .before .before .before .before .before .before)) (new-key (reached (c .before .before .before .before) .new)) refl, room (c .before .before .before .before .before .before))
-
-add-more : tie.Need-add-more Inv-loop μ-loop
-add-more c = let i = c .before .before .before .before .before .before .before .before .before .before .before .loop .inv .0 in omega (arith, i .few .sheet, i .to, c .before .before .before .before .before .before .before .before .before .before .before .before .before .before .before .pre .1)
-
-sub-more : tie.Need-sub-more Inv-loop μ-loop
-sub-more c = omega (arith, short (c .before .before .before .before .before .before))
-
-loop-less : tie.Need-loop-less Inv-loop μ-loop
-loop-less c = omega (arith, head-stood (here (c .before .before .before .before .before .before)) .len, c .before .before .before .before .before .before .before .before .before .before .loop-test .taken)
-
-loop-again : tie.Need-loop-again Inv-loop μ-loop
-loop-again c =
-    let a = c .before .before .before .before .before .before in
-    let m = model (c .before) in
-    let r = reached (c .before .before .before .before) in (
-      told-more (c .before .before .before .before .before .before .before .before .before .before .before .loop .more) (here a) (short a) r (m .2),
-      λ e. absurd (omega (arith, e, head-stood (here a) .len)),
-      λ _. r .between,
-      m .0,
-      omega (arith, m .1, room a),
-      omega (arith, m .3, head-stood (here a) .len),
-    )
-
-passed-requires-4 : tie.Need-passed-requires-4 Inv-loop μ-loop
-passed-requires-4 c κs = let i = c .before .loop .inv .0 in omega (arith, i .few .sheet, i .to, c .before .before .before .before .before .pre .1)
-
-returns-4 : tie.Need-returns-4 Inv-loop μ-loop
-returns-4 c = rw (c .passed4 .ensures) (c .before .before .loop .inv .0)
+returns-2 : tie.Need-returns-2
+returns-2 c = search needs
 
 pub packs-spec : {M : Type 1} → statement M
 packs-spec =
     tie.close
     (tie.spec
-    Inv-loop
-    μ-loop
-    no-model-requires
-    loop-holds
-    sub-short-pack-head
-    part-short-pack-head-start
-    part-short-pack-head-end
-    short-pack-head-requires
-    enum-known-h
-    enum-told
-    passed-requires
+    sub-many
+    part-none-start
+    part-none-end
+    many-requires
+    is-between-requires
+    sub-strewn
+    part-strewn-start
+    part-strewn-end
+    strewn-requires
     returns
-    passed-requires-2
-    returns-2
-    add-from
-    add-from-2
-    add-next
-    add-next-2
-    slice-aggregate-is-pack-as
-    is-pack-as-requires
-    mul-if5
-    add-if5
-    model-of-requires
-    unmodelled-requires
-    passed-requires-3
-    returns-3
-    add-misses
-    add-rows
-    add-more
-    sub-more
-    loop-less
-    loop-again
-    passed-requires-4
-    returns-4)
+    returns-2)

@@ -1,5 +1,5 @@
 -- `clear::part_clear` meets its contract: the loop passes one head after the other, and marks its key.
-use mathlib.Core.Path.{refl}
+use mathlib.Core.Path.{refl, sym}
 use Prim.Native.Nat.{_-_}
 use lib.ListN.{length}
 use native.Mathlib.Omega.{arith}
@@ -40,25 +40,31 @@ next-of-requires c κs = search needs
 returns-2 : tie.Need-returns-2 Inv-loop μ-loop
 returns-2 c = c .before .before .before .before .before .before .before .loop .inv .clear
 
+slice-aggregate-may-stand : tie.Need-slice-aggregate-may-stand Inv-loop μ-loop
+slice-aggregate-may-stand c = sym (c .before .before .before .before .before .before .before .before .loop .inv .long)
+
 may-stand-requires : tie.Need-may-stand-requires Inv-loop μ-loop
-may-stand-requires c κs = search needs
+may-stand-requires c κs = c .before .before .before .before .before .before .before .before .loop .inv .long
 
 returns-3 : tie.Need-returns-3 Inv-loop μ-loop
 returns-3 c = c .before .before .before .before .before .before .before .before .before .before .loop .inv .clear
+
+slice-aggregate-mark : tie.Need-slice-aggregate-mark Inv-loop μ-loop
+slice-aggregate-mark c = sym (c .before .before .before .before .before .before .before .before .before .before .before .loop .inv .long)
 
 mark-requires : tie.Need-mark-requires Inv-loop μ-loop
 mark-requires c κs = c .before .before .before .before .before .before .before .before .before .before .before .loop .inv .long
 
 loop-again : tie.Need-loop-again Inv-loop μ-loop
 loop-again c =
-    let a = c .before .before .before .before .before .before in
-    clearing-more _ _ _ _ _ (a .before .before .before .before .before .before .before .loop .inv) (peek-room _ _ _) _ _ (a .before .before .next-of .ensures) (omega (arith, a .if2 .left)) (c .before .before .before .before .may-stand .ensures (c .before .before .before .if3 .left)) _ (c .before .mark .ensures)
+    let a = c .before .before .before .before .before .before .before in
+    clearing-more _ _ _ _ _ (a .before .before .before .before .before .before .before .loop .inv) (peek-room _ _ _) _ _ (a .before .before .next-of .ensures) (omega (arith, a .if2 .left)) (c .before .before .before .before .before .may-stand .ensures (c .before .before .before .before .if3 .left)) _ (c .before .before .mark .ensures)
 
 add-q : tie.Need-add-q Inv-loop μ-loop
-add-q c = omega (arith, loop-again c .within, c .before .before .before .before .before .before .before .before .before .before .before .before .before .before .before .good)
+add-q c = omega (arith, loop-again c .within, c .before .before .before .before .before .before .before .before .before .before .before .before .before .before .before .before .good)
 
 loop-less : tie.Need-loop-less Inv-loop μ-loop
-loop-less c = omega (arith, c .before .before .before .before .before .before .if2 .left, c .before .before .before .before .before .before .before .before .before .before .before .before .loop-test .taken)
+loop-less c = omega (arith, c .before .before .before .before .before .before .before .if2 .left, c .before .before .before .before .before .before .before .before .before .before .before .before .before .loop-test .taken)
 
 returns-4 : tie.Need-returns-4 Inv-loop μ-loop
 returns-4 c = c .before .loop .inv .clear
@@ -77,8 +83,10 @@ part-clear-spec =
     part-next-of-end
     next-of-requires
     returns-2
+    slice-aggregate-may-stand
     may-stand-requires
     returns-3
+    slice-aggregate-mark
     mark-requires
     add-q
     loop-less

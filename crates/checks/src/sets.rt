@@ -84,14 +84,14 @@ fn series(glances: &[u32], s: &[u8], alone: bool, q: Quick) -> Quick
     let from = p + used + width;
     let next = from + size;
     let packs = &s[from..next];
-    if levels::packs::is_lone(packs) {
-        let one = levels::packs::lone(glances, packs, alone);
+    if series::is_lone(packs) {
+        let one = series::lone(glances, packs, alone);
         if one.at == packs.len() {
             return after_series(q, next, one.sizes);
         }
         return q;
     }
-    let d = levels::packs::packs(glances, packs, alone);
+    let d = series::packs(glances, packs, alone);
     // no enum goes through memory where all are told at a glance
     if d.at == packs.len() {
         return after_series(q, next, d.sizes);

@@ -6,10 +6,8 @@ pub mod Series
 pub mod Turns
 pub mod ItemTurns
 pub mod Glances
-pub mod Alikes
 pub mod Beyond
 pub mod PackTurns
-pub mod Models
 pub mod Totals
 pub mod Inners
 pub mod Steps

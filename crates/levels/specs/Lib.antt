@@ -1,4 +1,3 @@
 pub mod Going
 pub mod Meet
-pub mod Packs
 pub mod Runs

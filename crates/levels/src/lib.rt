@@ -126,5 +126,4 @@ pub fn series_of(w: Walked, k: usize) -> Walked
 }
 
 pub mod quick; // quick.rt: the quick way over a level
-pub mod packs; // packs.rt: the quick way over a series
 pub mod weights; // weights.rt: the sizes of an item, a pack and the series

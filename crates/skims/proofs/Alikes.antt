@@ -15,7 +15,7 @@ use Rattle.coding.proofs.Alikes.{marked-before, marked-head, marked-value}
 use Rattle.items.specs.Meet.{levelOf}
 use Rattle.items.specs.Quick.{Quick}
 use Rattle.levels.specs.Meet.{markTag}
-use Rattle.levels.proofs.Alikes.{quick-alike}
+use Rattle.series.proofs.Alikes.{quick-alike}
 use Rattle.skims.specs.Going.{RecordsGoing, Glanced}
 use Rattle.skims.proofs.Glances.{quickSizes, glance-room, glance-of, glance-next, glance-more}
 

@@ -15,10 +15,10 @@ use Rattle.coding.proofs.Rooms.{tail-part}
 use Rattle.items.specs.Meet.{formOf}
 use Rattle.heads.specs.Meet.{peek}
 use Rattle.levels.specs.declared.quick.Quick.{Quick}
-use Rattle.levels.specs.declared.packs.Model.{Model}
+use Rattle.series.specs.declared.Model.{Model}
 use Rattle.levels.specs.declared.Walked.the-variants.{Good}
 use Rattle.levels.specs.Meet.{sizes, Within}
-use Rattle.levels.specs.Packs.{As}
+use Rattle.series.specs.Packs.{As}
 use Rattle.levels.proofs.Turns.{turn-done}
 use Rattle.levels.proofs.PackTurns.{either-is}
 use Rattle.skims.specs.Meet.{recordsWalk}

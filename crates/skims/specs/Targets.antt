@@ -10,7 +10,7 @@ use Rattle.format.specs.Table.{Form}
 use Rattle.coding.specs.Alike.{AlikeTo}
 use Rattle.items.specs.Meet.{formOf}
 use Rattle.levels.specs.declared.quick.Quick.{Quick}
-use Rattle.levels.specs.declared.packs.Model.{Model}
+use Rattle.series.specs.declared.Model.{Model}
 use Rattle.levels.specs.Meet.{sizes}
 use Rattle.skims.specs.Going.{RecordsGoing}
 

@@ -8,12 +8,12 @@ ghost use Rattle.format.specs.Sheet.{TG, is};
 ghost use Rattle.items.specs.Meet.{formOf, glanceTable};
 ghost use Rattle.levels.specs.Meet.{sizes};
 ghost use Rattle.levels.specs.Going.{quickAt};
-ghost use Rattle.levels.specs.Packs.{As};
+ghost use Rattle.series.specs.Packs.{As};
 ghost use Rattle.skims.specs.Going.{TargetsPassed};
 ghost use Rattle.skims.specs.Targets.{Laid, Held, Over, Modelled};
 use super::quick;
 use levels::Sizes;
-use levels::packs::Model;
+use series::Model;
 use levels::quick::Quick;
 
 // A target's records told at a glance, as `quick::run` goes over them, and marked while there is room: whatever is laid out so is walked so.
@@ -57,7 +57,7 @@ fn is_target_as(m: Model, marks: &[u8], s: &[u8], from: usize) -> bool
     requires { ⌜ (length (now marks) ≡ 160) × (length (now s) ≤ 65536) × (from ≤ length (now s)) × (m .from ≤ from) ⌝ }
     ensures { λ r. ⌜ (r ≡ true → As (now (marks .entry)) (now (s .entry)) m from × Over (now (s .entry)) (from + m .size)) ⌝ }
 {
-    if !levels::packs::is_as(m, marks, s, from) {
+    if !series::is_as(m, marks, s, from) {
         return false;
     }
     is_over(s, from + m.size)
@@ -72,10 +72,10 @@ fn model_of(glances: &[u32], s: &[u8], from: usize, alone: bool, marks: &mut [u8
     let q = lay(glances, &s[from..], alone, marks);
     let size = q.at;
     if !is_over(s, from + size) {
-        return levels::packs::no_model();
+        return series::no_model();
     }
     if !coding::either(!alone, q.mark) {
-        return levels::packs::no_model();
+        return series::no_model();
     }
     Model {
         from,
@@ -115,7 +115,7 @@ fn many(glances: &[u32], s: &[u8], alone: bool, bits: &mut [u64]) -> Quick
     let mut top: u64 = 0;
     let mut low: u64 = 18446744073709551615;
     let mut marks: [u8; 160] = [0; 160];
-    let mut m = levels::packs::no_model();
+    let mut m = series::no_model();
     if !heads::records::is_mark(s, p, b'T', b'G') {
         return passed(p, rows, normal, top, low);
     }

@@ -134,7 +134,7 @@ pub fn item_rest(
                     glances,
                     packs,
                     alone,
-                    levels::packs::packs(glances, packs, alone),
+                    series::packs(glances, packs, alone),
                 ),
                 from,
             )

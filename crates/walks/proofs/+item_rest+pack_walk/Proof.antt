@@ -37,7 +37,7 @@ use Rattle.walks.proofs.piece_fault.Reads as piece-fault-reads
 use Rattle.levels.proofs.weights.pack_sizes.Reads as pack-sizes-reads
 use Rattle.levels.proofs.weights.plus.Reads as plus-reads
 use Rattle.levels.proofs.quick.onward.Reads as onward-reads
-use Rattle.levels.proofs.packs.packs.Reads as packs-reads
+use Rattle.series.proofs.packs.Reads as packs-reads
 use Rattle.levels.proofs.quick.run.Reads as run-reads
 use Rattle.levels.proofs.series_of.Reads as series-of-reads
 use Rattle.levels.proofs.smaller.Reads as smaller-reads

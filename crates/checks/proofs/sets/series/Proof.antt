@@ -13,9 +13,9 @@ use Rattle.checks.proofs.sets.series.Statement.{statement}
 use Rattle.checks.proofs.sets.series.Tie as tie
 use Rattle.checks.proofs.sets.series.Reads as reads
 use Rattle.checks.proofs.sets.series.Lts as lts
-use Rattle.levels.proofs.packs.is_lone.Reads as is-lone-reads
-use Rattle.levels.proofs.packs.lone.Reads as lone-reads
-use Rattle.levels.proofs.packs.packs.Reads as packs-reads
+use Rattle.series.proofs.is_lone.Reads as is-lone-reads
+use Rattle.series.proofs.lone.Reads as lone-reads
+use Rattle.series.proofs.packs.Reads as packs-reads
 use Rattle.checks.proofs.sets.after_series.Reads as after-series-reads
 use Rattle.checks.proofs.sets.head_at.Reads as head-at-reads
 use Rattle.checks.proofs.sets.is_series_next.Reads as is-series-next-reads

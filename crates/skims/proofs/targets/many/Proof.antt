@@ -35,7 +35,7 @@ use Rattle.repeats.proofs.notes.note.Reads as note-reads
 use Rattle.skims.proofs.targets.is_target_as.Reads as is-target-as-reads
 use Rattle.skims.proofs.targets.model_of.Reads as model-of-reads
 use Rattle.skims.proofs.targets.passed.Reads as passed-reads
-use Rattle.levels.proofs.packs.no_model.Reads as no-model-reads
+use Rattle.series.proofs.no_model.Reads as no-model-reads
 
 abbrev Inv-loop : tie.InvT-loop
 Inv-loop glances s alone bits₀ p₀ rows₀ normal₀ top₀ low₀ marks₀ m₀ bits p rows normal top low marks m = TargetsGoing (formOf alone) s p (sizes p rows normal 0) top low × (p < length s → is TG (drop p s) ≡ true) × (p ≡ 0 → low ≡ 18446744073709551615) × (0 < p → low ≤ top) × (top ≤ 16383) × Modelled alone marks s m × (m .from ≤ p) × Noted (peek true true false) s bits p × (length bits ≡ length bits₀)

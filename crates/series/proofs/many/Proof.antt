@@ -15,25 +15,25 @@ use Rattle.heads.proofs.Heads.{pack-head-if}
 use Rattle.heads.proofs.Before.{pack-peek}
 use Rattle.repeats.specs.Notes.{Noting}
 use Rattle.repeats.proofs.Noted.{Noted, noted-none, noted-new, noted-more}
-use Rattle.levels.specs.declared.packs.Model.{Model}
+use Rattle.series.specs.declared.Model.{Model}
 use Rattle.levels.specs.Going.{SeriesGoing}
-use Rattle.levels.specs.Packs.{Told, Modelled}
+use Rattle.series.specs.Packs.{Told, Modelled}
 use Rattle.levels.proofs.Glances.{packedSizes}
 use Rattle.levels.proofs.Turns.{going-wide, Fresh, reached-fresh, fresh-within, reach-first, reach-over, reach-under}
 use Rattle.levels.proofs.PackTurns.{PackAt, series-start, whole, head-stood, head-room, lent-long}
-use Rattle.levels.proofs.Models.{no-items, as-model, told-more}
-use Rattle.levels.proofs.packs.many.Statement.{statement}
-use Rattle.levels.proofs.packs.many.Tie as tie
-use Rattle.levels.proofs.packs.many.Reads as reads
-use Rattle.levels.proofs.packs.many.Lts as lts
+use Rattle.series.proofs.Models.{no-items, as-model, told-more}
+use Rattle.series.proofs.many.Statement.{statement}
+use Rattle.series.proofs.many.Tie as tie
+use Rattle.series.proofs.many.Reads as reads
+use Rattle.series.proofs.many.Lts as lts
 use Rattle.heads.proofs.short_pack_head.Reads as short-pack-head-reads
 use Rattle.repeats.proofs.notes.is_unnoted.Reads as is-unnoted-reads
 use Rattle.repeats.proofs.notes.note.Reads as note-reads
-use Rattle.levels.proofs.packs.no_model.Reads as no-model-reads
-use Rattle.levels.proofs.packs.passed.Reads as passed-reads
-use Rattle.levels.proofs.packs.is_pack_as.Reads as is-pack-as-reads
-use Rattle.levels.proofs.packs.model_of.Reads as model-of-reads
-use Rattle.levels.proofs.packs.unmodelled.Reads as unmodelled-reads
+use Rattle.series.proofs.no_model.Reads as no-model-reads
+use Rattle.series.proofs.passed.Reads as passed-reads
+use Rattle.series.proofs.is_pack_as.Reads as is-pack-as-reads
+use Rattle.series.proofs.model_of.Reads as model-of-reads
+use Rattle.series.proofs.unmodelled.Reads as unmodelled-reads
 
 abbrev Inv-loop : tie.InvT-loop
 Inv-loop glances s alone bits₀ p₀ rows₀ more₀ top₀ low₀ marks₀ m₀ misses₀ bits p rows more top low marks m misses =

@@ -4,8 +4,8 @@ use lib.ListN.{length-drop}
 use Rattle.format.proofs.words.Answers.{no-bool}
 use Rattle.coding.proofs.Rooms.{tail-part}
 use borrow.Author.Needs.{needs}
-use Rattle.levels.proofs.packs.is_as.Statement.{statement}
-use Rattle.levels.proofs.packs.is_as.Tie as tie
+use Rattle.series.proofs.is_as.Statement.{statement}
+use Rattle.series.proofs.is_as.Tie as tie
 
 returns : tie.Need-returns
 returns c = λ e. no-bool e

@@ -1,8 +1,8 @@
 -- `levels::packs::packs` meets its contract.
 use borrow.Author.Needs.{needs}
 use Rattle.coding.proofs.Rooms.{tail-part}
-use Rattle.levels.proofs.packs.packs.Statement.{statement}
-use Rattle.levels.proofs.packs.packs.Tie as tie
+use Rattle.series.proofs.packs.Statement.{statement}
+use Rattle.series.proofs.packs.Tie as tie
 
 sub-many : tie.Need-sub-many
 sub-many c = search needs

@@ -2,10 +2,10 @@
 use mathlib.Core.Path.{refl, sym, _∙_}
 use native.Mathlib.Omega.{arith}
 use borrow.Author.Tests.{not-false}
-use Rattle.levels.proofs.Models.{part-long, run-told}
+use Rattle.series.proofs.Models.{part-long, run-told}
 use borrow.Author.Needs.{needs}
-use Rattle.levels.proofs.packs.unmodelled.Statement.{statement}
-use Rattle.levels.proofs.packs.unmodelled.Tie as tie
+use Rattle.series.proofs.unmodelled.Statement.{statement}
+use Rattle.series.proofs.unmodelled.Tie as tie
 
 sub-run : tie.Need-sub-run
 sub-run c = search needs

@@ -16,13 +16,13 @@ use Rattle.coding.proofs.Alikes.{alike-same, alike-as, marked-before, marked-he
 use Rattle.items.specs.Meet.{levelOf, formOf}
 use Rattle.items.specs.Quick as items
 use Rattle.items.proofs.Glances.{quick-as}
 use Rattle.levels.specs.declared.quick.Quick.{Quick}
-use Rattle.levels.specs.declared.packs.Model.{Model}
+use Rattle.series.specs.declared.Model.{Model}
 use Rattle.levels.specs.Meet.{markTag}
 use Rattle.levels.specs.Going.{LevelGoing, Begun, Glance, Glanced}
-use Rattle.levels.specs.Packs.{Laid, Told, Modelled}
+use Rattle.series.specs.Packs.{Laid, Told, Modelled}
 use Rattle.levels.proofs.ItemTurns.{level-start}
 use Rattle.levels.proofs.Glances.{quickSizes, glanced-next, glanced-low, glanced-more}
 
 -- a value whose first byte is x, and one whose is y where the mark allows it
 pub quick-alike : {l : Level} {f : Form} {tag n mark x y : ℕ} → (mark ≡ 0 → items.Quick l f tag n 0) → items.Quick l f tag n x → Alike mark x y → items.Quick l f tag n y

@@ -6,13 +6,13 @@ ghost use Prim.Native.Nat.{_+_, _*_, _-_, _≤_, _<_};
 ghost use lib.ListN.{length, take, drop};
 ghost use Rattle.format.specs.Coding.{Bytes};
 ghost use Rattle.items.specs.Meet.{formOf, glanceTable};
 ghost use Rattle.levels.specs.Meet.{sizes};
 ghost use Rattle.levels.specs.Going.{SeriesGoing, quickAt};
-ghost use Rattle.levels.specs.Packs.{Laid, As, Modelled, Told};
-use super::Sizes;
-use super::quick;
-use super::quick::Quick;
+ghost use Rattle.series.specs.Packs.{Laid, As, Modelled, Told};
 use heads::Head;
+use levels::Sizes;
+use levels::quick;
+use levels::quick::Quick;
 
 // Where a pack's items begin, how many bytes they have, and the pack's rows.
 pub struct Model {
@@ -54,7 +54,7 @@ fn lay(glances: &[u32], s: &[u8], alone: bool, marks: &mut [u8; 160]) -> Quick
         let tag = coding::wide(s[p]);
         let first = items::quick::first_mark(glances, false, alone, tag, coding::wide(s[p + 1]));
         coding::alike::mark_item(marks, p, 2, first);
-        mark = coding::either(mark, super::is_mark(false, tag));
+        mark = coding::either(mark, levels::is_mark(false, tag));
         top = tag;
         count += 1;
         p = next;

@@ -8,10 +8,10 @@ use Rattle.format.specs.Coding.{Bytes}
 use Rattle.format.specs.Table.{Form}
 use Rattle.coding.specs.Alike.{AlikeTo}
 use Rattle.items.specs.Meet.{formOf}
 use Rattle.levels.specs.declared.quick.Quick.{Quick}
-use Rattle.levels.specs.declared.packs.Model.{Model}
+use Rattle.series.specs.declared.Model.{Model}
 use Rattle.levels.specs.Meet.{sizes}
 use Rattle.levels.specs.Going.{LevelGoing}
 
 -- the items of a, and of whatever is laid out as they are, by the marks, are walked to the same place with the same sizes
 pub record Laid (f : Form) (marks a : List ℕ) (q : Quick) : Type 0 where

@@ -2,10 +2,10 @@
 use mathlib.Core.Path.{sym, _∙_}
 use native.Mathlib.Omega.{arith}
 use borrow.Author.Tests.{not-false}
-use Rattle.levels.proofs.Models.{no-items, items-told, items-model}
+use Rattle.series.proofs.Models.{no-items, items-told, items-model}
 use borrow.Author.Needs.{needs}
-use Rattle.levels.proofs.packs.model_of.Statement.{statement}
-use Rattle.levels.proofs.packs.model_of.Tie as tie
+use Rattle.series.proofs.model_of.Statement.{statement}
+use Rattle.series.proofs.model_of.Tie as tie
 
 sub-lay : tie.Need-sub-lay
 sub-lay c = search needs

@@ -5,11 +5,11 @@ use native.Mathlib.Omega.{arith}
 use lib.ListN.{length}
 use borrow.Author.Needs.{needs}
 use Rattle.items.specs.Meet.{formOf}
 use Rattle.levels.proofs.ItemTurns.{level-start}
 use Rattle.levels.proofs.Glances.{glanced-next}
-use Rattle.levels.proofs.Alikes.{Laying, laying-own, laying-more}
-use Rattle.levels.proofs.packs.lay.Statement.{statement}
-use Rattle.levels.proofs.packs.lay.Tie as tie
+use Rattle.series.proofs.Alikes.{Laying, laying-own, laying-more}
+use Rattle.series.proofs.lay.Statement.{statement}
+use Rattle.series.proofs.lay.Tie as tie
 
 abbrev Inv-loop : tie.InvT-loop
 Inv-loop glances s alone marks₀ most low p₀ count₀ mark₀ top₀ marks p count mark top = Laying (formOf alone) marks s p count mark top low

@@ -2,8 +2,8 @@
 use native.Mathlib.Omega.{arith}
 use Rattle.format.proofs.words.Answers.{no-bool}
 use borrow.Author.Needs.{needs}
-use Rattle.levels.proofs.packs.is_pack_as.Statement.{statement}
-use Rattle.levels.proofs.packs.is_pack_as.Tie as tie
+use Rattle.series.proofs.is_pack_as.Statement.{statement}
+use Rattle.series.proofs.is_pack_as.Tie as tie
 
 sub-if1 : tie.Need-sub-if1
 sub-if1 c = search needs

@@ -12,13 +12,13 @@ use Rattle.coding.specs.Alike.{AlikeTo}
 use Rattle.coding.proofs.Alikes.{alike-same, alike-as}
 use Rattle.items.specs.Meet.{formOf}
 use Rattle.heads.specs.Meet.{peek}
 use Rattle.levels.specs.declared.quick.Quick.{Quick}
-use Rattle.levels.specs.declared.packs.Model.{Model}
+use Rattle.series.specs.declared.Model.{Model}
 use Rattle.levels.specs.Going.{LevelGoing, SeriesGoing, Reached}
-use Rattle.levels.specs.Packs.{Laid, Told, As, Modelled}
+use Rattle.series.specs.Packs.{Laid, Told, As, Modelled}
 use Rattle.levels.proofs.Glances.{quickSizes, packedSizes, packed-plus}
 use Rattle.levels.proofs.Turns.{turn-done, Fresh, reached-fresh}
 use Rattle.levels.proofs.PackTurns.{PackAt, either-is, head-stood, lent-long, pack-more}
 
 module _ (alone : Bool) {m a : List ℕ} {q : Quick} (l : Laid (formOf alone) m a q) (all : q .at ≡ length a) (located : not alone || q .mark ≡ true) where
   pub laid-told : (b : List ℕ) → Bytes b → length b ≡ length a → AlikeTo m a b (length a) → Told alone b (1 + q .sizes .rows)

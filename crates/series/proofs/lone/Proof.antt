@@ -7,18 +7,18 @@ use borrow.Author.Needs.{needs}
 use Rattle.items.specs.Meet.{formOf}
 use Rattle.heads.specs.declared.Head.the-variants as heads
 use Rattle.heads.proofs.Heads.{pack-head-if}
 use Rattle.levels.specs.Going.{Reached}
 use Rattle.levels.proofs.Glances.{packedSizes}
 use Rattle.levels.proofs.Turns.{new-key, reach-only}
 use Rattle.levels.proofs.PackTurns.{PackAt, series-start, head-stood, head-room, lent-long}
-use Rattle.levels.proofs.Models.{told-first}
-use Rattle.levels.proofs.packs.lone.Statement.{statement}
-use Rattle.levels.proofs.packs.lone.Tie as tie
-use Rattle.levels.proofs.packs.lone.Reads as reads
-use Rattle.levels.proofs.packs.lone.Lts as lts
+use Rattle.series.proofs.Models.{told-first}
+use Rattle.series.proofs.lone.Statement.{statement}
+use Rattle.series.proofs.lone.Tie as tie
+use Rattle.series.proofs.lone.Reads as reads
+use Rattle.series.proofs.lone.Lts as lts
 use Rattle.heads.proofs.short_pack_head.Reads as short-pack-head-reads
-use Rattle.levels.proofs.packs.passed.Reads as passed-reads
-use Rattle.levels.proofs.packs.unmodelled.Reads as unmodelled-reads
+use Rattle.series.proofs.passed.Reads as passed-reads
+use Rattle.series.proofs.unmodelled.Reads as unmodelled-reads
 
 abbrev Head-read : Type 0
 Head-read = lts.After-h (short-pack-head-reads.Asked, short-pack-head-reads.Learnt, passed-reads.Asked, passed-reads.Learnt, unmodelled-reads.Asked, unmodelled-reads.Learnt) reads.Pre reads.Post

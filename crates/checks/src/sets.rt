@@ -5,11 +5,10 @@ ghost use mathlib.Core.Bool.{true};
 ghost use lib.ListN.{length};
 ghost use Rattle.format.specs.Table.{set};
 ghost use Rattle.items.specs.Meet.{formOf, glanceTable};
-ghost use Rattle.levels.specs.Meet.{Small, seriesSizes, plusSizes, levelWalk, seriesWalk, Within};
-ghost use Rattle.levels.specs.Going.{LevelGoing, SeriesGoing, quickAt};
+ghost use Rattle.levels.specs.Meet.{levelWalk, seriesWalk, Within};
+ghost use Rattle.levels.specs.Going.{LevelGoing, SeriesGoing};
 ghost use Rattle.checks.specs.Meet.{HeadIf};
 use heads::Head;
-use levels::Sizes;
 use levels::Walked;
 use levels::quick;
 use levels::quick::Quick;
@@ -43,23 +42,18 @@ fn is_series_next(p: usize, top: u64, tag: u64, size: usize) -> bool
     tag == 101
 }
 
-// The packs of a series one by one, from where the quick way over them ended.
+// The packs of a series, from where the quick way over them ended: by the other quick way if it was an id that ended it, then one by one.
 fn packs_rest(glances: &[u32], s: &[u8], alone: bool, q: Quick) -> Walked
     requires { ⌜ (now glances ≡ glanceTable) × (length (now s) ≤ 8192) × SeriesGoing (formOf alone) (now s) (q .at) (q .sizes) (q .top) (q .low) ⌝ }
     ensures { λ r. ⌜ (r ≡ seriesWalk (formOf alone) (now (s .entry))) × Within r (length (now (s .entry))) ⌝ }
 {
     let table = items::table();
     // lent on as a part, so that the compiler keeps the slice itself in registers
+    if series::is_between(s, q) {
+        let d = series::strewn(glances, &s[0..], alone);
+        return walks::pack_walk(&table, glances, &s[0..], alone, d);
+    }
     walks::pack_walk(&table, glances, &s[0..], alone, q)
-}
-
-// Where the set goes on after its series, whose packs have these sizes.
-fn after_series(q: Quick, next: usize, sizes: Sizes) -> Quick
-    requires { ⌜ Small sizes × Small (q .sizes) × Small (seriesSizes sizes) ⌝ }
-    ensures { λ r. ⌜ (r .low ≤ q .low) × (r .low ≤ 101) × (r ≡ quickAt next (plusSizes (q .sizes) (seriesSizes sizes)) (q .mark) 101 (r .low)) ⌝ }
-{
-    let sum = levels::weights::plus(q.sizes, levels::weights::series_sizes(sizes));
-    quick::stands(next, sum, q.mark, 101, levels::smaller(q.low, 101))
 }
 
 // On over the series, if it stands next. A refusal in it is left to the item walk, and so is a lone pack that is not told at a glance.
@@ -87,20 +81,21 @@ fn series(glances: &[u32], s: &[u8], alone: bool, q: Quick) -> Quick
     if series::is_lone(packs) {
         let one = series::lone(glances, packs, alone);
         if one.at == packs.len() {
-            return after_series(q, next, one.sizes);
+            return quick::after_series(q, next, one.sizes);
         }
         return q;
     }
-    let d = series::packs(glances, packs, alone);
+    let mut none = [0u64; 1];
+    let d = series::many(glances, packs, alone, &mut none[0..0]);
     // no enum goes through memory where all are told at a glance
     if d.at == packs.len() {
-        return after_series(q, next, d.sizes);
+        return quick::after_series(q, next, d.sizes);
     }
     let w = packs_rest(glances, packs, alone, d);
     let Walked::Good { sizes, mark: _ } = w else {
         return q;
     };
-    after_series(q, next, sizes)
+    quick::after_series(q, next, sizes)
 }
 
 // Whether a tag and a length are the checksum's, where it may stand, and the tag is told to be new.

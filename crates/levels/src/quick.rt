@@ -5,7 +5,7 @@ ghost use mathlib.Core.Bool.{true, false};
 ghost use Prim.Native.Nat.{_+_, _*_, _-_, _≤_, _<_};
 ghost use lib.ListN.{length, getD};
 ghost use Rattle.items.specs.Meet.{formOf, glanceTable};
-ghost use Rattle.levels.specs.Meet.{noSizes, sizes};
+ghost use Rattle.levels.specs.Meet.{noSizes, sizes, seriesSizes, plusSizes, Small};
 ghost use Rattle.levels.specs.Going.{LevelGoing, quickAt, Begun, Glanced, New, Plain};
 use super::Sizes;
 use super::Walked;
@@ -140,6 +140,15 @@ pub fn stands(at: usize, sizes: Sizes, mark: bool, top: u64, low: u64) -> Quick
         top,
         low,
     }
+}
+
+// Where the set goes on after its series, whose packs or targets have these sizes.
+pub fn after_series(q: Quick, next: usize, sizes: Sizes) -> Quick
+    requires { ⌜ Small sizes × Small (q .sizes) × Small (seriesSizes sizes) ⌝ }
+    ensures { λ r. ⌜ (r .low ≤ q .low) × (r .low ≤ 101) × (r ≡ quickAt next (plusSizes (q .sizes) (seriesSizes sizes)) (q .mark) 101 (r .low)) ⌝ }
+{
+    let sum = super::weights::plus(q.sizes, super::weights::series_sizes(sizes));
+    stands(next, sum, q.mark, 101, super::smaller(q.low, 101))
 }
 
 // What was walked till there.

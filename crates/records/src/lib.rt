@@ -153,7 +153,6 @@ fn target_at(s: &[u8], p: usize, clear: usize, top: u64, low: u64) -> Piece
 
 // ---- walks
 
-
 // The records of a level: the set, or a target. A part takes as many bytes as it adds to the sheet.
 pub fn item_records(table: &[u32], glances: &[u32], s: &[u8], set: bool, alone: bool) -> Walked
     requires { ⌜ (now table ≡ itemTable) × (length (now s) ≤ 65536) × (now glances ≡ glanceTable) ⌝ }
@@ -207,7 +206,7 @@ pub fn target_records(table: &[u32], glances: &[u32], s: &[u8], alone: bool) -> 
     requires { ⌜ (now table ≡ itemTable) × (length (now s) ≤ 65536) × (now glances ≡ glanceTable) ⌝ }
     ensures { λ r. ⌜ (r ≡ targetsWalk (formOf alone) (now (s .entry))) × Within r (length (now (s .entry))) ⌝ }
 {
-    let q = skims::targets::targets(glances, s, alone);
+    let q = skims::targets::strewn(glances, s, alone);
     let mut p = q.at;
     let mut sum = q.sizes;
     let mut top = q.top;

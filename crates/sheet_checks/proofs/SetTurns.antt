@@ -18,6 +18,8 @@ use Rattle.levels.specs.declared.Sizes.{Sizes}
 use Rattle.levels.specs.declared.quick.Quick.{Quick}
 use Rattle.levels.specs.declared.Walked.the-variants.{Good}
 use Rattle.levels.specs.Meet.{seriesSizes, plusSizes, Small}
+use Rattle.levels.specs.Going.{quickAt}
+use Rattle.levels.proofs.Walks.{few-more}
 use Rattle.levels.proofs.Turns.{turn-done}
 use Rattle.levels.proofs.Glances.{begun-later}
 use Rattle.levels.proofs.Beyond.{or-false}
@@ -43,12 +45,12 @@ module _ {f : Form} {s : List ℕ} {p : ℕ} {sum : Sizes} {mark : Bool} {top lo
   targets-long = omega (arith, ap length (tail-part (p + 2) s), length-drop (p + 2) s, room)
 
   -- all of them were walked
-  module _ (q : Quick) (g : TargetsPassed f (targetsAt s p) q) (some : q .at ≡ 0 → ⊥) (full : q .at ≡ length (targetsAt s p)) where
+  module _ (q : Quick) (g : TargetsPassed f (targetsAt s p) q) (all : (0 < q .at) × (q .at ≡ length (targetsAt s p))) where
     series-piece : (seen : List ℕ) → Past (peek true false true) s p top low seen → piece.Whole 101 2 0 0 ≡ partPiece set f seen (drop p s)
     unfolding mayStand
     series-piece seen past =
         part-series f seen (drop p s) {b = true} refl {x = is IT (drop p s)} refl (ap (is IT) (mark-says TS (drop p s) (i .marked))) {y = is TS (drop p s)} refl (i .marked)
-        (series-whole f s p {x = is TG (drop (p + 2) s)} refl seen (rw tail-part at (g .3 (omega (arith, some)))) 0
+        (series-whole f s p {x = is TG (drop (p + 2) s)} refl seen (rw tail-part at (g .3 (all .0))) 0
         (standing-0 set f seen 101 true (sym (past .under 101 (i .above))) refl (eqb p 0) (sym (past .first)) (sym (begun-later true f p 101 (i .later)))) refl)
 
     part : PartAt true f s p sum mark top low 101 2 0 0
@@ -64,14 +66,13 @@ module _ {f : Form} {s : List ℕ} {p : ℕ} {sum : Sizes} {mark : Bool} {top lo
     }
 
     told-so : PartTold part (Good (seriesSizes (q .sizes)) false)
-    told-so = series-told part {x = true} refl refl (turn-done (g .0) (omega (arith, full))) refl
+    told-so = series-told part {x = true} refl refl (turn-done (g .0) (omega (arith, all .1))) refl
 
-    -- z is what the code says of its sizes
-    module _ {z : Sizes} (ez : z ≡ seriesSizes (q .sizes)) where
-      pub series-sums : Small sum × Small z
-      series-sums = rw ez (good-small part told-so refl)
+    -- what `after_series` asks for, and what it hands back
+    pub series-asks : Small (q .sizes) × Small sum × Small (seriesSizes (q .sizes))
+    series-asks = let (a, b) = good-small part told-so refl in (few-more (q .sizes) (q .at) 65536 (omega (arith, all .1, targets-long, i .most)) (g .0 .few), a, b)
 
-      pub series-more : {sum′ : Sizes} → sum′ ≡ plusSizes sum z → {low″ : ℕ} → (low″ ≤ low) × (low″ ≤ 101) → RecordsGoing true f s (length s) sum′ mark 101 low″
-      series-more es el =
-          let e : length s ≡ p + seriesSizes (q .sizes) .sheet = omega (arith, g .2, full, targets-long) in
-          rw e (part-more part told-so refl (es ∙ ap (plusSizes sum) ez) (or-false mark refl) (omega (arith, i .above), omega arith) el)
+    pub series-goes : {r : Quick} → (r .low ≤ low) × (r .low ≤ 101) × (r ≡ quickAt (length s) (plusSizes sum (seriesSizes (q .sizes))) mark 101 (r .low)) → RecordsGoing true f s (r .at) (r .sizes) (r .mark) (r .top) (r .low)
+    series-goes (l, m, e) =
+        let n : length s ≡ p + seriesSizes (q .sizes) .sheet = omega (arith, g .2, all .1, targets-long) in
+        rw (e, n) (part-more part told-so refl refl (or-false mark refl) (omega (arith, i .above), omega arith) (l, m))

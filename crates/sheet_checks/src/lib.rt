@@ -1,6 +1,6 @@
 // The whole sheet: `PK`, the form, and the parts.
 ghost use mathlib.Core.Path.{_≡_};
-ghost use Prim.Native.Nat.{_≤_};
+ghost use Prim.Native.Nat.{_≤_, _<_};
 ghost use mathlib.Core.Bool.{true};
 ghost use lib.ListN.{length, take, drop};
 ghost use Rattle.format.specs.Coding.{bytesNumber};
@@ -32,6 +32,16 @@ pub enum Sheeted {
 
 // ---- its set
 
+// Whether the quick way went over all of so many bytes of targets, and there are any.
+fn is_all(w: Quick, n: usize) -> bool
+    ensures { λ r. ⌜ (r ≡ true → (0 < w .at) × (w .at ≡ n)) ⌝ }
+{
+    if w.at == 0 {
+        return false;
+    }
+    w.at == n
+}
+
 // On over the series, if it ends the set and all its targets are told at a glance. It is told to be new: items stand before it, and none has
 // a tag so high.
 fn series(glances: &[u32], s: &[u8], alone: bool, q: Quick) -> Quick
@@ -49,15 +59,18 @@ fn series(glances: &[u32], s: &[u8], alone: bool, q: Quick) -> Quick
         return q;
     }
     let t = &s[p + 2..];
-    let w = targets::targets(glances, t, alone);
-    if w.at == 0 {
-        return q;
+    let mut none = [0u64; 1];
+    let w = targets::many(glances, t, alone, &mut none[0..0]);
+    if is_all(w, t.len()) {
+        return levels::quick::after_series(q, s.len(), w.sizes);
     }
-    if w.at != t.len() {
-        return q;
+    if targets::is_between(t, w) {
+        let d = targets::strewn(glances, &t[0..], alone);
+        if is_all(d, t.len()) {
+            return levels::quick::after_series(q, s.len(), d.sizes);
+        }
     }
-    let sum = levels::weights::plus(q.sizes, levels::weights::series_sizes(w.sizes));
-    levels::quick::stands(s.len(), sum, q.mark, 101, levels::smaller(q.low, 101))
+    q
 }
 
 // Whether the first record may begin a set.

@@ -13,8 +13,8 @@ ghost use Rattle.skims.specs.Going.{TargetsPassed};
 ghost use Rattle.skims.specs.Targets.{Laid, Held, Over, Modelled};
 use super::quick;
 use levels::Sizes;
-use series::Model;
 use levels::quick::Quick;
+use series::Model;
 
 // A target's records told at a glance, as `quick::run` goes over them, and marked while there is room: whatever is laid out so is walked so.
 fn lay(glances: &[u32], s: &[u8], alone: bool, marks: &mut [u8; 160]) -> Quick
@@ -104,8 +104,8 @@ pub fn passed(p: usize, rows: usize, normal: usize, top: u64, low: u64) -> Quick
 }
 
 // The targets whose ids have one or two bytes in a packet, whose records are all told at a glance, and whose packs have a byte for their length,
-// one after another, from the series' start: ids rising or falling, or noted in the bits lent.
-fn many(glances: &[u32], s: &[u8], alone: bool, bits: &mut [u64]) -> Quick
+// one after another, from the series' start: ids rising or falling, or noted in the bits lent, of which most series need none.
+pub fn many(glances: &[u32], s: &[u8], alone: bool, bits: &mut [u64]) -> Quick
     requires { ⌜ (now glances ≡ glanceTable) × (length (now s) ≤ 65536) ⌝ }
     ensures { λ r. ⌜ TargetsPassed (formOf alone) (now (s .entry)) r ⌝ }
 {
@@ -161,7 +161,7 @@ fn many(glances: &[u32], s: &[u8], alone: bool, bits: &mut [u64]) -> Quick
 }
 
 // The same where ids neither rise nor fall: the first 4,096 are noted.
-fn strewn(glances: &[u32], s: &[u8], alone: bool) -> Quick
+pub fn strewn(glances: &[u32], s: &[u8], alone: bool) -> Quick
     requires { ⌜ (now glances ≡ glanceTable) × (length (now s) ≤ 65536) ⌝ }
     ensures { λ r. ⌜ TargetsPassed (formOf alone) (now (s .entry)) r ⌝ }
 {
@@ -169,8 +169,8 @@ fn strewn(glances: &[u32], s: &[u8], alone: bool) -> Quick
     many(glances, s, alone, &mut bits)
 }
 
-// Whether it was an id neither above nor below all before that ended it.
-fn is_between(s: &[u8], q: Quick) -> bool
+// Whether it was an id neither above nor below all before that ended the quick way.
+pub fn is_between(s: &[u8], q: Quick) -> bool
     requires { ⌜ q .at ≤ length (now s) ⌝ }
 {
     let at = q.at;
@@ -182,17 +182,4 @@ fn is_between(s: &[u8], q: Quick) -> bool
         return false;
     }
     id <= q.top
-}
-
-// Targets told at a glance from the series' start. Most series have ids that rise, and nothing is noted for them.
-pub fn targets(glances: &[u32], s: &[u8], alone: bool) -> Quick
-    requires { ⌜ (now glances ≡ glanceTable) × (length (now s) ≤ 65536) ⌝ }
-    ensures { λ r. ⌜ TargetsPassed (formOf alone) (now (s .entry)) r ⌝ }
-{
-    let mut none = [0u64; 1];
-    let q = many(glances, s, alone, &mut none[0..0]);
-    if is_between(s, q) {
-        return strewn(glances, &s[0..], alone);
-    }
-    q
 }

@@ -68,8 +68,7 @@ put-edited-requires c κs =
     let o = c .before .before .before in
     let g = o .before .before in
     let z = g .before .before in
-    let i = z .before .before .before .before .before .before in
-    (
+    let i = z .before .before .before .before .before .before in (
       i .pre .1,
       i .pre .0,
       rest-room (packs-fit (edit-packs _ _ _ _ _ (z .before .edited-size .ensures) (z .frame-size .ensures)) (i .args .out .now) (g .before .if1 .left) (g .if2 .left)) (o .«open» .ensures) refl,

@@ -36,7 +36,7 @@ use Rattle.heads.proofs.records.is_mark.Reads as is-mark-reads
 use Rattle.skims.proofs.goes_on.Reads as goes-on-reads
 use Rattle.records.proofs.higher.Reads as higher-reads
 use Rattle.skims.proofs.quick.run.Reads as run-reads
-use Rattle.skims.proofs.targets.targets.Reads as targets-reads
+use Rattle.skims.proofs.targets.strewn.Reads as strewn-reads
 use Rattle.levels.proofs.later.Reads as later-reads
 use Rattle.records.proofs.part_at.Reads as part-at-reads
 use Rattle.levels.proofs.series_of.Reads as series-of-reads
@@ -92,7 +92,7 @@ abbrev item-claims : ℕ → item-records-lts.Claims
 item-claims t = (goes-on-reads.Asked, goes-on-reads.Learnt, part-at-reads.Asked, part-at-reads.Learnt, stop-reads.Asked, stop-reads.Learnt, is-series-reads.Asked, is-series-reads.Learnt, target-records-below t, target-records.Post, series-of-reads.Asked, series-of-reads.Learnt, one-item-reads.Asked, one-item-reads.Learnt, later-reads.Asked, later-reads.Learnt, plus-reads.Asked, plus-reads.Learnt, either-reads.Asked, either-reads.Learnt, after-reads.Asked, after-reads.Learnt, larger-reads.Asked, larger-reads.Learnt, smaller-reads.Asked, smaller-reads.Learnt)
 
 abbrev target-claims : ℕ → target-records-lts.Claims
-target-claims t = (targets-reads.Asked, targets-reads.Learnt, is-mark-reads.Asked, is-mark-reads.Learnt, target-at-reads.Asked, target-at-reads.Learnt, stop-reads.Asked, stop-reads.Learnt, run-reads.Asked, run-reads.Learnt, goes-on-reads.Asked, goes-on-reads.Learnt, item-records-below t, item-records.Post, later-reads.Asked, later-reads.Learnt, either-reads.Asked, either-reads.Learnt, oid-width-reads.Asked, oid-width-reads.Learnt, pack-sizes-reads.Asked, pack-sizes-reads.Learnt, plus-reads.Asked, plus-reads.Learnt, after-reads.Asked, after-reads.Learnt, higher-reads.Asked, higher-reads.Learnt, smaller-reads.Asked, smaller-reads.Learnt)
+target-claims t = (strewn-reads.Asked, strewn-reads.Learnt, is-mark-reads.Asked, is-mark-reads.Learnt, target-at-reads.Asked, target-at-reads.Learnt, stop-reads.Asked, stop-reads.Learnt, run-reads.Asked, run-reads.Learnt, goes-on-reads.Asked, goes-on-reads.Learnt, item-records-below t, item-records.Post, later-reads.Asked, later-reads.Learnt, either-reads.Asked, either-reads.Learnt, oid-width-reads.Asked, oid-width-reads.Learnt, pack-sizes-reads.Asked, pack-sizes-reads.Learnt, plus-reads.Asked, plus-reads.Learnt, after-reads.Asked, after-reads.Learnt, higher-reads.Asked, higher-reads.Learnt, smaller-reads.Asked, smaller-reads.Learnt)
 
 abbrev item-records-Inv-loop : item-records-lts.InvT-loop
 item-records-Inv-loop table glances s set alone p₀ sum₀ mark₀ top₀ low₀ clear₀ p sum mark top low clear = RecordsGoing set (formOf alone) s p sum mark top low × Clear (peek true false set) s clear
@@ -259,11 +259,11 @@ target-here t a = record {
   most = a .before .before .before .before .before .before .before .before .before .before .before .before .pre .1 .1;
 }
 
-target-records-targets-requires : (t : ℕ) → target-records-lts.Need-targets-requires (target-claims t) (target-records-at t) target-records.Post target-records-Inv-loop target-records-μ-loop
-target-records-targets-requires t c κs = let k = c .before .before .before .pre .1 in (k .2, k .1)
+target-records-strewn-requires : (t : ℕ) → target-records-lts.Need-strewn-requires (target-claims t) (target-records-at t) target-records.Post target-records-Inv-loop target-records-μ-loop
+target-records-strewn-requires t c κs = let k = c .before .before .before .pre .1 in (k .2, k .1)
 
 target-records-loop-holds : (t : ℕ) → target-records-lts.Need-loop-holds (target-claims t) (target-records-at t) target-records.Post target-records-Inv-loop target-records-μ-loop
-target-records-loop-holds t c = (c .before .targets .ensures .0, clear-none _ _, c .before .targets .ensures .1)
+target-records-loop-holds t c = (c .before .strewn .ensures .0, clear-none _ _, c .before .strewn .ensures .1)
 
 target-records-is-mark-requires : (t : ℕ) → target-records-lts.Need-is-mark-requires (target-claims t) (target-records-at t) target-records.Post target-records-Inv-loop target-records-μ-loop
 target-records-is-mark-requires t c κs = search needs
@@ -407,7 +407,7 @@ pub +item-records+target-records-spec : {M : Type 1} → statement M
     (item-records-plus-requires t) (item-records-either-requires t) (item-records-after-requires t) (item-records-larger-requires t) (item-records-smaller-requires t)
     (item-records-add-p t) (item-records-loop-less t) (item-records-loop-again t) (item-records-returns-4 t))
     (λ t. target-records-lts.spec (target-claims t) (target-records-at t) target-records.Post target-records-Inv-loop target-records-μ-loop
-    (target-records-targets-requires t) (target-records-loop-holds t) (target-records-is-mark-requires t) (target-records-returns t) (target-records-target-at-requires t)
+    (target-records-strewn-requires t) (target-records-loop-holds t) (target-records-is-mark-requires t) (target-records-returns t) (target-records-target-at-requires t)
     (target-records-enum-known-a t) (target-records-enum-told t) (target-records-stop-requires t) (target-records-returns-2 t)
     (target-records-add-from t) (target-records-sub-items t) (target-records-part-items-start t) (target-records-part-items-end t)
     (target-records-run-requires t) (target-records-goes-on-requires t)

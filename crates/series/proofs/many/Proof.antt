@@ -219,8 +219,7 @@ loop-again c =
     let a = c .before .before .before .before .before .before .before .before .before .before in
     let i = c .before .before .before .before .before .before .before .before .before .before .before .before .before .before .before .loop .inv in
     let m = model (c .before) in
-    let f = fresh (c .before .before .before .before .before .before .before .before) in
-    (
+    let f = fresh (c .before .before .before .before .before .before .before .before) in (
       told-more (c .before .before .before .before .before .before .before .before .before .before .before .before .before .before .before .loop .more) (here a) (short a) f (m .2),
       λ e. absurd (omega (arith, e, head-stood (here a) .len)),
       λ _. f .between,

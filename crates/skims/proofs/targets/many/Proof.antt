@@ -250,8 +250,7 @@ loop-again c =
     let j = c .before .before .before .before .before .before .before .before .before .before .before .before .before in
     let v = c .before .before .before .before .before .before in
     let m = model v in
-    let r = fresh j .0 in
-    (
+    let r = fresh j .0 in (
       held-more (here j) (m .2) (m .3) (c .before .before .before .before .before .oid-width .ensures .0, omega (arith, c .before .before .before .before .before .oid-width .ensures .1)) refl (omega (arith, c .before .before .if10 .left)) (r .over) (r .under),
       m .3 .next,
       λ e. absurd (omega (arith, e)),

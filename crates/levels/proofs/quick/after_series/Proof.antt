@@ -1,8 +1,8 @@
--- `sets::after_series` meets its contract.
+-- `quick::after_series` meets its contract.
 use mathlib.Core.Path.{refl}
 use borrow.Author.Needs.{needs}
-use Rattle.checks.proofs.sets.after_series.Statement.{statement}
-use Rattle.checks.proofs.sets.after_series.Tie as tie
+use Rattle.levels.proofs.quick.after_series.Statement.{statement}
+use Rattle.levels.proofs.quick.after_series.Tie as tie
 
 series-sizes-requires : tie.Need-series-sizes-requires
 series-sizes-requires c κs = c .pre .0

@@ -229,6 +229,7 @@ pub struct Next {
     pub used: usize,
 }
 
+// What is next: in a sheet or a packet, by its id or by its tag.
 pub fn next_of(s: &[u8], sheet: bool, ids: bool, set: bool) -> Next
     ensures { λ r. ⌜ Peeked (peek sheet ids set) (now (s .entry)) (r .key) (r .used) ⌝ }
 {

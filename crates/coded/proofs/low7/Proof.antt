@@ -1,4 +1,4 @@
--- `stores::coded::low7` meets its contract.
+-- `coded::low7` meets its contract.
 use native.Mathlib.Omega.{arith}
 use Rattle.coded.proofs.Codings.{low-bits}
 use Rattle.coded.proofs.low7.Statement.{statement}

@@ -1,4 +1,4 @@
--- `stores::coded::marked7` meets its contract.
+-- `coded::marked7` meets its contract.
 use borrow.Author.Needs.{needs}
 use Rattle.coded.proofs.Codings.{marked-bits}
 use Rattle.coded.proofs.marked7.Statement.{statement}

@@ -1,4 +1,4 @@
--- `stores::coded::put_len` meets its contract.
+-- `coded::put_len` meets its contract.
 use mathlib.Core.Path.{ap, _∙_}
 use native.Mathlib.Omega.{arith}
 use lib.ListN.{length, length-set}

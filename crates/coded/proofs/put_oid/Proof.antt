@@ -1,4 +1,4 @@
--- `stores::coded::put_oid` meets its contract: the last byte, and then in the loop the others.
+-- `coded::put_oid` meets its contract: the last byte, and then in the loop the others.
 use Prim.Native.Nat.{_≤_}
 use native.Mathlib.Omega.{arith}
 use native.Mathlib.Nat.{le-refl}

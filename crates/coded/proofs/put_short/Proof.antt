@@ -1,4 +1,4 @@
--- `stores::coded::put_short` meets its contract: the tag, the length, and the value, one after another.
+-- `coded::put_short` meets its contract: the tag, the length, and the value, one after another.
 use native.Mathlib.Omega.{arith}
 use borrow.Author.Needs.{needs}
 use Rattle.coded.proofs.Codings.{short-total, short-stored}

@@ -1,4 +1,4 @@
--- `stores::coded::short_of` meets its contract.
+-- `coded::short_of` meets its contract.
 use borrow.Author.Needs.{needs}
 use Rattle.coded.proofs.Shortest.{first-keeps, short-by}
 use Rattle.coded.proofs.short_of.Statement.{statement}

@@ -1,4 +1,4 @@
--- `edits::puts::edited_size` meets its contract.
+-- `puts::edited_size` meets its contract.
 use Rattle.items.specs.Meet.{formOf}
 use Rattle.edits.proofs.Storing.{ordered-more, item-fits, edited-long}
 use Rattle.puts.proofs.edited_size.Statement.{statement}

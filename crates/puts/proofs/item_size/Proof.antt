@@ -1,4 +1,4 @@
--- `edits::puts::item_size` meets its contract.
+-- `puts::item_size` meets its contract.
 use native.Mathlib.Omega.{arith}
 use Rattle.items.specs.Meet.{levelOf}
 use Rattle.coded.proofs.Shortest.{short-less}

@@ -1,4 +1,4 @@
--- `edits::puts::put_edited` meets its contract.
+-- `puts::put_edited` meets its contract.
 use borrow.Author.Needs.{needs}
 use Rattle.items.specs.Meet.{formOf}
 use Rattle.edits.specs.Meet.{changeOf}

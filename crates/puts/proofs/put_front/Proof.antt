@@ -1,4 +1,4 @@
--- `edits::puts::put_front` meets its contract.
+-- `puts::put_front` meets its contract.
 use native.Mathlib.Omega.{arith}
 use borrow.Author.Needs.{needs}
 use Rattle.coding.proofs.Counts.{len-most}

@@ -1,4 +1,4 @@
--- `edits::puts::put_item` meets its contract: the last bytes of the value are its shortest form.
+-- `puts::put_item` meets its contract: the last bytes of the value are its shortest form.
 use native.Mathlib.Omega.{arith}
 use borrow.Author.Needs.{needs}
 use Rattle.items.specs.Meet.{levelOf}

@@ -1,4 +1,4 @@
--- `edits::puts::runs_size` meets its contract.
+-- `puts::runs_size` meets its contract.
 use native.Mathlib.Omega.{arith}
 use borrow.Author.Needs.{needs}
 use Rattle.coding.proofs.Counts.{len-most}

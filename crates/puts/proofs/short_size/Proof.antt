@@ -1,4 +1,4 @@
--- `edits::puts::short_size` meets its contract.
+-- `puts::short_size` meets its contract.
 use borrow.Author.Needs.{needs}
 use Rattle.items.specs.Meet.{levelOf}
 use Rattle.edits.proofs.Storing.{none-put, some-bytes, all-put, some-put}

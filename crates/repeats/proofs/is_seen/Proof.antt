@@ -1,4 +1,4 @@
--- `heads::is_seen` meets its contract: by the record's bounds, as no key repeats, or by looking back.
+-- `repeats::is_seen` meets its contract: by the record's bounds, as no key repeats, or by looking back.
 use mathlib.Core.Path.{sym, _∙_}
 use borrow.Author.Needs.{needs}
 use Rattle.repeats.proofs.Clears.{clear-past}

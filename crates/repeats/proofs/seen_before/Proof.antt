@@ -1,4 +1,4 @@
--- `heads::seen_before` meets its contract: the loop passes what heads the first p bytes, one after the other.
+-- `repeats::seen_before` meets its contract: the loop passes what heads the first p bytes, one after the other.
 use Prim.Native.Nat.{_-_}
 use native.Mathlib.Omega.{arith}
 use borrow.Author.Needs.{needs}

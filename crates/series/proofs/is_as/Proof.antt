@@ -1,4 +1,4 @@
--- `levels::packs::is_as` meets its contract.
+-- `series::is_as` meets its contract.
 use native.Mathlib.Omega.{arith}
 use lib.ListN.{length-drop}
 use Rattle.format.proofs.words.Answers.{no-bool}

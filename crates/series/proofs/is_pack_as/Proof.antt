@@ -1,4 +1,4 @@
--- `levels::packs::is_pack_as` meets its contract.
+-- `series::is_pack_as` meets its contract.
 use native.Mathlib.Omega.{arith}
 use Rattle.format.proofs.words.Answers.{no-bool}
 use borrow.Author.Needs.{needs}

@@ -1,4 +1,4 @@
--- `levels::packs::lay` meets its contract: each turn is one of `quick::run`, for whatever is laid out so far as the items are.
+-- `series::lay` meets its contract: each turn is one of `quick::run`, for whatever is laid out so far as the items are.
 use mathlib.Core.Path.{refl}
 use Prim.Native.Nat.{_-_}
 use native.Mathlib.Omega.{arith}

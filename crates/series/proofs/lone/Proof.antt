@@ -1,4 +1,4 @@
--- `levels::packs::lone` meets its contract: it is a turn of the pack walk, from its start. `a` is where the pack's head was read.
+-- `series::lone` meets its contract: it is a turn of the pack walk, from its start. `a` is where the pack's head was read.
 use mathlib.Core.Path.{_≡_, refl}
 use Prim.Native.Nat.{_+_, _≤_, _<_}
 use native.Mathlib.Omega.{arith}

@@ -1,4 +1,4 @@
--- `levels::packs::many` meets its contract: each turn is a turn of the pack walk. `a` is where a pack's head was read, `n` where its id was noted.
+-- `series::many` meets its contract: each turn is a turn of the pack walk. `a` is where a pack's head was read, `n` where its id was noted.
 use mathlib.Core.Path.{_≡_, refl, sym, ap}
 use mathlib.Core.Bool.{true, false}
 use mathlib.Core.Logic.{⊎-elim}

@@ -1,4 +1,4 @@
--- `levels::packs::model_of` meets its contract.
+-- `series::model_of` meets its contract.
 use mathlib.Core.Path.{sym, _∙_}
 use native.Mathlib.Omega.{arith}
 use borrow.Author.Tests.{not-false}

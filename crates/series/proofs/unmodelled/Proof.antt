@@ -1,4 +1,4 @@
--- `levels::packs::unmodelled` meets its contract.
+-- `series::unmodelled` meets its contract.
 use mathlib.Core.Path.{refl, sym, _∙_}
 use native.Mathlib.Omega.{arith}
 use borrow.Author.Tests.{not-false}

@@ -1,4 +1,4 @@
--- `whole::check` meets its contract: each way out is a case of `unsheet`.
+-- `sheet_checks::check` meets its contract: each way out is a case of `unsheet`.
 -- In each answer k is where the form was read.
 use native.Mathlib.Omega.{arith}
 use borrow.Author.Needs.{needs}

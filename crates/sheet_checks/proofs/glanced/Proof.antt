@@ -1,4 +1,4 @@
--- `whole::glanced` meets its contract.
+-- `sheet_checks::glanced` meets its contract.
 use borrow.Author.Needs.{needs}
 use borrow.Author.Tests.{not-false}
 use Rattle.skims.proofs.PartTurns.{records-start}

@@ -1,4 +1,4 @@
--- `whole::set_records` meets its contract: what was walked is all, or the walk over the set begins anew.
+-- `sheet_checks::set_records` meets its contract: what was walked is all, or the walk over the set begins anew.
 use native.Mathlib.Omega.{arith}
 use lib.ListN.{length}
 use Rattle.coding.proofs.Rooms.{tail-part}

@@ -1,4 +1,4 @@
--- `whole::starts` meets its contract.
+-- `sheet_checks::starts` meets its contract.
 use mathlib.Core.Path.{sym, _∙_}
 use borrow.Author.Needs.{needs}
 use Rattle.format.proofs.words.Answers.{no-bool}

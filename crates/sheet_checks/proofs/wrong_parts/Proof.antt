@@ -1,4 +1,4 @@
--- `whole::wrong_parts` meets its contract.
+-- `sheet_checks::wrong_parts` meets its contract.
 use mathlib.Core.Path.{sym, ap, subst}
 use native.Mathlib.Omega.{arith}
 use borrow.Author.Needs.{needs}

@@ -1,4 +1,4 @@
--- `records::goes_on` meets its contract.
+-- `skims::goes_on` meets its contract.
 use borrow.Author.Needs.{needs}
 use Rattle.skims.proofs.goes_on.Statement.{statement}
 use Rattle.skims.proofs.goes_on.Tie as tie

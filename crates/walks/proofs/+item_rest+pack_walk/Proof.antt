@@ -1,4 +1,4 @@
--- `levels::item_rest` and `levels::pack_walk` meet their contracts: each turn moves one item or pack from what is to come to what was walked.
+-- `walks::item_rest` and `walks::pack_walk` meet their contracts: each turn moves one item or pack from what is to come to what was walked.
 -- In the item walk's answers `a` is where an item was read; in the pack walk's `a` is where a pack's head was, and `e` where its id was found to be new.
 use mathlib.Core.Path.{refl, ap, _∙_}
 use mathlib.Core.Bool.{true, false}

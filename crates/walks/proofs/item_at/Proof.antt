@@ -1,4 +1,4 @@
--- `levels::item_at` meets its contract: each way out is a case of `item`.
+-- `walks::item_at` meets its contract: each way out is a case of `item`.
 -- In each answer h is where the head was taken apart, and k where the item was found to stand.
 use mathlib.Core.Path.{sym}
 use native.Mathlib.Omega.{arith}

@@ -1,4 +1,4 @@
--- `levels::item_walk` meets its contract.
+-- `walks::item_walk` meets its contract.
 use Rattle.walks.proofs.item_walk.Statement.{statement}
 use Rattle.walks.proofs.item_walk.Tie as tie
 

@@ -1,4 +1,4 @@
--- `levels::piece_fault` meets its contract.
+-- `walks::piece_fault` meets its contract.
 use mathlib.Core.Path.{sym, ap}
 use borrow.Author.Needs.{needs}
 use Rattle.levels.specs.Meet.{pieceFault}

@@ -1,4 +1,4 @@
--- `records::quick::glance` meets its contract: where it has nothing to tell it says nothing.
+-- `skims::quick::glance` meets its contract: where it has nothing to tell it says nothing.
 use mathlib.Core.Path.{refl}
 use native.Mathlib.Omega.{arith}
 use borrow.Author.Needs.{needs}

@@ -1,4 +1,4 @@
--- `records::quick::glance_begun` meets its contract.
+-- `skims::quick::glance_begun` meets its contract.
 use mathlib.Core.Path.{sym, _∙_}
 use native.Mathlib.Omega.{arith}
 use borrow.Author.Needs.{needs}

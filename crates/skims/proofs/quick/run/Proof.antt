@@ -1,4 +1,4 @@
--- `records::quick::run` meets its contract: each turn is a turn of the walk.
+-- `skims::quick::run` meets its contract: each turn is a turn of the walk.
 use Prim.Native.Nat.{_-_, _*_, _≤_}
 use mathlib.Core.Path.{refl}
 use native.Mathlib.Omega.{arith}

@@ -1,4 +1,4 @@
--- `records::targets::is_over` meets its contract.
+-- `skims::targets::is_over` meets its contract.
 use mathlib.Core.Path.{sym, _∙_}
 use native.Mathlib.Omega.{arith}
 use borrow.Author.Needs.{needs}

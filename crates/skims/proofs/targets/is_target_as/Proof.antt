@@ -1,4 +1,4 @@
--- `records::targets::is_target_as` meets its contract.
+-- `skims::targets::is_target_as` meets its contract.
 use native.Mathlib.Omega.{arith}
 use borrow.Author.Tests.{not-false}
 use Rattle.format.proofs.words.Answers.{no-bool}

@@ -1,4 +1,4 @@
--- `records::targets::lay` meets its contract: each turn is one of `quick::run`, for whatever is laid out so far as the records are.
+-- `skims::targets::lay` meets its contract: each turn is one of `quick::run`, for whatever is laid out so far as the records are.
 use mathlib.Core.Path.{_≡_, refl, _∙_}
 use mathlib.Core.Logic.{⊎-elim}
 use mathlib.Core.Bool.{false}

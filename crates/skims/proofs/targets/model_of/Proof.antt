@@ -1,4 +1,4 @@
--- `records::targets::model_of` meets its contract.
+-- `skims::targets::model_of` meets its contract.
 use mathlib.Core.Path.{sym, _∙_}
 use native.Mathlib.Omega.{arith}
 use lib.ListN.{length-drop}

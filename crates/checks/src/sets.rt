@@ -42,17 +42,13 @@ fn is_series_next(p: usize, top: u64, tag: u64, size: usize) -> bool
     tag == 101
 }
 
-// The packs of a series, from where the quick way over them ended: by the other quick way if it was an id that ended it, then one by one.
+// The packs of a series one by one, from where the quick way over them ended.
 fn packs_rest(glances: &[u32], s: &[u8], alone: bool, q: Quick) -> Walked
     requires { ⌜ (now glances ≡ glanceTable) × (length (now s) ≤ 8192) × SeriesGoing (formOf alone) (now s) (q .at) (q .sizes) (q .top) (q .low) ⌝ }
     ensures { λ r. ⌜ (r ≡ seriesWalk (formOf alone) (now (s .entry))) × Within r (length (now (s .entry))) ⌝ }
 {
     let table = items::table();
     // lent on as a part, so that the compiler keeps the slice itself in registers
-    if series::is_between(s, q) {
-        let d = series::strewn(glances, &s[0..], alone);
-        return walks::pack_walk(&table, glances, &s[0..], alone, d);
-    }
     walks::pack_walk(&table, glances, &s[0..], alone, q)
 }
 
@@ -85,8 +81,7 @@ fn series(glances: &[u32], s: &[u8], alone: bool, q: Quick) -> Quick
         }
         return q;
     }
-    let mut none = [0u64; 1];
-    let d = series::many(glances, packs, alone, &mut none[0..0]);
+    let d = series::packs(glances, packs, alone);
     // no enum goes through memory where all are told at a glance
     if d.at == packs.len() {
         return quick::after_series(q, next, d.sizes);

@@ -148,9 +148,9 @@ fn passed(p: usize, rows: usize, more: usize, top: u64, low: u64) -> Quick
 }
 
 // The packs whose length has one byte and whose id has one or two, and whose items are all told at a glance, one after another, from a series'
-// start: ids rising or falling, or noted in the bits lent, of which most series need none. Beside as many bytes as such a pack has, its sheet has four for each row, and five less
+// start: ids rising or falling, or noted in the bits lent. Beside as many bytes as such a pack has, its sheet has four for each row, and five less
 // those of its id.
-pub fn many(glances: &[u32], s: &[u8], alone: bool, bits: &mut [u64]) -> Quick
+fn many(glances: &[u32], s: &[u8], alone: bool, bits: &mut [u64]) -> Quick
     requires { ⌜ (now glances ≡ glanceTable) × (length (now s) ≤ 8192) ⌝ }
     ensures { λ r. ⌜ SeriesGoing (formOf alone) (now (s .entry)) (r .at) (r .sizes) (r .top) (r .low) ⌝ }
 {
@@ -211,7 +211,7 @@ pub fn many(glances: &[u32], s: &[u8], alone: bool, bits: &mut [u64]) -> Quick
 }
 
 // The same where ids neither rise nor fall: the first 4,096 are noted.
-pub fn strewn(glances: &[u32], s: &[u8], alone: bool) -> Quick
+fn strewn(glances: &[u32], s: &[u8], alone: bool) -> Quick
     requires { ⌜ (now glances ≡ glanceTable) × (length (now s) ≤ 8192) ⌝ }
     ensures { λ r. ⌜ SeriesGoing (formOf alone) (now (s .entry)) (r .at) (r .sizes) (r .top) (r .low) ⌝ }
 {
@@ -219,8 +219,8 @@ pub fn strewn(glances: &[u32], s: &[u8], alone: bool) -> Quick
     many(glances, s, alone, &mut bits)
 }
 
-// Whether it was an id neither above nor below all before that ended the quick way.
-pub fn is_between(s: &[u8], q: Quick) -> bool
+// Whether it was an id neither above nor below all before that ended it.
+fn is_between(s: &[u8], q: Quick) -> bool
     requires { ⌜ q .at ≤ length (now s) ⌝ }
 {
     let at = q.at;
@@ -238,6 +238,19 @@ pub fn is_between(s: &[u8], q: Quick) -> bool
         return false;
     }
     key <= q.top
+}
+
+// Packs told at a glance from a series' start. Most series have ids that rise, and nothing is noted for them.
+pub fn packs(glances: &[u32], s: &[u8], alone: bool) -> Quick
+    requires { ⌜ (now glances ≡ glanceTable) × (length (now s) ≤ 8192) ⌝ }
+    ensures { λ r. ⌜ SeriesGoing (formOf alone) (now (s .entry)) (r .at) (r .sizes) (r .top) (r .low) ⌝ }
+{
+    let mut none = [0u64; 1];
+    let q = many(glances, s, alone, &mut none[0..0]);
+    if is_between(s, q) {
+        return strewn(glances, &s[0..], alone);
+    }
+    q
 }
 
 // The same of a series of one pack, for which no model is laid out: apart, so that it stands where it is called.

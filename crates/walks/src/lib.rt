@@ -134,7 +134,7 @@ pub fn item_rest(
                     glances,
                     packs,
                     alone,
-                    series::strewn(glances, packs, alone),
+                    series::packs(glances, packs, alone),
                 ),
                 from,
             )

@@ -37,7 +37,7 @@ use Rattle.walks.proofs.piece_fault.Reads as piece-fault-reads
 use Rattle.levels.proofs.weights.pack_sizes.Reads as pack-sizes-reads
 use Rattle.levels.proofs.weights.plus.Reads as plus-reads
 use Rattle.levels.proofs.quick.onward.Reads as onward-reads
-use Rattle.series.proofs.strewn.Reads as strewn-reads
+use Rattle.series.proofs.packs.Reads as packs-reads
 use Rattle.levels.proofs.quick.run.Reads as run-reads
 use Rattle.levels.proofs.series_of.Reads as series-of-reads
 use Rattle.levels.proofs.smaller.Reads as smaller-reads
@@ -68,7 +68,7 @@ pack-walk-below t =
 
 -- what is known of the callees, the other walk's at a smaller measure
 abbrev item-claims : ℕ → item-rest-lts.Claims
-item-claims t = (onward-reads.Asked, onward-reads.Learnt, item-at-reads.Asked, item-at-reads.Learnt, stop-reads.Asked, stop-reads.Learnt, is-series-reads.Asked, is-series-reads.Learnt, strewn-reads.Asked, strewn-reads.Learnt, pack-walk-below t, pack-walk.Post, series-of-reads.Asked, series-of-reads.Learnt, one-item-reads.Asked, one-item-reads.Learnt, later-reads.Asked, later-reads.Learnt, plus-reads.Asked, plus-reads.Learnt, either-reads.Asked, either-reads.Learnt, after-reads.Asked, after-reads.Learnt, larger-reads.Asked, larger-reads.Learnt, smaller-reads.Asked, smaller-reads.Learnt)
+item-claims t = (onward-reads.Asked, onward-reads.Learnt, item-at-reads.Asked, item-at-reads.Learnt, stop-reads.Asked, stop-reads.Learnt, is-series-reads.Asked, is-series-reads.Learnt, packs-reads.Asked, packs-reads.Learnt, pack-walk-below t, pack-walk.Post, series-of-reads.Asked, series-of-reads.Learnt, one-item-reads.Asked, one-item-reads.Learnt, later-reads.Asked, later-reads.Learnt, plus-reads.Asked, plus-reads.Learnt, either-reads.Asked, either-reads.Learnt, after-reads.Asked, after-reads.Learnt, larger-reads.Asked, larger-reads.Learnt, smaller-reads.Asked, smaller-reads.Learnt)
 
 abbrev pack-claims : ℕ → pack-walk-lts.Claims
 pack-claims t = (quick-pack-head-reads.Asked, quick-pack-head-reads.Learnt, piece-fault-reads.Asked, piece-fault-reads.Learnt, stop-reads.Asked, stop-reads.Learnt, is-seen-reads.Asked, is-seen-reads.Learnt, run-reads.Asked, run-reads.Learnt, item-rest-below t, item-rest.Post, later-reads.Asked, later-reads.Learnt, either-reads.Asked, either-reads.Learnt, pack-sizes-reads.Asked, pack-sizes-reads.Learnt, plus-reads.Asked, plus-reads.Learnt, after-reads.Asked, after-reads.Learnt, larger-reads.Asked, larger-reads.Learnt, smaller-reads.Asked, smaller-reads.Learnt)
@@ -147,16 +147,16 @@ item-rest-part-packs-start t c = omega (arith, item-room t (c .before .before .b
 item-rest-part-packs-end : (t : ℕ) → item-rest-lts.Need-part-packs-end (item-claims t) (item-rest-at t) item-rest.Post item-rest-Inv-loop item-rest-μ-loop
 item-rest-part-packs-end t c = omega (arith, item-room t (c .before .before .before))
 
-item-rest-strewn-requires : (t : ℕ) → item-rest-lts.Need-strewn-requires (item-claims t) (item-rest-at t) item-rest.Post item-rest-Inv-loop item-rest-μ-loop
-item-rest-strewn-requires t c κs =
+item-rest-packs-requires : (t : ℕ) → item-rest-lts.Need-packs-requires (item-claims t) (item-rest-at t) item-rest.Post item-rest-Inv-loop item-rest-μ-loop
+item-rest-packs-requires t c κs =
     let a = c .before .before .before .before in
     (a .before .before .before .before .before .before .before .before .before .before .pre .1 .3, omega (arith, value-long (item-here t a), item-room t a, a .before .before .before .before .before .before .before .before .before .before .pre .1 .1))
 
 item-rest-pack-walk-requires : (t : ℕ) → item-rest-lts.Need-pack-walk-requires (item-claims t) (item-rest-at t) item-rest.Post item-rest-Inv-loop item-rest-μ-loop
 item-rest-pack-walk-requires t c κs =
     let a = c .before .before .before .before .before in
-    let (b, l) = item-rest-strewn-requires t (c .before) (κs .0, (κs .1 .0, tt)) in
-    (omega (arith, series-deep (a .before .before .before .before .before .before .before .before .before .before .args .set) (a .a .given .0 .0) (c .before .before .before .is-series .ensures) (c .before .before .if1 .taken), a .before .before .before .before .before .before .before .before .before .before .pre .0), (a .before .before .before .before .before .before .before .before .before .before .pre .1 .0, l, c .strewn .ensures, b))
+    let (b, l) = item-rest-packs-requires t (c .before) (κs .0, (κs .1 .0, tt)) in
+    (omega (arith, series-deep (a .before .before .before .before .before .before .before .before .before .before .args .set) (a .a .given .0 .0) (c .before .before .before .is-series .ensures) (c .before .before .if1 .taken), a .before .before .before .before .before .before .before .before .before .before .pre .0), (a .before .before .before .before .before .before .before .before .before .before .pre .1 .0, l, c .packs2 .ensures, b))
 
 item-rest-series-of-requires : (t : ℕ) → item-rest-lts.Need-series-of-requires (item-claims t) (item-rest-at t) item-rest.Post item-rest-Inv-loop item-rest-μ-loop
 item-rest-series-of-requires t c κs =
@@ -356,7 +356,7 @@ pub +item-rest+pack-walk-spec : {M : Type 1} → statement M
     (item-rest-onward-requires t) (item-rest-loop-holds t) (item-rest-item-at-requires t) (item-rest-enum-known-a t) (item-rest-enum-told t)
     (item-rest-stop-requires t) (item-rest-returns t) (item-rest-add-at t) (item-rest-add-next t)
     (item-rest-is-series-requires t) (item-rest-sub-packs t) (item-rest-part-packs-start t) (item-rest-part-packs-end t)
-    (item-rest-strewn-requires t) (item-rest-pack-walk-requires t) (item-rest-series-of-requires t) (item-rest-one-item-requires t) (item-rest-enum-known-w t)
+    (item-rest-packs-requires t) (item-rest-pack-walk-requires t) (item-rest-series-of-requires t) (item-rest-one-item-requires t) (item-rest-enum-known-w t)
     (item-rest-enum-told-2 t) (item-rest-later-requires t) (item-rest-returns-2 t) (item-rest-plus-requires t)
     (item-rest-either-requires t) (item-rest-after-requires t) (item-rest-larger-requires t) (item-rest-smaller-requires t) (item-rest-loop-less t)
     (item-rest-loop-again t) (item-rest-returns-3 t))

@@ -15,14 +15,14 @@ use Rattle.checks.proofs.sets.series.Reads as reads
 use Rattle.checks.proofs.sets.series.Lts as lts
 use Rattle.series.proofs.is_lone.Reads as is-lone-reads
 use Rattle.series.proofs.lone.Reads as lone-reads
-use Rattle.series.proofs.many.Reads as many-reads
+use Rattle.series.proofs.packs.Reads as packs-reads
 use Rattle.levels.proofs.quick.after_series.Reads as after-series-reads
 use Rattle.checks.proofs.sets.head_at.Reads as head-at-reads
 use Rattle.checks.proofs.sets.is_series_next.Reads as is-series-next-reads
 use Rattle.checks.proofs.sets.packs_rest.Reads as packs-rest-reads
 
 abbrev claims : lts.Claims
-claims = (head-at-reads.Asked, head-at-reads.Learnt, is-series-next-reads.Asked, is-series-next-reads.Learnt, is-lone-reads.Asked, is-lone-reads.Learnt, lone-reads.Asked, lone-reads.Learnt, after-series-reads.Asked, after-series-reads.Learnt, many-reads.Asked, many-reads.Learnt, packs-rest-reads.Asked, packs-rest-reads.Learnt)
+claims = (head-at-reads.Asked, head-at-reads.Learnt, is-series-next-reads.Asked, is-series-next-reads.Learnt, is-lone-reads.Asked, is-lone-reads.Learnt, lone-reads.Asked, lone-reads.Learnt, after-series-reads.Asked, after-series-reads.Learnt, packs-reads.Asked, packs-reads.Learnt, packs-rest-reads.Asked, packs-rest-reads.Learnt)
 
 abbrev Head-read : Type 0
 Head-read = lts.After-h claims reads.Pre reads.Post
@@ -110,38 +110,28 @@ returns-4 c = c .before .before .before .before .before .before .before .before 
 
 -- ---- all packs are told at a glance
 
-sub-many : tie.Need-sub-many
-sub-many c = search needs
-
-part-none-start : tie.Need-part-none-start
-part-none-start c = search needs
-
-part-none-end : tie.Need-part-none-end
-part-none-end c = search needs
-
-many-requires : tie.Need-many-requires
-many-requires c κs =
-    let p = c .before .before .before in
+packs-requires : tie.Need-packs-requires
+packs-requires c κs =
+    let p = c .before .before in
     let a = p .before .before .before .before in
     (a .before .before .before .before .before .pre .0, omega (arith, packs-long (here a) (next p), room a))
 
 after-series-requires-2 : tie.Need-after-series-requires-2
 after-series-requires-2 c κs =
-    let p = c .before .before .before .before .before .before .before in
-    series-asks (here (p .before .before .before .before)) (next p) (turn-done (c .before .before .before .many .ensures) (omega (arith, c .if4 .taken))) refl
+    let p = c .before .before .before .before .before in
+    series-asks (here (p .before .before .before .before)) (next p) (turn-done (c .before .before .packs2 .ensures) (omega (arith, c .if4 .taken))) refl
 
 returns-5 : tie.Need-returns-5
 returns-5 c =
-    let p = c .before .before .before .before .before .before .before .before in
-    series-goes (here (p .before .before .before .before)) (next p) (turn-done (c .before .before .before .before .many .ensures) (omega (arith, c .before .if4 .taken))) refl (c .after-series2 .ensures)
+    let p = c .before .before .before .before .before .before in
+    series-goes (here (p .before .before .before .before)) (next p) (turn-done (c .before .before .before .packs2 .ensures) (omega (arith, c .before .if4 .taken))) refl (c .after-series2 .ensures)
 
 -- ---- the rest one by one
 
 packs-rest-requires : tie.Need-packs-rest-requires
 packs-rest-requires c κs =
-    let p = c .before .before .before .before .before .before .before in
-    let a = p .before .before .before .before in
-    (a .before .before .before .before .before .pre .0, omega (arith, packs-long (here a) (next p), room a), c .before .before .before .many .ensures)
+    let (g, m) = packs-requires (c .before .before .before) (κs .0, (κs .1 .0, tt)) in
+    (g, m, c .before .before .packs2 .ensures)
 
 enum-known-w : tie.Need-enum-known-w
 enum-known-w c = search needs
@@ -150,16 +140,16 @@ enum-told-2 : tie.Need-enum-told-2
 enum-told-2 c = search needs
 
 returns-6 : tie.Need-returns-6
-returns-6 c = c .before .before .before .before .before .before .before .before .before .before .before .before .before .before .before .before .before .before .before .pre .2
+returns-6 c = c .before .before .before .before .before .before .before .before .before .before .before .before .before .before .before .before .before .pre .2
 
 after-series-requires-3 : tie.Need-after-series-requires-3
 after-series-requires-3 c κs =
-    let p = c .before .before .before .before .before .before .before .before .before .before .before in
+    let p = c .before .before .before .before .before .before .before .before .before in
     series-asks (here (p .before .before .before .before)) (next p) (c .before .before .before .packs-rest .ensures) (c .before .w .given .1)
 
 returns-7 : tie.Need-returns-7
 returns-7 c =
-    let p = c .before .before .before .before .before .before .before .before .before .before .before .before in
+    let p = c .before .before .before .before .before .before .before .before .before .before in
     series-goes (here (p .before .before .before .before)) (next p) (c .before .before .before .before .packs-rest .ensures) (c .before .before .w .given .1) (c .after-series3 .ensures)
 
 pub series-spec : {M : Type 1} → statement M
@@ -183,10 +173,7 @@ series-spec =
     after-series-requires
     returns-3
     returns-4
-    sub-many
-    part-none-start
-    part-none-end
-    many-requires
+    packs-requires
     after-series-requires-2
     returns-5
     packs-rest-requires

@@ -24,10 +24,13 @@ pub fn is_unnoted(bits: &[u64], key: u64) -> bool
     !is_noted(bits, key)
 }
 
-// Notes a key, if it has a bit.
+// Notes a key, if it has a bit. Where none are lent, one test says so.
 pub fn note(bits: &mut [u64], key: u64)
     ensures { λ r. ⌜ Noting (now (bits .entry)) (now (bits .exit)) key ⌝ }
 {
+    if bits.len() == 0 {
+        return;
+    }
     let i = (key / 64) as usize;
     if bits.len() <= i {
         return;

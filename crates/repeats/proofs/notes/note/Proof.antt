@@ -8,6 +8,9 @@ use Rattle.repeats.proofs.notes.note.Tie as tie
 returns : tie.Need-returns
 returns c = notes-same _ _ (omega (arith, c .if1 .taken))
 
+returns-2 : tie.Need-returns-2
+returns-2 c = notes-same _ _ (omega (arith, c .if2 .taken))
+
 mul-w : tie.Need-mul-w
 mul-w c = search needs
 
@@ -26,10 +29,19 @@ slice-write-bits c = search needs
 same-length : tie.Need-same-length
 same-length c = search needs
 
-returns-2 : tie.Need-returns-2
-returns-2 c = notes-more _ _ (omega (arith, c .before .if1 .left))
+returns-3 : tie.Need-returns-3
+returns-3 c = notes-more _ _ (omega (arith, c .before .if2 .left))
 
 pub note-spec : {M : Type 1} → statement M
 note-spec =
     tie.close
-    (tie.spec returns mul-w slice-read-w shl-bits mul-bits slice-write-bits same-length returns-2)
+    (tie.spec
+    returns
+    returns-2
+    mul-w
+    slice-read-w
+    shl-bits
+    mul-bits
+    slice-write-bits
+    same-length
+    returns-3)

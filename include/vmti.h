@@ -91,7 +91,7 @@
  * thread at any time, and from a signal handler, as long as no one changes the
  * lent bytes while it runs.
  *
- * It takes at most 4,096 bytes of stack, whatever the input (3,476 were seen; a
+ * It takes at most 4,096 bytes of stack, whatever the input (3,808 were seen; a
  * signal stack of MINSIGSTKSZ may have fewer). It ends for every input. Usual
  * packets take microseconds, and the worst packets timed under half a
  * millisecond; only where thousands of target ids are alike in their last 14

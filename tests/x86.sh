@@ -6,8 +6,10 @@
 #   x86_archive           sees to target/staticlib/libvmti.a
 #   native_archive FILE   the same code for this machine, to time it; on x86-64 that is the archive itself
 #   native_cc WORD..      compiles and links C with it
+#   second_bench          the second reader's bench, its functions aligned as ours; its path is $second
 kit=${RATTLE_HOME:-$(dirname "$(readlink -f "$(command -v rt)")")/..}/on/$(uname -m)/toolchain
 emulator=$kit/bin/qemu-x86_64
+aligned=-align-all-functions=4
 warnings='-std=c11 -O2 -g -Wall -Wextra -Werror -Iinclude'
 
 x86_kit_run() { ${emulator:+"$emulator"} "$kit/lib/ld-linux-x86-64.so.2" --library-path "$kit/lib" "$@"; }
@@ -34,7 +36,8 @@ x86_archive() {
 }
 
 # On another machine the LLVM module that rt hands to the kit's compiler is kept and compiled once more, for this machine. No
-# proof is about what comes of it: it is for timing alone.
+# proof is about what comes of it: it is for timing alone. Functions begin at 16 bytes, as in the archive, so that their time does not
+# hang on where the linker puts them.
 native_archive() {
   if [ -z "$emulator" ]; then
     x86_archive
@@ -53,8 +56,13 @@ native_archive() {
     "$PWD/$kept" "$kit" > "$kept/on/$(uname -m)/toolchain/bin/clang"
   chmod +x "$kept/on/$(uname -m)/toolchain/bin/clang"
   RATTLE_HOME=$PWD/$kept rt staticlib vmti > target/staticlib.log 2>&1 || { tail -n 5 target/staticlib.log; return 1; }
-  "$kit/bin/clang" --target="$(uname -m)-unknown-linux-gnu" --no-default-config -Wno-override-module -O3 -fPIC -c -x ir \
+  "$kit/bin/clang" --target="$(uname -m)-unknown-linux-gnu" --no-default-config -Wno-override-module -O3 -mllvm "$aligned" -fPIC -c -x ir \
     "$kept/module.bc" -o "$1" 2> "$kept/log" || { cat "$kept/log"; return 1; }
+}
+
+second=tests/compare/target/aligned/release/bench
+second_bench() {
+  RUSTFLAGS="-C llvm-args=$aligned" cargo build --quiet --offline --release --manifest-path tests/compare/Cargo.toml --target-dir tests/compare/target/aligned --bin bench
 }
 
 # link_all FROM TO BUT: each file of a folder linked in another, but for one

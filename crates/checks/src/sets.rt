@@ -49,7 +49,8 @@ fn packs_rest(glances: &[u32], s: &[u8], alone: bool, q: Quick) -> Walked
 {
     let table = items::table();
     // lent on as a part, so that the compiler keeps the slice itself in registers
-    walks::pack_walk(&table, glances, &s[0..], alone, q)
+    let mut bits = [0u64; 64];
+    walks::pack_walk(&table, glances, &s[0..], alone, q, &mut bits)
 }
 
 // On over the series, if it stands next. A refusal in it is left to the item walk, and so is a lone pack that is not told at a glance.
@@ -149,7 +150,8 @@ fn set_rest(glances: &[u32], s: &[u8], alone: bool, from: Quick) -> Walked
         return quick::walked(q);
     }
     let table = items::table();
-    walks::item_rest(&table, glances, s, true, alone, q)
+    let mut bits = [0u64; 64];
+    walks::item_rest(&table, glances, s, true, alone, q, &mut bits)
 }
 
 // The items of the set. An embedded one often ends with its series.

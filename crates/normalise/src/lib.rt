@@ -30,6 +30,7 @@ pub fn normalise(packet: &[u8], alone: bool, out: &mut [u8]) -> Answer
     let from = checks::set_start(packet, alone);
     let a = frames::open(out, alone, sizes.normal);
     let table = items::table();
+    let mut bits = [0u64; 64];
     let n = normals::item_normal(
         &table,
         &glances,
@@ -37,6 +38,7 @@ pub fn normalise(packet: &[u8], alone: bool, out: &mut [u8]) -> Answer
         true,
         alone,
         sizes.inner,
+        &mut bits,
         &mut out[a..],
     );
     frames::close(out, alone, a + n);

@@ -54,6 +54,7 @@ pub fn item_normal(
     set: bool,
     alone: bool,
     inner: usize,
+    bits: &mut [u64; 64],
     out: &mut [u8],
 ) -> usize
     requires { ⌜ (now table ≡ itemTable) × ((length (now s) ≤ 8192) × Ran (levelRun (levelOf set) (formOf alone) (now s)) × (inner ≤ 65536) × InnerRun inner (levelRun (levelOf set) (formOf alone) (now s)) × (length (levelNormal (levelOf set) (formOf alone) (now s)) ≤ length (now out))) × (now glances ≡ glanceTable) ⌝ }
@@ -76,7 +77,7 @@ pub fn item_normal(
         let next = from + size;
         k = if levels::is_series(set, key) {
             let m = put_series(out, k, inner);
-            m + pack_normal(table, glances, &s[from..next], alone, &mut out[m..])
+            m + pack_normal(table, glances, &s[from..next], alone, bits, &mut out[m..])
         } else {
             put_normal(table, out, k, set, key, &s[from..next])
         };
@@ -86,7 +87,14 @@ pub fn item_normal(
 }
 
 // The packs of a series; how many bytes.
-pub fn pack_normal(table: &[u32], glances: &[u32], s: &[u8], alone: bool, out: &mut [u8]) -> usize
+pub fn pack_normal(
+    table: &[u32],
+    glances: &[u32],
+    s: &[u8],
+    alone: bool,
+    bits: &mut [u64; 64],
+    out: &mut [u8],
+) -> usize
     requires { ⌜ (now table ≡ itemTable) × ((length (now s) ≤ 8192) × Ran (seriesRun (formOf alone) (now s)) × (length (seriesNormal (formOf alone) (now s)) ≤ length (now out))) × (now glances ≡ glanceTable) ⌝ }
     ensures { λ r. ⌜ (r ≡ length (seriesNormal (formOf alone) (now (s .entry)))) × (now (out .exit) ≡ sets (now (out .entry)) 0 (seriesNormal (formOf alone) (now (s .entry)))) ⌝ }
 {
@@ -105,7 +113,7 @@ pub fn pack_normal(table: &[u32], glances: &[u32], s: &[u8], alone: bool, out: &
         };
         let from = p + width + used;
         let next = p + width + size;
-        let w = walks::item_walk(table, glances, &s[from..next], false, alone);
+        let w = walks::item_walk(table, glances, &s[from..next], false, alone, bits);
         let Walked::Good { sizes, mark: _ } = w else {
             return k;
         };
@@ -123,6 +131,7 @@ pub fn pack_normal(table: &[u32], glances: &[u32], s: &[u8], alone: bool, out: &
                     false,
                     alone,
                     0,
+                    bits,
                     &mut out[m..],
                 )
         };

@@ -154,7 +154,14 @@ fn target_at(s: &[u8], p: usize, clear: usize, top: u64, low: u64) -> Piece
 // ---- walks
 
 // The records of a level: the set, or a target. A part takes as many bytes as it adds to the sheet.
-pub fn item_records(table: &[u32], glances: &[u32], s: &[u8], set: bool, alone: bool) -> Walked
+pub fn item_records(
+    table: &[u32],
+    glances: &[u32],
+    s: &[u8],
+    set: bool,
+    alone: bool,
+    bits: &mut [u64; 64],
+) -> Walked
     requires { ⌜ (now table ≡ itemTable) × (length (now s) ≤ 65536) × (now glances ≡ glanceTable) ⌝ }
     ensures { λ r. ⌜ (r ≡ recordsWalk (levelOf set) (formOf alone) (now (s .entry))) × Within r (length (now (s .entry))) ⌝ }
 {
@@ -184,7 +191,7 @@ pub fn item_records(table: &[u32], glances: &[u32], s: &[u8], set: bool, alone: 
             return levels::stop(a, p);
         };
         let w = if levels::is_series(set, tag) {
-            levels::series_of(target_records(table, glances, &s[p + 2..], alone), 2)
+            levels::series_of(target_records(table, glances, &s[p + 2..], alone, bits), 2)
         } else {
             levels::one_item(set, tag, size)
         };
@@ -193,7 +200,7 @@ pub fn item_records(table: &[u32], glances: &[u32], s: &[u8], set: bool, alone: 
         };
         sum = levels::weights::plus(sum, sizes);
         mark = coding::either(mark, m);
-        clear = repeats::clear::after(s, p, clear, top, low, tag, true, false, set);
+        clear = repeats::clear::after(s, p, clear, top, low, tag, true, false, set, bits);
         top = levels::larger(top, tag);
         low = levels::smaller(low, tag);
         p += sizes.sheet;
@@ -202,11 +209,17 @@ pub fn item_records(table: &[u32], glances: &[u32], s: &[u8], set: bool, alone: 
 }
 
 // The targets of the series.
-pub fn target_records(table: &[u32], glances: &[u32], s: &[u8], alone: bool) -> Walked
+pub fn target_records(
+    table: &[u32],
+    glances: &[u32],
+    s: &[u8],
+    alone: bool,
+    bits: &mut [u64; 64],
+) -> Walked
     requires { ⌜ (now table ≡ itemTable) × (length (now s) ≤ 65536) × (now glances ≡ glanceTable) ⌝ }
     ensures { λ r. ⌜ (r ≡ targetsWalk (formOf alone) (now (s .entry))) × Within r (length (now (s .entry))) ⌝ }
 {
-    let q = skims::targets::strewn(glances, s, alone);
+    let q = skims::targets::strewn(glances, s, alone, bits);
     let mut p = q.at;
     let mut sum = q.sizes;
     let mut top = q.top;
@@ -235,7 +248,7 @@ pub fn target_records(table: &[u32], glances: &[u32], s: &[u8], alone: bool) -> 
         let mut sizes = q.sizes;
         let mut mark = q.mark;
         if skims::goes_on(items, q.at, false) {
-            let w = item_records(table, glances, items, false, alone);
+            let w = item_records(table, glances, items, false, alone, bits);
             let Walked::Good { sizes: z, mark: m } = w else {
                 return levels::later(w, from);
             };
@@ -247,7 +260,7 @@ pub fn target_records(table: &[u32], glances: &[u32], s: &[u8], alone: bool) -> 
                 sum,
                 levels::weights::pack_sizes(coding::widths::oid_width(id), sizes),
             );
-            clear = repeats::clear::after(s, p, clear, top, low, id, true, true, false);
+            clear = repeats::clear::after(s, p, clear, top, low, id, true, true, false, bits);
             top = higher(top, id);
             low = levels::smaller(low, id);
             p = from + sizes.sheet;

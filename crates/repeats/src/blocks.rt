@@ -69,18 +69,18 @@ fn gather(s: &[u8], from: usize, block: &mut [u64; 64], sheet: bool, set: bool) 
 }
 
 // No id that begins before there stood before it.
-pub fn clear_to(s: &[u8], sheet: bool, set: bool) -> usize
+pub fn clear_to(s: &[u8], sheet: bool, set: bool, block: &mut [u64; 64]) -> usize
     ensures { λ r. ⌜ Clear (peek sheet true set) (now (s .entry)) r ⌝ }
 {
     let mut from: usize = 0;
     loop {
         // no id is as large, so what is not filled is found for none
-        let mut block = [18446744073709551615u64; 64];
-        let to = gather(s, from, &mut block, sheet, set);
+        *block = [18446744073709551615; 64];
+        let to = gather(s, from, block, sheet, set);
         if to == from {
             return from;
         }
-        if may_be_before(s, from, &block, sheet, set) {
+        if may_be_before(s, from, block, sheet, set) {
             return from;
         }
         from = to;

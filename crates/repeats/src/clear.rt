@@ -49,10 +49,17 @@ fn is_other(s: &[u8], q: usize, sheet: bool, ids: bool, set: bool) -> bool {
 }
 
 // How far no key of a quarter repeats.
-fn part_clear(s: &[u8], part: u64, sheet: bool, ids: bool, set: bool) -> usize
+fn part_clear(
+    s: &[u8],
+    part: u64,
+    sheet: bool,
+    ids: bool,
+    set: bool,
+    marks: &mut [u64; 64],
+) -> usize
     ensures { λ r. ⌜ ClearIn part (peek sheet ids set) (now (s .entry)) r ⌝ }
 {
-    let mut marks = [0u64; 64];
+    *marks = [0; 64];
     let mut q: usize = 0;
     while q < s.len() {
         if is_other(s, q, sheet, ids, set) {
@@ -62,10 +69,10 @@ fn part_clear(s: &[u8], part: u64, sheet: bool, ids: bool, set: bool) -> usize
         if n.used == 0 {
             return q;
         }
-        if may_stand(n.key, part, &marks) {
+        if may_stand(n.key, part, marks) {
             return q;
         }
-        mark(&mut marks, n.key, part);
+        mark(marks, n.key, part);
         q += n.used;
     }
     q
@@ -78,20 +85,20 @@ fn least(a: usize, b: usize) -> usize
 }
 
 // No thing that begins before there has a key that stood before it.
-fn clear_to(s: &[u8], sheet: bool, ids: bool, set: bool) -> usize
+fn clear_to(s: &[u8], sheet: bool, ids: bool, set: bool, bits: &mut [u64; 64]) -> usize
     ensures { λ r. ⌜ Clear (peek sheet ids set) (now (s .entry)) r ⌝ }
 {
     let mut part: u64 = 0;
     let mut r = s.len();
     while part < 4 {
-        r = least(r, part_clear(s, part, sheet, ids, set));
+        r = least(r, part_clear(s, part, sheet, ids, set, bits));
         part += 1;
     }
     // ids share bits, so where the passes stopped at one it may still be new
     if ids {
         if r < s.len() {
             if !is_other(s, r, sheet, ids, set) {
-                return super::blocks::clear_to(s, sheet, set);
+                return super::blocks::clear_to(s, sheet, set, bits);
             }
         }
     }
@@ -109,6 +116,7 @@ pub fn after(
     sheet: bool,
     ids: bool,
     set: bool,
+    bits: &mut [u64; 64],
 ) -> usize
     requires { ⌜ Clear (peek sheet ids set) (now s) clear ⌝ }
     ensures { λ r. ⌜ Clear (peek sheet ids set) (now (s .entry)) r ⌝ }
@@ -130,7 +138,7 @@ pub fn after(
     }
     // two calls: the passes, with their array, then stay a function of its own, and only these tests stand in the walks
     if sheet {
-        return clear_to(s, true, ids, set);
+        return clear_to(s, true, ids, set, bits);
     }
-    clear_to(s, false, ids, set)
+    clear_to(s, false, ids, set, bits)
 }

@@ -210,15 +210,6 @@ fn many(glances: &[u32], s: &[u8], alone: bool, bits: &mut [u64]) -> Quick
     passed(p, rows, more, top, low)
 }
 
-// The same where ids neither rise nor fall: the first 4,096 are noted.
-fn strewn(glances: &[u32], s: &[u8], alone: bool) -> Quick
-    requires { ⌜ (now glances ≡ glanceTable) × (length (now s) ≤ 8192) ⌝ }
-    ensures { λ r. ⌜ SeriesGoing (formOf alone) (now (s .entry)) (r .at) (r .sizes) (r .top) (r .low) ⌝ }
-{
-    let mut bits = [0u64; 64];
-    many(glances, s, alone, &mut bits)
-}
-
 // Whether it was an id neither above nor below all before that ended it.
 fn is_between(s: &[u8], q: Quick) -> bool
     requires { ⌜ q .at ≤ length (now s) ⌝ }
@@ -240,15 +231,23 @@ fn is_between(s: &[u8], q: Quick) -> bool
     key <= q.top
 }
 
-// Packs told at a glance from a series' start. Most series have ids that rise, and nothing is noted for them.
+// Packs told at a glance from a series' start, ids rising or falling. Most series have ids that rise, and nothing is noted for them.
 pub fn packs(glances: &[u32], s: &[u8], alone: bool) -> Quick
     requires { ⌜ (now glances ≡ glanceTable) × (length (now s) ≤ 8192) ⌝ }
     ensures { λ r. ⌜ SeriesGoing (formOf alone) (now (s .entry)) (r .at) (r .sizes) (r .top) (r .low) ⌝ }
 {
     let mut none = [0u64; 1];
-    let q = many(glances, s, alone, &mut none[0..0]);
+    many(glances, s, alone, &mut none[0..0])
+}
+
+// The same from where that ended: if it was at an id that neither rises nor falls, anew, the first 4,096 noted in the bits lent, whatever these were.
+pub fn noted(glances: &[u32], s: &[u8], alone: bool, q: Quick, bits: &mut [u64; 64]) -> Quick
+    requires { ⌜ (now glances ≡ glanceTable) × (length (now s) ≤ 8192) × SeriesGoing (formOf alone) (now s) (q .at) (q .sizes) (q .top) (q .low) ⌝ }
+    ensures { λ r. ⌜ SeriesGoing (formOf alone) (now (s .entry)) (r .at) (r .sizes) (r .top) (r .low) ⌝ }
+{
     if is_between(s, q) {
-        return strewn(glances, &s[0..], alone);
+        *bits = [0; 64];
+        return many(glances, s, alone, bits);
     }
     q
 }

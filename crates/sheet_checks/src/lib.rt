@@ -65,7 +65,8 @@ fn series(glances: &[u32], s: &[u8], alone: bool, q: Quick) -> Quick
         return levels::quick::after_series(q, s.len(), w.sizes);
     }
     if targets::is_between(t, w) {
-        let d = targets::strewn(glances, &t[0..], alone);
+        let mut bits = [0u64; 64];
+        let d = targets::strewn(glances, &t[0..], alone, &mut bits);
         if is_all(d, t.len()) {
             return levels::quick::after_series(q, s.len(), d.sizes);
         }
@@ -94,6 +95,16 @@ fn glanced(glances: &[u32], s: &[u8], alone: bool) -> Quick
     series(glances, s, alone, quick::run(glances, s, true, alone))
 }
 
+// The records of the set one by one, from its start: what the walks are lent is laid out here, so that a sheet passed at a glance has none of it.
+fn set_anew(glances: &[u32], s: &[u8], alone: bool) -> Walked
+    requires { ⌜ (now glances ≡ glanceTable) × (length (now s) ≤ 65536) ⌝ }
+    ensures { λ r. ⌜ (r ≡ recordsWalk set (formOf alone) (now (s .entry))) × Within r (length (now (s .entry))) ⌝ }
+{
+    let table = items::table();
+    let mut bits = [0u64; 64];
+    records::item_records(&table, glances, s, true, alone, &mut bits)
+}
+
 // The records of the set. Most sets are passed at a glance, to the end of their series; any other is walked from its start.
 fn set_records(glances: &[u32], s: &[u8], alone: bool) -> Walked
     requires { ⌜ (now glances ≡ glanceTable) × (length (now s) ≤ 65536) ⌝ }
@@ -104,8 +115,7 @@ fn set_records(glances: &[u32], s: &[u8], alone: bool) -> Walked
         return levels::quick::walked(q);
     }
     // lent on as a part, so that the compiler keeps the slice itself in registers
-    let table = items::table();
-    records::item_records(&table, glances, &s[0..], true, alone)
+    set_anew(glances, &s[0..], alone)
 }
 
 // ---- the whole

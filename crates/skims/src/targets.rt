@@ -160,13 +160,13 @@ pub fn many(glances: &[u32], s: &[u8], alone: bool, bits: &mut [u64]) -> Quick
     }
 }
 
-// The same where ids neither rise nor fall: the first 4,096 are noted.
-pub fn strewn(glances: &[u32], s: &[u8], alone: bool) -> Quick
+// The same where ids neither rise nor fall: the first 4,096 are noted in the bits lent, whatever these were.
+pub fn strewn(glances: &[u32], s: &[u8], alone: bool, bits: &mut [u64; 64]) -> Quick
     requires { ⌜ (now glances ≡ glanceTable) × (length (now s) ≤ 65536) ⌝ }
     ensures { λ r. ⌜ TargetsPassed (formOf alone) (now (s .entry)) r ⌝ }
 {
-    let mut bits = [0u64; 64];
-    many(glances, s, alone, &mut bits)
+    *bits = [0; 64];
+    many(glances, s, alone, bits)
 }
 
 // Whether it was an id neither above nor below all before that ended the quick way.

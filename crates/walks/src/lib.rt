@@ -80,7 +80,14 @@ fn piece_fault(h: Head) -> Piece
 }
 
 // The items of a level, the set or a pack.
-pub fn item_walk(table: &[u32], glances: &[u32], s: &[u8], set: bool, alone: bool) -> Walked
+pub fn item_walk(
+    table: &[u32],
+    glances: &[u32],
+    s: &[u8],
+    set: bool,
+    alone: bool,
+    bits: &mut [u64; 64],
+) -> Walked
     requires { ⌜ (now table ≡ itemTable) × (length (now s) ≤ 8192) × (now glances ≡ glanceTable) ⌝ }
     ensures { λ r. ⌜ (r ≡ levelWalk (levelOf set) (formOf alone) (now (s .entry))) × Within r (length (now (s .entry))) ⌝ }
 {
@@ -91,6 +98,7 @@ pub fn item_walk(table: &[u32], glances: &[u32], s: &[u8], set: bool, alone: boo
         set,
         alone,
         quick::run(glances, s, set, alone),
+        bits,
     )
 }
 
@@ -102,6 +110,7 @@ pub fn item_rest(
     set: bool,
     alone: bool,
     from: Quick,
+    bits: &mut [u64; 64],
 ) -> Walked
     requires { ⌜ (now table ≡ itemTable) × (length (now s) ≤ 8192) × LevelGoing set (formOf alone) (now s) (from .at) (from .sizes) (from .mark) (from .top) (from .low) × (now glances ≡ glanceTable) ⌝ }
     ensures { λ r. ⌜ (r ≡ levelWalk (levelOf set) (formOf alone) (now (s .entry))) × Within r (length (now (s .entry))) ⌝ }
@@ -135,6 +144,7 @@ pub fn item_rest(
                     packs,
                     alone,
                     series::packs(glances, packs, alone),
+                    bits,
                 ),
                 from,
             )
@@ -146,7 +156,7 @@ pub fn item_rest(
         };
         sum = levels::weights::plus(sum, sizes);
         mark = coding::either(mark, m);
-        clear = repeats::clear::after(s, p, clear, top, low, tag, false, false, set);
+        clear = repeats::clear::after(s, p, clear, top, low, tag, false, false, set, bits);
         top = levels::larger(top, tag);
         low = levels::smaller(low, tag);
         p = next;
@@ -155,10 +165,18 @@ pub fn item_rest(
 }
 
 // The packs of a series, from where the quick way over them ended.
-pub fn pack_walk(table: &[u32], glances: &[u32], s: &[u8], alone: bool, q: Quick) -> Walked
-    requires { ⌜ (now table ≡ itemTable) × (length (now s) ≤ 8192) × SeriesGoing (formOf alone) (now s) (q .at) (q .sizes) (q .top) (q .low) × (now glances ≡ glanceTable) ⌝ }
+pub fn pack_walk(
+    table: &[u32],
+    glances: &[u32],
+    s: &[u8],
+    alone: bool,
+    from: Quick,
+    bits: &mut [u64; 64],
+) -> Walked
+    requires { ⌜ (now table ≡ itemTable) × (length (now s) ≤ 8192) × SeriesGoing (formOf alone) (now s) (from .at) (from .sizes) (from .top) (from .low) × (now glances ≡ glanceTable) ⌝ }
     ensures { λ r. ⌜ (r ≡ seriesWalk (formOf alone) (now (s .entry))) × Within r (length (now (s .entry))) ⌝ }
 {
+    let q = series::noted(glances, s, alone, from, bits);
     let mut p = q.at;
     let mut sum = q.sizes;
     let mut top = q.top;
@@ -191,13 +209,14 @@ pub fn pack_walk(table: &[u32], glances: &[u32], s: &[u8], alone: bool, q: Quick
             false,
             alone,
             quick::run(glances, items, false, alone),
+            bits,
         );
         let Walked::Good { sizes, mark } = w else {
             return levels::later(w, from);
         };
         if coding::either(!alone, mark) {
             sum = levels::weights::plus(sum, levels::weights::pack_sizes(used, sizes));
-            clear = repeats::clear::after(s, p, clear, top, low, key, false, true, false);
+            clear = repeats::clear::after(s, p, clear, top, low, key, false, true, false, bits);
             top = levels::larger(top, key);
             low = levels::smaller(low, key);
             p = next;

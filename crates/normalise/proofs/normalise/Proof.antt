@@ -99,7 +99,7 @@ part-item-normal-end c = search needs
 
 sub-item-normal-2 : tie.Need-sub-item-normal-2
 sub-item-normal-2 c =
-    let o = c .before .before .before .before .before .before in
+    let o = c .before .before .before .before .before .before .before in
     let k = o .before .before in
     let z = k .before .before .before in
     let a = z .before .before in
@@ -113,12 +113,12 @@ part-item-normal-end-2 c = search needs
 
 item-normal-requires : tie.Need-item-normal-requires
 item-normal-requires c κs =
-    let o = c .before .before .before .before .before .before .before in
+    let o = c .before .before .before .before .before .before .before .before in
     let k = o .before .before in
     let z = k .before .before .before in
     let a = z .before .before in
     let inner = inner-asked _ _ (a .before .before .check .ensures) (λ i. a .before .before .before .before .before .before .shared-slice-known .given i .fits) (a .c .given .1) (k .set-start .ensures) in (
-      c .before .before .before .before .table .ensures,
+      c .before .before .before .before .before .table .ensures,
       (
         omega (arith, set-long _ _ (a .before .before .check .ensures) (λ i. a .before .before .before .before .before .before .shared-slice-known .given i .fits) (a .c .given .1) (k .set-start .ensures)),
         set-ran _ _ (a .before .before .check .ensures) (λ i. a .before .before .before .before .before .before .shared-slice-known .given i .fits) (a .c .given .1) (k .set-start .ensures),
@@ -132,7 +132,7 @@ item-normal-requires c κs =
 add-close : tie.Need-add-close
 add-close c =
     let n = c .before .before .before in
-    let o = n .before .before .before .before .before .before .before .before in
+    let o = n .before .before .before .before .before .before .before .before .before in
     let k = o .before .before in
     let z = k .before .before .before in
     let a = z .before .before in
@@ -141,7 +141,7 @@ add-close c =
 close-requires : tie.Need-close-requires
 close-requires c κs =
     let n = c .before .before .before in
-    let o = n .before .before .before .before .before .before .before .before in
+    let o = n .before .before .before .before .before .before .before .before .before in
     let k = o .before .before in
     let z = k .before .before .before in
     let a = z .before .before in
@@ -156,7 +156,7 @@ same-length-2 c = search needs
 returns-4 : tie.Need-returns-4
 returns-4 c =
     let n = c .before .before .before .before .before .before .before in
-    let o = n .before .before .before .before .before .before .before .before in
+    let o = n .before .before .before .before .before .before .before .before .before in
     let k = o .before .before in
     let z = k .before .before .before in
     let a = z .before .before in

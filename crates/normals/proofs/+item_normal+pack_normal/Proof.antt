@@ -30,23 +30,23 @@ use Rattle.normals.proofs.+item_normal+pack_normal.{statement}
 use Rattle.normals.proofs.+item_normal+pack_normal.Tie.{close}
 
 -- the item walk of the set calls the pack walk, and that the item walk of a pack
-abbrev μ-item-normal : Measures 4 item-normal-kinds.ps ℕ
+abbrev μ-item-normal : Measures 5 item-normal-kinds.ps ℕ
 μ-item-normal κs a = depth (a .1 .1 .1 .0)
 
-abbrev μ-pack-normal : Measures 4 pack-normal-kinds.ps ℕ
+abbrev μ-pack-normal : Measures 5 pack-normal-kinds.ps ℕ
 μ-pack-normal κs a = 1
 
-abbrev item-normal-at : ℕ → In 4 item-normal-kinds.ps
-item-normal-at t = and 4 item-normal-kinds.ps (is 4 item-normal-kinds.ps μ-item-normal t) item-normal.Pre
+abbrev item-normal-at : ℕ → In 5 item-normal-kinds.ps
+item-normal-at t = and 5 item-normal-kinds.ps (is 5 item-normal-kinds.ps μ-item-normal t) item-normal.Pre
 
-abbrev item-normal-below : ℕ → In 4 item-normal-kinds.ps
-item-normal-below t = and 4 item-normal-kinds.ps (falls 4 item-normal-kinds.ps _<_ μ-item-normal t) item-normal.Pre
+abbrev item-normal-below : ℕ → In 5 item-normal-kinds.ps
+item-normal-below t = and 5 item-normal-kinds.ps (falls 5 item-normal-kinds.ps _<_ μ-item-normal t) item-normal.Pre
 
-abbrev pack-normal-at : ℕ → In 4 pack-normal-kinds.ps
-pack-normal-at t = and 4 pack-normal-kinds.ps (is 4 pack-normal-kinds.ps μ-pack-normal t) pack-normal.Pre
+abbrev pack-normal-at : ℕ → In 5 pack-normal-kinds.ps
+pack-normal-at t = and 5 pack-normal-kinds.ps (is 5 pack-normal-kinds.ps μ-pack-normal t) pack-normal.Pre
 
-abbrev pack-normal-below : ℕ → In 4 pack-normal-kinds.ps
-pack-normal-below t = and 4 pack-normal-kinds.ps (falls 4 pack-normal-kinds.ps _<_ μ-pack-normal t) pack-normal.Pre
+abbrev pack-normal-below : ℕ → In 5 pack-normal-kinds.ps
+pack-normal-below t = and 5 pack-normal-kinds.ps (falls 5 pack-normal-kinds.ps _<_ μ-pack-normal t) pack-normal.Pre
 
 -- what is known of the callees, the other walk's at a smaller measure
 abbrev item-claims : ℕ → item-normal-lts.Claims
@@ -58,10 +58,10 @@ pack-claims t = (quick-pack-head-reads.Asked, quick-pack-head-reads.Learnt, item
 -- ---- the item walk
 
 abbrev item-normal-Inv-loop : item-normal-lts.InvT-loop
-item-normal-Inv-loop table glances s set alone inner out₀ p₀ k₀ out p k = LevelNormals inner set (formOf alone) s out₀ out p k
+item-normal-Inv-loop table glances s set alone inner bits₀ out₀ p₀ k₀ bits out p k = LevelNormals inner set (formOf alone) s out₀ out p k
 
 abbrev item-normal-μ-loop : item-normal-lts.MeasureT-loop
-item-normal-μ-loop table glances s set alone inner out₀ p₀ k₀ out p k = length s - p
+item-normal-μ-loop table glances s set alone inner bits₀ out₀ p₀ k₀ bits out p k = length s - p
 
 -- the entry at the head that was read
 item-here : (t : ℕ) (a : item-normal-lts.After-h (item-claims t) (item-normal-at t) item-normal.Post item-normal-Inv-loop item-normal-μ-loop)
@@ -133,19 +133,19 @@ item-normal-part-pack-normal-end : (t : ℕ) → item-normal-lts.Need-part-pack-
 item-normal-part-pack-normal-end t c = omega (arith, entry-room (item-here t (c .before .before .before .before .before .before .before) .is))
 
 item-normal-sub-pack-normal-2 : (t : ℕ) → item-normal-lts.Need-sub-pack-normal-2 (item-claims t) (item-normal-at t) item-normal.Post item-normal-Inv-loop item-normal-μ-loop
-item-normal-sub-pack-normal-2 t c = series-behind (item-here t (c .before .before .before .before .before .before .before .before)) (c .before .before .before .before .before .before .is-series .ensures) (c .before .before .before .before .before .if1 .taken) (c .before .before .before .put-series .ensures)
+item-normal-sub-pack-normal-2 t c = series-behind (item-here t (c .before .before .before .before .before .before .before .before .before)) (c .before .before .before .before .before .before .before .is-series .ensures) (c .before .before .before .before .before .before .if1 .taken) (c .before .before .before .before .put-series .ensures)
 
 item-normal-part-pack-normal-start-2 : (t : ℕ) → item-normal-lts.Need-part-pack-normal-start-2 (item-claims t) (item-normal-at t) item-normal.Post item-normal-Inv-loop item-normal-μ-loop
-item-normal-part-pack-normal-start-2 t c = series-behind (item-here t (c .before .before .before .before .before .before .before .before)) (c .before .before .before .before .before .before .is-series .ensures) (c .before .before .before .before .before .if1 .taken) (c .before .before .before .put-series .ensures)
+item-normal-part-pack-normal-start-2 t c = series-behind (item-here t (c .before .before .before .before .before .before .before .before .before)) (c .before .before .before .before .before .before .before .is-series .ensures) (c .before .before .before .before .before .before .if1 .taken) (c .before .before .before .before .put-series .ensures)
 
 item-normal-part-pack-normal-end-2 : (t : ℕ) → item-normal-lts.Need-part-pack-normal-end-2 (item-claims t) (item-normal-at t) item-normal.Post item-normal-Inv-loop item-normal-μ-loop
 item-normal-part-pack-normal-end-2 t c = search needs
 
 item-normal-pack-normal-requires : (t : ℕ) → item-normal-lts.Need-pack-normal-requires (item-claims t) (item-normal-at t) item-normal.Post item-normal-Inv-loop item-normal-μ-loop
-item-normal-pack-normal-requires t c κs = (omega (arith, series-deep (c .before .before .before .before .before .before .before .before .before .before .before .before .before .before .before .before .before .before .before .args .set) (c .before .before .before .before .before .before .before .before .before .h .given .0 .0) (c .before .before .before .before .before .before .before .is-series .ensures) (c .before .before .before .before .before .before .if1 .taken), c .before .before .before .before .before .before .before .before .before .before .before .before .before .before .before .before .before .before .before .pre .0), (c .before .before .before .before .before .before .before .before .before .before .before .before .before .before .before .before .before .before .before .pre .1 .0, series-asked (item-here t (c .before .before .before .before .before .before .before .before .before)) (c .before .before .before .before .before .before .before .is-series .ensures) (c .before .before .before .before .before .before .if1 .taken) (c .before .before .before .before .put-series .ensures), c .before .before .before .before .before .before .before .before .before .before .before .before .before .before .before .before .before .before .before .pre .1 .2))
+item-normal-pack-normal-requires t c κs = (omega (arith, series-deep (c .before .before .before .before .before .before .before .before .before .before .before .before .before .before .before .before .before .before .before .before .args .set) (c .before .before .before .before .before .before .before .before .before .before .h .given .0 .0) (c .before .before .before .before .before .before .before .before .is-series .ensures) (c .before .before .before .before .before .before .before .if1 .taken), c .before .before .before .before .before .before .before .before .before .before .before .before .before .before .before .before .before .before .before .before .pre .0), (c .before .before .before .before .before .before .before .before .before .before .before .before .before .before .before .before .before .before .before .before .pre .1 .0, series-asked (item-here t (c .before .before .before .before .before .before .before .before .before .before)) (c .before .before .before .before .before .before .before .before .is-series .ensures) (c .before .before .before .before .before .before .before .if1 .taken) (c .before .before .before .before .before .put-series .ensures), c .before .before .before .before .before .before .before .before .before .before .before .before .before .before .before .before .before .before .before .before .pre .1 .2))
 
 item-normal-add-k : (t : ℕ) → item-normal-lts.Need-add-k (item-claims t) (item-normal-at t) item-normal.Post item-normal-Inv-loop item-normal-μ-loop
-item-normal-add-k t c = omega (arith, series-more (item-here t (c .before .before .before .before .before .before .before .before .before .before .before .before)) (c .before .before .before .before .before .before .before .before .before .before .is-series .ensures) (c .before .before .before .before .before .before .before .before .before .if1 .taken) (c .before .before .before .before .before .before .before .put-series .ensures) (c .before .before .pack-normal .ensures) .writes .sum, item-here t (c .before .before .before .before .before .before .before .before .before .before .before .before) .is .room, c .before .before .before .before .before .before .before .before .before .before .before .before .before .before .before .before .before .before .before .before .before .before .good)
+item-normal-add-k t c = omega (arith, series-more (item-here t (c .before .before .before .before .before .before .before .before .before .before .before .before .before)) (c .before .before .before .before .before .before .before .before .before .before .before .is-series .ensures) (c .before .before .before .before .before .before .before .before .before .before .if1 .taken) (c .before .before .before .before .before .before .before .before .put-series .ensures) (c .before .before .pack-normal .ensures) .writes .sum, item-here t (c .before .before .before .before .before .before .before .before .before .before .before .before .before) .is .room, c .before .before .before .before .before .before .before .before .before .before .before .before .before .before .before .before .before .before .before .before .before .before .before .good)
 
 item-normal-sub-put-normal : (t : ℕ) → item-normal-lts.Need-sub-put-normal (item-claims t) (item-normal-at t) item-normal.Post item-normal-Inv-loop item-normal-μ-loop
 item-normal-sub-put-normal t c = omega (arith, entry-room (item-here t (c .before .before .before .before) .is))
@@ -160,10 +160,10 @@ item-normal-put-normal-requires : (t : ℕ) → item-normal-lts.Need-put-normal-
 item-normal-put-normal-requires t c κs = (c .before .before .before .before .before .before .before .before .before .before .before .before .before .before .before .pre .1 .0, one-asked (item-here t (c .before .before .before .before .before)) (c .before .before .before .is-series .ensures) (c .before .before .if1 .left))
 
 item-normal-loop-less : (t : ℕ) → item-normal-lts.Need-loop-less (item-claims t) (item-normal-at t) item-normal.Post item-normal-Inv-loop item-normal-μ-loop
-item-normal-loop-less t c = omega (arith, entry-room (item-here t (c .before .before .before .before .before .before .before .before .before .before .before .before) .is))
+item-normal-loop-less t c = omega (arith, entry-room (item-here t (c .before .before .before .before .before .before .before .before .before .before .before .before .before) .is))
 
 item-normal-loop-again : (t : ℕ) → item-normal-lts.Need-loop-again (item-claims t) (item-normal-at t) item-normal.Post item-normal-Inv-loop item-normal-μ-loop
-item-normal-loop-again t c = series-more (item-here t (c .before .before .before .before .before .before .before .before .before .before .before .before)) (c .before .before .before .before .before .before .before .before .before .before .is-series .ensures) (c .before .before .before .before .before .before .before .before .before .if1 .taken) (c .before .before .before .before .before .before .before .put-series .ensures) (c .before .before .pack-normal .ensures)
+item-normal-loop-again t c = series-more (item-here t (c .before .before .before .before .before .before .before .before .before .before .before .before .before)) (c .before .before .before .before .before .before .before .before .before .before .before .is-series .ensures) (c .before .before .before .before .before .before .before .before .before .before .if1 .taken) (c .before .before .before .before .before .before .before .before .put-series .ensures) (c .before .before .pack-normal .ensures)
 
 item-normal-loop-less-2 : (t : ℕ) → item-normal-lts.Need-loop-less-2 (item-claims t) (item-normal-at t) item-normal.Post item-normal-Inv-loop item-normal-μ-loop
 item-normal-loop-less-2 t c = omega (arith, entry-room (item-here t (c .before .before .before .before .before .before .before .before) .is))
@@ -180,10 +180,10 @@ item-normal-returns-2 t c = level-ends _ _ _ _ _ (c .before .before .before .bef
 -- ---- the pack walk
 
 abbrev pack-normal-Inv-loop : pack-normal-lts.InvT-loop
-pack-normal-Inv-loop table glances s alone out₀ p₀ k₀ out p k = SeriesNormals (formOf alone) s out₀ out p k
+pack-normal-Inv-loop table glances s alone bits₀ out₀ p₀ k₀ bits out p k = SeriesNormals (formOf alone) s out₀ out p k
 
 abbrev pack-normal-μ-loop : pack-normal-lts.MeasureT-loop
-pack-normal-μ-loop table glances s alone out₀ p₀ k₀ out p k = length s - p
+pack-normal-μ-loop table glances s alone bits₀ out₀ p₀ k₀ bits out p k = length s - p
 
 -- the pack at the head that was read
 pack-at : (t : ℕ) (a : pack-normal-lts.After-h (pack-claims t) (pack-normal-at t) pack-normal.Post pack-normal-Inv-loop pack-normal-μ-loop)
@@ -249,7 +249,7 @@ pack-normal-part-item-walk-end : (t : ℕ) → pack-normal-lts.Need-part-item-wa
 pack-normal-part-item-walk-end t c = omega (arith, pack-room (pack-at t (c .before)))
 
 pack-normal-item-walk-requires : (t : ℕ) → pack-normal-lts.Need-item-walk-requires (pack-claims t) (pack-normal-at t) pack-normal.Post pack-normal-Inv-loop pack-normal-μ-loop
-pack-normal-item-walk-requires t c κs = (c .before .before .before .before .before .before .before .before .before .before .before .before .pre .1 .0, items-asked (pack-at t (c .before .before)) .0, c .before .before .before .before .before .before .before .before .before .before .before .before .pre .1 .2)
+pack-normal-item-walk-requires t c κs = (c .before .before .before .before .before .before .before .before .before .before .before .before .before .pre .1 .0, items-asked (pack-at t (c .before .before .before)) .0, c .before .before .before .before .before .before .before .before .before .before .before .before .before .pre .1 .2)
 
 pack-normal-enum-known-w : (t : ℕ) → pack-normal-lts.Need-enum-known-w (pack-claims t) (pack-normal-at t) pack-normal.Post pack-normal-Inv-loop pack-normal-μ-loop
 pack-normal-enum-known-w t c = search needs
@@ -258,64 +258,64 @@ pack-normal-enum-told-2 : (t : ℕ) → pack-normal-lts.Need-enum-told-2 (pack-c
 pack-normal-enum-told-2 t c = search needs
 
 pack-normal-same-length-2 : (t : ℕ) → pack-normal-lts.Need-same-length-2 (pack-claims t) (pack-normal-at t) pack-normal.Post pack-normal-Inv-loop pack-normal-μ-loop
-pack-normal-same-length-2 t c = c .before .before .before .before .before .before .before .before .before .before .loop .inv .writes .same
+pack-normal-same-length-2 t c = c .before .before .before .before .before .before .before .before .before .before .before .loop .inv .writes .same
 
 pack-normal-returns-2 : (t : ℕ) → pack-normal-lts.Need-returns-2 (pack-claims t) (pack-normal-at t) pack-normal.Post pack-normal-Inv-loop pack-normal-μ-loop
-pack-normal-returns-2 t c = no-fault (pack-at t (c .before .before .before .before .before)) (c .before .before .item-walk .ensures) (c .enum-told2 .given .1)
+pack-normal-returns-2 t c = no-fault (pack-at t (c .before .before .before .before .before .before)) (c .before .before .item-walk .ensures) (c .enum-told2 .given .1)
 
 pack-normal-add-n : (t : ℕ) → pack-normal-lts.Need-add-n (pack-claims t) (pack-normal-at t) pack-normal.Post pack-normal-Inv-loop pack-normal-μ-loop
-pack-normal-add-n t c = omega (arith, body-few (pack-at t (c .before .before .before .before .before .before .before)) (c .before .before .before .before .item-walk .ensures) (c .before .before .w .given .1))
+pack-normal-add-n t c = omega (arith, body-few (pack-at t (c .before .before .before .before .before .before .before .before)) (c .before .before .before .before .item-walk .ensures) (c .before .before .w .given .1))
 
 pack-normal-put-pack-requires : (t : ℕ) → pack-normal-lts.Need-put-pack-requires (pack-claims t) (pack-normal-at t) pack-normal.Post pack-normal-Inv-loop pack-normal-μ-loop
-pack-normal-put-pack-requires t c κs = pack-asked (pack-at t (c .before .before .before .before .before .before .before .before)) (c .before .before .before .before .before .item-walk .ensures) (c .before .before .before .w .given .1)
+pack-normal-put-pack-requires t c κs = pack-asked (pack-at t (c .before .before .before .before .before .before .before .before .before)) (c .before .before .before .before .before .item-walk .ensures) (c .before .before .before .w .given .1)
 
 pack-normal-sub-copy-run : (t : ℕ) → pack-normal-lts.Need-sub-copy-run (pack-claims t) (pack-normal-at t) pack-normal.Post pack-normal-Inv-loop pack-normal-μ-loop
-pack-normal-sub-copy-run t c = omega (arith, pack-room (pack-at t (c .before .before .before .before .before .before .before .before .before .before .before .before .before)))
+pack-normal-sub-copy-run t c = omega (arith, pack-room (pack-at t (c .before .before .before .before .before .before .before .before .before .before .before .before .before .before)))
 
 pack-normal-part-copy-run-start : (t : ℕ) → pack-normal-lts.Need-part-copy-run-start (pack-claims t) (pack-normal-at t) pack-normal.Post pack-normal-Inv-loop pack-normal-μ-loop
-pack-normal-part-copy-run-start t c = omega (arith, pack-room (pack-at t (c .before .before .before .before .before .before .before .before .before .before .before .before .before)))
+pack-normal-part-copy-run-start t c = omega (arith, pack-room (pack-at t (c .before .before .before .before .before .before .before .before .before .before .before .before .before .before)))
 
 pack-normal-part-copy-run-end : (t : ℕ) → pack-normal-lts.Need-part-copy-run-end (pack-claims t) (pack-normal-at t) pack-normal.Post pack-normal-Inv-loop pack-normal-μ-loop
-pack-normal-part-copy-run-end t c = omega (arith, pack-room (pack-at t (c .before .before .before .before .before .before .before .before .before .before .before .before .before)))
+pack-normal-part-copy-run-end t c = omega (arith, pack-room (pack-at t (c .before .before .before .before .before .before .before .before .before .before .before .before .before .before)))
 
 pack-normal-copy-run-requires : (t : ℕ) → pack-normal-lts.Need-copy-run-requires (pack-claims t) (pack-normal-at t) pack-normal.Post pack-normal-Inv-loop pack-normal-μ-loop
-pack-normal-copy-run-requires t c κs = copy-asked (pack-at t (c .before .before .before .before .before .before .before .before .before .before .before .before .before .before)) (c .before .before .before .before .before .before .before .before .before .before .before .item-walk .ensures) (c .before .before .before .before .before .before .before .before .before .w .given .1) (c .before .before .before .before .before .put-pack .ensures) (c .before .before .if1 .taken)
+pack-normal-copy-run-requires t c κs = copy-asked (pack-at t (c .before .before .before .before .before .before .before .before .before .before .before .before .before .before .before)) (c .before .before .before .before .before .before .before .before .before .before .before .item-walk .ensures) (c .before .before .before .before .before .before .before .before .before .w .given .1) (c .before .before .before .before .before .put-pack .ensures) (c .before .before .if1 .taken)
 
 pack-normal-sub-item-normal : (t : ℕ) → pack-normal-lts.Need-sub-item-normal (pack-claims t) (pack-normal-at t) pack-normal.Post pack-normal-Inv-loop pack-normal-μ-loop
-pack-normal-sub-item-normal t c = omega (arith, pack-room (pack-at t (c .before .before .before .before .before .before .before .before .before .before .before .before)))
+pack-normal-sub-item-normal t c = omega (arith, pack-room (pack-at t (c .before .before .before .before .before .before .before .before .before .before .before .before .before)))
 
 pack-normal-part-item-normal-start : (t : ℕ) → pack-normal-lts.Need-part-item-normal-start (pack-claims t) (pack-normal-at t) pack-normal.Post pack-normal-Inv-loop pack-normal-μ-loop
-pack-normal-part-item-normal-start t c = omega (arith, pack-room (pack-at t (c .before .before .before .before .before .before .before .before .before .before .before .before)))
+pack-normal-part-item-normal-start t c = omega (arith, pack-room (pack-at t (c .before .before .before .before .before .before .before .before .before .before .before .before .before)))
 
 pack-normal-part-item-normal-end : (t : ℕ) → pack-normal-lts.Need-part-item-normal-end (pack-claims t) (pack-normal-at t) pack-normal.Post pack-normal-Inv-loop pack-normal-μ-loop
-pack-normal-part-item-normal-end t c = omega (arith, pack-room (pack-at t (c .before .before .before .before .before .before .before .before .before .before .before .before)))
+pack-normal-part-item-normal-end t c = omega (arith, pack-room (pack-at t (c .before .before .before .before .before .before .before .before .before .before .before .before .before)))
 
 pack-normal-sub-item-normal-2 : (t : ℕ) → pack-normal-lts.Need-sub-item-normal-2 (pack-claims t) (pack-normal-at t) pack-normal.Post pack-normal-Inv-loop pack-normal-μ-loop
-pack-normal-sub-item-normal-2 t c = items-behind (pack-at t (c .before .before .before .before .before .before .before .before .before .before .before .before .before)) (c .before .before .before .before .before .before .before .before .before .before .item-walk .ensures) (c .before .before .before .before .before .before .before .before .w .given .1) (c .before .before .before .before .put-pack .ensures)
+pack-normal-sub-item-normal-2 t c = items-behind (pack-at t (c .before .before .before .before .before .before .before .before .before .before .before .before .before .before .before)) (c .before .before .before .before .before .before .before .before .before .before .before .item-walk .ensures) (c .before .before .before .before .before .before .before .before .before .w .given .1) (c .before .before .before .before .before .put-pack .ensures)
 
 pack-normal-part-item-normal-start-2 : (t : ℕ) → pack-normal-lts.Need-part-item-normal-start-2 (pack-claims t) (pack-normal-at t) pack-normal.Post pack-normal-Inv-loop pack-normal-μ-loop
-pack-normal-part-item-normal-start-2 t c = items-behind (pack-at t (c .before .before .before .before .before .before .before .before .before .before .before .before .before)) (c .before .before .before .before .before .before .before .before .before .before .item-walk .ensures) (c .before .before .before .before .before .before .before .before .w .given .1) (c .before .before .before .before .put-pack .ensures)
+pack-normal-part-item-normal-start-2 t c = items-behind (pack-at t (c .before .before .before .before .before .before .before .before .before .before .before .before .before .before .before)) (c .before .before .before .before .before .before .before .before .before .before .before .item-walk .ensures) (c .before .before .before .before .before .before .before .before .before .w .given .1) (c .before .before .before .before .before .put-pack .ensures)
 
 pack-normal-part-item-normal-end-2 : (t : ℕ) → pack-normal-lts.Need-part-item-normal-end-2 (pack-claims t) (pack-normal-at t) pack-normal.Post pack-normal-Inv-loop pack-normal-μ-loop
 pack-normal-part-item-normal-end-2 t c = search needs
 
 pack-normal-item-normal-requires : (t : ℕ) → pack-normal-lts.Need-item-normal-requires (pack-claims t) (pack-normal-at t) pack-normal.Post pack-normal-Inv-loop pack-normal-μ-loop
-pack-normal-item-normal-requires t c κs = (omega (arith, c .before .before .before .before .before .before .before .before .before .before .before .before .before .before .before .before .before .before .before .before .before .before .before .before .pre .0), (c .before .before .before .before .before .before .before .before .before .before .before .before .before .before .before .before .before .before .before .before .before .before .before .before .pre .1 .0, level-asked (pack-at t (c .before .before .before .before .before .before .before .before .before .before .before .before .before .before)) (c .before .before .before .before .before .before .before .before .before .before .before .item-walk .ensures) (c .before .before .before .before .before .before .before .before .before .w .given .1) (c .before .before .before .before .before .put-pack .ensures), c .before .before .before .before .before .before .before .before .before .before .before .before .before .before .before .before .before .before .before .before .before .before .before .before .pre .1 .2))
+pack-normal-item-normal-requires t c κs = (omega (arith, c .before .before .before .before .before .before .before .before .before .before .before .before .before .before .before .before .before .before .before .before .before .before .before .before .before .before .pre .0), (c .before .before .before .before .before .before .before .before .before .before .before .before .before .before .before .before .before .before .before .before .before .before .before .before .before .before .pre .1 .0, level-asked (pack-at t (c .before .before .before .before .before .before .before .before .before .before .before .before .before .before .before .before)) (c .before .before .before .before .before .before .before .before .before .before .before .before .item-walk .ensures) (c .before .before .before .before .before .before .before .before .before .before .w .given .1) (c .before .before .before .before .before .before .put-pack .ensures), c .before .before .before .before .before .before .before .before .before .before .before .before .before .before .before .before .before .before .before .before .before .before .before .before .before .before .pre .1 .2))
 
 pack-normal-add-k : (t : ℕ) → pack-normal-lts.Need-add-k (pack-claims t) (pack-normal-at t) pack-normal.Post pack-normal-Inv-loop pack-normal-μ-loop
-pack-normal-add-k t c = omega (arith, items-more (pack-at t (c .before .before .before .before .before .before .before .before .before .before .before .before .before .before .before .before .before)) (c .before .before .before .before .before .before .before .before .before .before .before .before .before .before .item-walk .ensures) (c .before .before .before .before .before .before .before .before .before .before .before .before .w .given .1) (c .before .before .before .before .before .before .before .before .put-pack .ensures) (c .before .before .item-normal .ensures) .writes .sum, pack-at t (c .before .before .before .before .before .before .before .before .before .before .before .before .before .before .before .before .before) .room, c .before .before .before .before .before .before .before .before .before .before .before .before .before .before .before .before .before .before .before .before .before .before .before .before .before .before .before .good)
+pack-normal-add-k t c = omega (arith, items-more (pack-at t (c .before .before .before .before .before .before .before .before .before .before .before .before .before .before .before .before .before .before .before)) (c .before .before .before .before .before .before .before .before .before .before .before .before .before .before .before .item-walk .ensures) (c .before .before .before .before .before .before .before .before .before .before .before .before .before .w .given .1) (c .before .before .before .before .before .before .before .before .before .put-pack .ensures) (c .before .before .item-normal .ensures) .writes .sum, pack-at t (c .before .before .before .before .before .before .before .before .before .before .before .before .before .before .before .before .before .before .before) .room, c .before .before .before .before .before .before .before .before .before .before .before .before .before .before .before .before .before .before .before .before .before .before .before .before .before .before .before .before .before .good)
 
 pack-normal-loop-less : (t : ℕ) → pack-normal-lts.Need-loop-less (pack-claims t) (pack-normal-at t) pack-normal.Post pack-normal-Inv-loop pack-normal-μ-loop
-pack-normal-loop-less t c = omega (arith, pack-room (pack-at t (c .before .before .before .before .before .before .before .before .before .before .before .before .before .before .before .before .before)))
+pack-normal-loop-less t c = omega (arith, pack-room (pack-at t (c .before .before .before .before .before .before .before .before .before .before .before .before .before .before .before .before .before .before)))
 
 pack-normal-loop-again : (t : ℕ) → pack-normal-lts.Need-loop-again (pack-claims t) (pack-normal-at t) pack-normal.Post pack-normal-Inv-loop pack-normal-μ-loop
-pack-normal-loop-again t c = copied-more (pack-at t (c .before .before .before .before .before .before .before .before .before .before .before .before .before .before .before .before .before)) (c .before .before .before .before .before .before .before .before .before .before .before .before .before .before .item-walk .ensures) (c .before .before .before .before .before .before .before .before .before .before .before .before .w .given .1) (c .before .before .before .before .before .before .before .before .put-pack .ensures) (c .before .before .before .before .before .if1 .taken) (c .before .before .copy-run .ensures)
+pack-normal-loop-again t c = copied-more (pack-at t (c .before .before .before .before .before .before .before .before .before .before .before .before .before .before .before .before .before .before)) (c .before .before .before .before .before .before .before .before .before .before .before .before .before .before .item-walk .ensures) (c .before .before .before .before .before .before .before .before .before .before .before .before .w .given .1) (c .before .before .before .before .before .before .before .before .put-pack .ensures) (c .before .before .before .before .before .if1 .taken) (c .before .before .copy-run .ensures)
 
 pack-normal-loop-less-2 : (t : ℕ) → pack-normal-lts.Need-loop-less-2 (pack-claims t) (pack-normal-at t) pack-normal.Post pack-normal-Inv-loop pack-normal-μ-loop
-pack-normal-loop-less-2 t c = omega (arith, pack-room (pack-at t (c .before .before .before .before .before .before .before .before .before .before .before .before .before .before .before .before .before)))
+pack-normal-loop-less-2 t c = omega (arith, pack-room (pack-at t (c .before .before .before .before .before .before .before .before .before .before .before .before .before .before .before .before .before .before .before)))
 
 pack-normal-loop-again-2 : (t : ℕ) → pack-normal-lts.Need-loop-again-2 (pack-claims t) (pack-normal-at t) pack-normal.Post pack-normal-Inv-loop pack-normal-μ-loop
-pack-normal-loop-again-2 t c = items-more (pack-at t (c .before .before .before .before .before .before .before .before .before .before .before .before .before .before .before .before .before)) (c .before .before .before .before .before .before .before .before .before .before .before .before .before .before .item-walk .ensures) (c .before .before .before .before .before .before .before .before .before .before .before .before .w .given .1) (c .before .before .before .before .before .before .before .before .put-pack .ensures) (c .before .before .item-normal .ensures)
+pack-normal-loop-again-2 t c = items-more (pack-at t (c .before .before .before .before .before .before .before .before .before .before .before .before .before .before .before .before .before .before .before)) (c .before .before .before .before .before .before .before .before .before .before .before .before .before .before .before .item-walk .ensures) (c .before .before .before .before .before .before .before .before .before .before .before .before .before .w .given .1) (c .before .before .before .before .before .before .before .before .before .put-pack .ensures) (c .before .before .item-normal .ensures)
 
 pack-normal-same-length-3 : (t : ℕ) → pack-normal-lts.Need-same-length-3 (pack-claims t) (pack-normal-at t) pack-normal.Post pack-normal-Inv-loop pack-normal-μ-loop
 pack-normal-same-length-3 t c = c .before .loop .inv .writes .same

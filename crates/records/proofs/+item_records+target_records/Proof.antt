@@ -53,38 +53,38 @@ use Rattle.records.proofs.+item_records+target_records.{statement}
 use Rattle.records.proofs.+item_records+target_records.Tie.{close}
 
 -- the records of the set call the targets, and those the records of a target
-abbrev μ-item-records : Measures 3 item-records-kinds.ps ℕ
+abbrev μ-item-records : Measures 4 item-records-kinds.ps ℕ
 μ-item-records κs a = depth (a .1 .1 .1 .0)
 
-abbrev μ-target-records : Measures 3 target-records-kinds.ps ℕ
+abbrev μ-target-records : Measures 4 target-records-kinds.ps ℕ
 μ-target-records κs a = 1
 
-abbrev item-records-at : ℕ → In 3 item-records-kinds.ps
+abbrev item-records-at : ℕ → In 4 item-records-kinds.ps
 item-records-at t =
-    and 3 item-records-kinds.ps (is 3 item-records-kinds.ps μ-item-records t) item-records.Pre
+    and 4 item-records-kinds.ps (is 4 item-records-kinds.ps μ-item-records t) item-records.Pre
 
-abbrev item-records-below : ℕ → In 3 item-records-kinds.ps
+abbrev item-records-below : ℕ → In 4 item-records-kinds.ps
 item-records-below t =
     and
-    3
+    4
     item-records-kinds.ps
-    (falls 3 item-records-kinds.ps _<_ μ-item-records t)
+    (falls 4 item-records-kinds.ps _<_ μ-item-records t)
     item-records.Pre
 
-abbrev target-records-at : ℕ → In 3 target-records-kinds.ps
+abbrev target-records-at : ℕ → In 4 target-records-kinds.ps
 target-records-at t =
     and
-    3
+    4
     target-records-kinds.ps
-    (is 3 target-records-kinds.ps μ-target-records t)
+    (is 4 target-records-kinds.ps μ-target-records t)
     target-records.Pre
 
-abbrev target-records-below : ℕ → In 3 target-records-kinds.ps
+abbrev target-records-below : ℕ → In 4 target-records-kinds.ps
 target-records-below t =
     and
-    3
+    4
     target-records-kinds.ps
-    (falls 3 target-records-kinds.ps _<_ μ-target-records t)
+    (falls 4 target-records-kinds.ps _<_ μ-target-records t)
     target-records.Pre
 
 -- what is known of the callees, the other walk's at a smaller measure
@@ -95,10 +95,10 @@ abbrev target-claims : ℕ → target-records-lts.Claims
 target-claims t = (strewn-reads.Asked, strewn-reads.Learnt, is-mark-reads.Asked, is-mark-reads.Learnt, target-at-reads.Asked, target-at-reads.Learnt, stop-reads.Asked, stop-reads.Learnt, run-reads.Asked, run-reads.Learnt, goes-on-reads.Asked, goes-on-reads.Learnt, item-records-below t, item-records.Post, later-reads.Asked, later-reads.Learnt, either-reads.Asked, either-reads.Learnt, oid-width-reads.Asked, oid-width-reads.Learnt, pack-sizes-reads.Asked, pack-sizes-reads.Learnt, plus-reads.Asked, plus-reads.Learnt, after-reads.Asked, after-reads.Learnt, higher-reads.Asked, higher-reads.Learnt, smaller-reads.Asked, smaller-reads.Learnt)
 
 abbrev item-records-Inv-loop : item-records-lts.InvT-loop
-item-records-Inv-loop table glances s set alone p₀ sum₀ mark₀ top₀ low₀ clear₀ p sum mark top low clear = RecordsGoing set (formOf alone) s p sum mark top low × Clear (peek true false set) s clear
+item-records-Inv-loop table glances s set alone bits₀ p₀ sum₀ mark₀ top₀ low₀ clear₀ bits p sum mark top low clear = RecordsGoing set (formOf alone) s p sum mark top low × Clear (peek true false set) s clear
 
 abbrev item-records-μ-loop : item-records-lts.MeasureT-loop
-item-records-μ-loop table glances s set alone p₀ sum₀ mark₀ top₀ low₀ clear₀ p sum mark top low clear = length s - p
+item-records-μ-loop table glances s set alone bits₀ p₀ sum₀ mark₀ top₀ low₀ clear₀ bits p sum mark top low clear = length s - p
 
 -- a record, where it was read
 part-here : (t : ℕ) (a : item-records-lts.After-a (item-claims t) (item-records-at t) item-records.Post item-records-Inv-loop item-records-μ-loop)
@@ -119,8 +119,8 @@ part-told-at : (t : ℕ) (j : item-records-lts.Joined2 (item-claims t) (item-rec
 part-told-at t j =
     let a = j .before .before .before in
     ⊎-elim
-    (λ x. series-told (part-here t a) (j .before .is-series .ensures) (x .0 .taken) (x .2 .ensures) (x .4 ∙ x .3 .ensures))
-    (λ x. item-told (part-here t a) (j .before .is-series .ensures) (x .0 .left) (x .2 ∙ x .1 .ensures))
+    (λ x. series-told (part-here t a) (j .before .is-series .ensures) (x .0 .taken) (x .3 .ensures) (x .6 ∙ x .4 .ensures))
+    (λ x. item-told (part-here t a) (j .before .is-series .ensures) (x .0 .left) (x .3 ∙ x .1 .ensures))
     (j .if2 .came)
 
 item-records-loop-holds : (t : ℕ) → item-records-lts.Need-loop-holds (item-claims t) (item-records-at t) item-records.Post item-records-Inv-loop item-records-μ-loop
@@ -172,15 +172,15 @@ item-records-part-target-records-end t c =
 
 item-records-target-records-requires : (t : ℕ) → item-records-lts.Need-target-records-requires (item-claims t) (item-records-at t) item-records.Post item-records-Inv-loop item-records-μ-loop
 item-records-target-records-requires t c κs =
-    let a = c .before .before .before .before in (
-      omega (arith, series-deep (a .before .before .before .before .before .before .before .before .before .before .args .set) (a .a .given .0 .0) (c .before .before .is-series .ensures) (c .before .if2 .taken), a .before .before .before .before .before .before .before .before .before .before .pre .0),
-      (a .before .before .before .before .before .before .before .before .before .before .pre .1 .0, lent-small (part-here t a) (c .before .before .is-series .ensures) (c .before .if2 .taken), a .before .before .before .before .before .before .before .before .before .before .pre .1 .2),
+    let a = c .before .before .before .before .before in (
+      omega (arith, series-deep (a .before .before .before .before .before .before .before .before .before .before .args .set) (a .a .given .0 .0) (c .before .before .before .is-series .ensures) (c .before .before .if2 .taken), a .before .before .before .before .before .before .before .before .before .before .pre .0),
+      (a .before .before .before .before .before .before .before .before .before .before .pre .1 .0, lent-small (part-here t a) (c .before .before .before .is-series .ensures) (c .before .before .if2 .taken), a .before .before .before .before .before .before .before .before .before .before .pre .1 .2),
     )
 
 item-records-series-of-requires : (t : ℕ) → item-records-lts.Need-series-of-requires (item-claims t) (item-records-at t) item-records.Post item-records-Inv-loop item-records-μ-loop
 item-records-series-of-requires t c κs =
-    let a = c .before .before .before .before .before in
-    (within-more (c .target-records .result) _ 65536 (lent-small (part-here t a) (c .before .before .before .is-series .ensures) (c .before .before .if2 .taken)) (c .target-records .ensures .1), omega arith)
+    let a = c .before .before .before .before .before .before in
+    (within-more (c .target-records .result) _ 65536 (lent-small (part-here t a) (c .before .before .before .before .is-series .ensures) (c .before .before .before .if2 .taken)) (c .target-records .ensures .1), omega arith)
 
 item-records-one-item-requires : (t : ℕ) → item-records-lts.Need-one-item-requires (item-claims t) (item-records-at t) item-records.Post item-records-Inv-loop item-records-μ-loop
 item-records-one-item-requires t c κs =
@@ -212,7 +212,7 @@ item-records-either-requires : (t : ℕ) → item-records-lts.Need-either-requir
 item-records-either-requires t c κs = search needs
 
 item-records-after-requires : (t : ℕ) → item-records-lts.Need-after-requires (item-claims t) (item-records-at t) item-records.Post item-records-Inv-loop item-records-μ-loop
-item-records-after-requires t c κs = c .before .before .before .before .before .before .before .before .before .before .before .before .before .before .loop .inv .1
+item-records-after-requires t c κs = c .before .before .before .before .before .before .before .before .before .before .before .before .before .before .before .loop .inv .1
 
 item-records-larger-requires : (t : ℕ) → item-records-lts.Need-larger-requires (item-claims t) (item-records-at t) item-records.Post item-records-Inv-loop item-records-μ-loop
 item-records-larger-requires t c κs = search needs
@@ -222,32 +222,32 @@ item-records-smaller-requires t c κs = search needs
 
 item-records-add-p : (t : ℕ) → item-records-lts.Need-add-p (item-claims t) (item-records-at t) item-records.Post item-records-Inv-loop item-records-μ-loop
 item-records-add-p t c =
-    let a = c .before .before .before .before .before .before .before .before .before .before .before .before in
-    omega (arith, part-room (part-here t a) (part-told-at t (c .before .before .before .before .before .before .before .before .before)) (c .before .before .before .before .before .before .before .w .given .1) .0, a .before .before .before .before .before .before .before .before .before .before .pre .1 .1)
+    let a = c .before .before .before .before .before .before .before .before .before .before .before .before .before in
+    omega (arith, part-room (part-here t a) (part-told-at t (c .before .before .before .before .before .before .before .before .before .before)) (c .before .before .before .before .before .before .before .before .w .given .1) .0, a .before .before .before .before .before .before .before .before .before .before .pre .1 .1)
 
 item-records-loop-less : (t : ℕ) → item-records-lts.Need-loop-less (item-claims t) (item-records-at t) item-records.Post item-records-Inv-loop item-records-μ-loop
 item-records-loop-less t c =
-    let a = c .before .before .before .before .before .before .before .before .before .before .before .before in
-    let r = part-room (part-here t a) (part-told-at t (c .before .before .before .before .before .before .before .before .before)) (c .before .before .before .before .before .before .before .w .given .1) in
+    let a = c .before .before .before .before .before .before .before .before .before .before .before .before .before in
+    let r = part-room (part-here t a) (part-told-at t (c .before .before .before .before .before .before .before .before .before .before)) (c .before .before .before .before .before .before .before .before .w .given .1) in
     omega (arith, r .0, r .1, a .before .before .before .before .before .loop-test .taken)
 
 item-records-loop-again : (t : ℕ) → item-records-lts.Need-loop-again (item-claims t) (item-records-at t) item-records.Post item-records-Inv-loop item-records-μ-loop
 item-records-loop-again t c =
-    let a = c .before .before .before .before .before .before .before .before .before .before .before .before in
-    (part-more (part-here t a) (part-told-at t (c .before .before .before .before .before .before .before .before .before)) (c .before .before .before .before .before .before .before .w .given .1) (c .before .before .before .before .before .plus .ensures) (c .before .before .before .before .either .ensures) (c .before .before .larger .ensures) (c .before .smaller .ensures), c .before .before .before .after .ensures)
+    let a = c .before .before .before .before .before .before .before .before .before .before .before .before .before in
+    (part-more (part-here t a) (part-told-at t (c .before .before .before .before .before .before .before .before .before .before)) (c .before .before .before .before .before .before .before .before .w .given .1) (c .before .before .before .before .before .before .plus .ensures) (c .before .before .before .before .before .either .ensures) (c .before .before .larger .ensures) (c .before .smaller .ensures), c .before .before .before .after .ensures)
 
 item-records-returns-4 : (t : ℕ) → item-records-lts.Need-returns-4 (item-claims t) (item-records-at t) item-records.Post item-records-Inv-loop item-records-μ-loop
 item-records-returns-4 t c = turn-done (c .before .loop .inv .0) (c .loop-test .left)
 
 abbrev target-records-Inv-loop : target-records-lts.InvT-loop
-target-records-Inv-loop table glances s alone p₀ sum₀ top₀ low₀ clear₀ p sum top low clear = TargetsGoing (formOf alone) s p sum top low × Clear (peek true true false) s clear × (top < 2 ^ 63)
+target-records-Inv-loop table glances s alone bits₀ p₀ sum₀ top₀ low₀ clear₀ bits p sum top low clear = TargetsGoing (formOf alone) s p sum top low × Clear (peek true true false) s clear × (top < 2 ^ 63)
 
 abbrev target-records-μ-loop : target-records-lts.MeasureT-loop
-target-records-μ-loop table glances s alone p₀ sum₀ top₀ low₀ clear₀ p sum top low clear = length s - p
+target-records-μ-loop table glances s alone bits₀ p₀ sum₀ top₀ low₀ clear₀ bits p sum top low clear = length s - p
 
 -- a target, where it was found
 target-here : (t : ℕ) (a : target-records-lts.After-a (target-claims t) (target-records-at t) target-records.Post target-records-Inv-loop target-records-μ-loop)
-    → TargetAt (formOf (a .before .before .before .before .before .before .before .before .before .before .before .before .args .alone)) (a .before .before .before .before .before .before .before .before .before .before .before .before .args .s .now) (a .before .before .before .before .before .before .loop .p) (a .before .before .before .before .before .before .loop .sum) (a .before .before .before .before .before .before .loop .top) (a .before .before .before .before .before .before .loop .low) (a .a .given .0 .0) (a .a .given .0 .1 .0) (a .a .given .0 .1 .1 .0) (a .a .given .0 .1 .1 .1 .0)
+    → TargetAt (formOf (a .before .before .before .before .before .before .before .before .before .before .before .before .before .args .alone)) (a .before .before .before .before .before .before .before .before .before .before .before .before .before .args .s .now) (a .before .before .before .before .before .before .loop .p) (a .before .before .before .before .before .before .loop .sum) (a .before .before .before .before .before .before .loop .top) (a .before .before .before .before .before .before .loop .low) (a .a .given .0 .0) (a .a .given .0 .1 .0) (a .a .given .0 .1 .1 .0) (a .a .given .0 .1 .1 .1 .0)
 target-here t a = record {
   going = a .before .before .before .before .before .before .loop .inv .0;
   here = a .before .before .before .before .before .loop-test .taken;
@@ -255,12 +255,12 @@ target-here t a = record {
   it = a .before .before .target-at .result;
   told = a .before .before .target-at .ensures;
   whole = a .a .given .1;
-  bytes = λ i. a .before .before .before .before .before .before .before .before .before .shared-slice-known3 .given i .fits;
-  most = a .before .before .before .before .before .before .before .before .before .before .before .before .pre .1 .1;
+  bytes = λ i. a .before .before .before .before .before .before .before .before .before .before .shared-slice-known3 .given i .fits;
+  most = a .before .before .before .before .before .before .before .before .before .before .before .before .before .pre .1 .1;
 }
 
 target-records-strewn-requires : (t : ℕ) → target-records-lts.Need-strewn-requires (target-claims t) (target-records-at t) target-records.Post target-records-Inv-loop target-records-μ-loop
-target-records-strewn-requires t c κs = let k = c .before .before .before .pre .1 in (k .2, k .1)
+target-records-strewn-requires t c κs = let k = c .before .before .before .before .pre .1 in (k .2, k .1)
 
 target-records-loop-holds : (t : ℕ) → target-records-lts.Need-loop-holds (target-claims t) (target-records-at t) target-records.Post target-records-Inv-loop target-records-μ-loop
 target-records-loop-holds t c = (c .before .strewn .ensures .0, clear-none _ _, c .before .strewn .ensures .1)
@@ -289,43 +289,43 @@ target-records-returns-2 t c = head-fault _ (c .before .before .before .before .
 target-records-add-from : (t : ℕ) → target-records-lts.Need-add-from (target-claims t) (target-records-at t) target-records.Post target-records-Inv-loop target-records-μ-loop
 target-records-add-from t c =
     let a = c .before in
-    omega (arith, target-room (target-here t a) .0, a .before .before .before .before .before .before .before .before .before .before .before .before .pre .1 .1)
+    omega (arith, target-room (target-here t a) .0, a .before .before .before .before .before .before .before .before .before .before .before .before .before .pre .1 .1)
 
 target-records-sub-items : (t : ℕ) → target-records-lts.Need-sub-items (target-claims t) (target-records-at t) target-records.Post target-records-Inv-loop target-records-μ-loop
 target-records-sub-items t c =
     let a = c .before in
-    omega (arith, target-room (target-here t a) .0, a .before .before .before .before .before .before .before .before .before .before .before .before .pre .1 .1)
+    omega (arith, target-room (target-here t a) .0, a .before .before .before .before .before .before .before .before .before .before .before .before .before .pre .1 .1)
 
 target-records-part-items-start : (t : ℕ) → target-records-lts.Need-part-items-start (target-claims t) (target-records-at t) target-records.Post target-records-Inv-loop target-records-μ-loop
 target-records-part-items-start t c =
     let a = c .before in
-    omega (arith, target-room (target-here t a) .0, a .before .before .before .before .before .before .before .before .before .before .before .before .pre .1 .1)
+    omega (arith, target-room (target-here t a) .0, a .before .before .before .before .before .before .before .before .before .before .before .before .before .pre .1 .1)
 
 target-records-part-items-end : (t : ℕ) → target-records-lts.Need-part-items-end (target-claims t) (target-records-at t) target-records.Post target-records-Inv-loop target-records-μ-loop
 target-records-part-items-end t c =
     let a = c .before in
-    omega (arith, target-room (target-here t a) .0, a .before .before .before .before .before .before .before .before .before .before .before .before .pre .1 .1)
+    omega (arith, target-room (target-here t a) .0, a .before .before .before .before .before .before .before .before .before .before .before .before .before .pre .1 .1)
 
 target-records-run-requires : (t : ℕ) → target-records-lts.Need-run-requires (target-claims t) (target-records-at t) target-records.Post target-records-Inv-loop target-records-μ-loop
 target-records-run-requires t c κs =
     let a = c .before .before in
-    (a .before .before .before .before .before .before .before .before .before .before .before .before .pre .1 .2, target-turns.lent-small (target-here t a), refl)
+    (a .before .before .before .before .before .before .before .before .before .before .before .before .before .pre .1 .2, target-turns.lent-small (target-here t a), refl)
 
 target-records-goes-on-requires : (t : ℕ) → target-records-lts.Need-goes-on-requires (target-claims t) (target-records-at t) target-records.Post target-records-Inv-loop target-records-μ-loop
 target-records-goes-on-requires t c κs = search needs
 
 target-records-item-records-requires : (t : ℕ) → target-records-lts.Need-item-records-requires (target-claims t) (target-records-at t) target-records.Post target-records-Inv-loop target-records-μ-loop
 target-records-item-records-requires t c κs =
-    let a = c .before .before .before .before .before .before in
-    (omega (arith, a .before .before .before .before .before .before .before .before .before .before .before .before .pre .0), (a .before .before .before .before .before .before .before .before .before .before .before .before .pre .1 .0, target-turns.lent-small (target-here t a), a .before .before .before .before .before .before .before .before .before .before .before .before .pre .1 .2))
+    let a = c .before .before .before .before .before .before .before in
+    (omega (arith, a .before .before .before .before .before .before .before .before .before .before .before .before .before .pre .0), (a .before .before .before .before .before .before .before .before .before .before .before .before .before .pre .1 .0, target-turns.lent-small (target-here t a), a .before .before .before .before .before .before .before .before .before .before .before .before .before .pre .1 .2))
 
 -- what the records of a target say, whichever way they were walked
 target-told : (t : ℕ) (j : target-records-lts.Joined2 (target-claims t) (target-records-at t) target-records.Post target-records-Inv-loop target-records-μ-loop)
-    → (Good (j .if2 .sizes) (j .if2 .mark) ≡ recordsWalk pack (formOf (j .before .before .before .before .before .before .before .before .before .before .before .before .before .before .before .before .before .before .args .alone)) (target-turns.lent (target-here t (j .before .before .before .before .before .before)))) × Within (Good (j .if2 .sizes) (j .if2 .mark)) (length (target-turns.lent (target-here t (j .before .before .before .before .before .before))))
+    → (Good (j .if2 .sizes) (j .if2 .mark) ≡ recordsWalk pack (formOf (j .before .before .before .before .before .before .before .before .before .before .before .before .before .before .before .before .before .before .before .args .alone)) (target-turns.lent (target-here t (j .before .before .before .before .before .before)))) × Within (Good (j .if2 .sizes) (j .if2 .mark)) (length (target-turns.lent (target-here t (j .before .before .before .before .before .before))))
 target-told t j =
     ⊎-elim
-    (λ x. told-as _ (same-good (x .5) (x .6) ∙ sym (x .3 .given .1)) (x .1 .ensures))
-    (λ x. told-as _ (same-good (x .1) (x .2)) (records-over (j .before .before .before .run .ensures .0) (sym (j .before .goes-on .ensures) ∙ x .0 .left)))
+    (λ x. told-as _ (same-good (x .7) (x .8) ∙ sym (x .4 .given .1)) (x .2 .ensures))
+    (λ x. told-as _ (same-good (x .2) (x .3)) (records-over (j .before .before .before .run .ensures .0) (sym (j .before .goes-on .ensures) ∙ x .0 .left)))
     (j .if2 .came)
 
 target-records-enum-known-w : (t : ℕ) → target-records-lts.Need-enum-known-w (target-claims t) (target-records-at t) target-records.Post target-records-Inv-loop target-records-μ-loop
@@ -336,12 +336,12 @@ target-records-enum-told-2 t c = search needs
 
 target-records-later-requires : (t : ℕ) → target-records-lts.Need-later-requires (target-claims t) (target-records-at t) target-records.Post target-records-Inv-loop target-records-μ-loop
 target-records-later-requires t c κs =
-    let a = c .before .before .before .before .before .before .before .before .before in
+    let a = c .before .before .before .before .before .before .before .before .before .before in
     vals-within (target-here t a) (c .before .before .item-records .ensures)
 
 target-records-returns-3 : (t : ℕ) → target-records-lts.Need-returns-3 (target-claims t) (target-records-at t) target-records.Post target-records-Inv-loop target-records-μ-loop
 target-records-returns-3 t c =
-    let a = c .before .before .before .before .before .before .before .before .before .before in
+    let a = c .before .before .before .before .before .before .before .before .before .before .before in
     vals-fault (target-here t a) (c .before .before .before .item-records .ensures) (c .before .enum-told2 .given .1) (c .later .ensures)
 
 target-records-either-requires : (t : ℕ) → target-records-lts.Need-either-requires (target-claims t) (target-records-at t) target-records.Post target-records-Inv-loop target-records-μ-loop
@@ -363,34 +363,34 @@ target-records-plus-requires t c κs =
     target-small (target-here t a) (target-told t (c .before .before .before .before)) refl (c .before .oid-width .ensures) (c .pack-sizes .ensures)
 
 target-records-after-requires : (t : ℕ) → target-records-lts.Need-after-requires (target-claims t) (target-records-at t) target-records.Post target-records-Inv-loop target-records-μ-loop
-target-records-after-requires t c κs = c .before .before .before .before .before .before .before .before .before .before .before .before .before .before .before .before .before .loop .inv .1
+target-records-after-requires t c κs = c .before .before .before .before .before .before .before .before .before .before .before .before .before .before .before .before .before .before .loop .inv .1
 
 target-records-higher-requires : (t : ℕ) → target-records-lts.Need-higher-requires (target-claims t) (target-records-at t) target-records.Post target-records-Inv-loop target-records-μ-loop
-target-records-higher-requires t c κs = c .before .before .before .before .before .before .before .before .before .before .before .before .before .before .before .before .before .before .loop .inv .2
+target-records-higher-requires t c κs = c .before .before .before .before .before .before .before .before .before .before .before .before .before .before .before .before .before .before .before .loop .inv .2
 
 target-records-smaller-requires : (t : ℕ) → target-records-lts.Need-smaller-requires (target-claims t) (target-records-at t) target-records.Post target-records-Inv-loop target-records-μ-loop
 target-records-smaller-requires t c κs = search needs
 
 target-records-add-p : (t : ℕ) → target-records-lts.Need-add-p (target-claims t) (target-records-at t) target-records.Post target-records-Inv-loop target-records-μ-loop
 target-records-add-p t c =
-    let a = c .before .before .before .before .before .before .before .before .before .before .before .before .before .before .before in
-    omega (arith, next-room (target-here t a) (target-told t (c .before .before .before .before .before .before .before .before .before)) refl, a .before .before .before .before .before .before .before .before .before .before .before .before .pre .1 .1)
+    let a = c .before .before .before .before .before .before .before .before .before .before .before .before .before .before .before .before in
+    omega (arith, next-room (target-here t a) (target-told t (c .before .before .before .before .before .before .before .before .before .before)) refl, a .before .before .before .before .before .before .before .before .before .before .before .before .before .pre .1 .1)
 
 target-records-loop-less : (t : ℕ) → target-records-lts.Need-loop-less (target-claims t) (target-records-at t) target-records.Post target-records-Inv-loop target-records-μ-loop
 target-records-loop-less t c =
-    let a = c .before .before .before .before .before .before .before .before .before .before .before .before .before .before .before in
-    omega (arith, next-room (target-here t a) (target-told t (c .before .before .before .before .before .before .before .before .before)) refl, a .before .before .before .before .before .loop-test .taken)
+    let a = c .before .before .before .before .before .before .before .before .before .before .before .before .before .before .before .before in
+    omega (arith, next-room (target-here t a) (target-told t (c .before .before .before .before .before .before .before .before .before .before)) refl, a .before .before .before .before .before .loop-test .taken)
 
 target-records-loop-again : (t : ℕ) → target-records-lts.Need-loop-again (target-claims t) (target-records-at t) target-records.Post target-records-Inv-loop target-records-μ-loop
 target-records-loop-again t c =
-    let a = c .before .before .before .before .before .before .before .before .before .before .before .before .before .before .before in
+    let a = c .before .before .before .before .before .before .before .before .before .before .before .before .before .before .before .before in
     let u = c .before .before .higher .ensures in
-    (target-more (target-here t a) (target-told t (c .before .before .before .before .before .before .before .before .before)) refl (c .before .before .before .before .before .before .oid-width .ensures) (either-is (a .before .before .before .before .before .before .before .before .before .before .before .before .args .alone) _ (c .before .before .before .before .before .before .before .before .either .ensures)) (c .before .before .before .before .before .before .before .if3 .taken) (c .before .before .before .before .plus .ensures ∙ ap (plusSizes _) (c .before .before .before .before .before .pack-sizes .ensures)) (u .0, u .1) (c .before .smaller .ensures), c .before .before .before .after .ensures, u .2 (target-room (target-here t a) .1))
+    (target-more (target-here t a) (target-told t (c .before .before .before .before .before .before .before .before .before .before)) refl (c .before .before .before .before .before .before .before .oid-width .ensures) (either-is (a .before .before .before .before .before .before .before .before .before .before .before .before .before .args .alone) _ (c .before .before .before .before .before .before .before .before .before .either .ensures)) (c .before .before .before .before .before .before .before .before .if3 .taken) (c .before .before .before .before .before .plus .ensures ∙ ap (plusSizes _) (c .before .before .before .before .before .before .pack-sizes .ensures)) (u .0, u .1) (c .before .smaller .ensures), c .before .before .before .after .ensures, u .2 (target-room (target-here t a) .1))
 
 target-records-returns-4 : (t : ℕ) → target-records-lts.Need-returns-4 (target-claims t) (target-records-at t) target-records.Post target-records-Inv-loop target-records-μ-loop
 target-records-returns-4 t c =
     let a = c .before .before .before .before .before .before .before .before in
-    no-location (target-here t a) (target-told t (c .before .before)) refl (either-is (a .before .before .before .before .before .before .before .before .before .before .before .before .args .alone) _ (c .before .either .ensures)) (c .if3 .left) refl
+    no-location (target-here t a) (target-told t (c .before .before)) refl (either-is (a .before .before .before .before .before .before .before .before .before .before .before .before .before .args .alone) _ (c .before .either .ensures)) (c .if3 .left) refl
 
 target-records-returns-5 : (t : ℕ) → target-records-lts.Need-returns-5 (target-claims t) (target-records-at t) target-records.Post target-records-Inv-loop target-records-μ-loop
 target-records-returns-5 t c = turn-done (c .before .loop .inv .0) (c .loop-test .left)

@@ -83,13 +83,13 @@ is-all-requires-2 : tie.Need-is-all-requires-2
 is-all-requires-2 c κs = search needs
 
 after-series-requires-2 : tie.Need-after-series-requires-2
-after-series-requires-2 c κs = series-asks (here (c .before .before .before .before .before .before .before .before .before .before .before .before)) (c .before .before .strewn .result) (rw (tail-part 0) at (c .before .before .strewn .ensures)) (c .before .is-all2 .ensures (c .if6 .taken))
+after-series-requires-2 c κs = series-asks (here (c .before .before .before .before .before .before .before .before .before .before .before .before .before)) (c .before .before .strewn .result) (rw (tail-part 0) at (c .before .before .strewn .ensures)) (c .before .is-all2 .ensures (c .if6 .taken))
 
 returns-5 : tie.Need-returns-5
-returns-5 c = series-goes (here (c .before .before .before .before .before .before .before .before .before .before .before .before .before)) (c .before .before .before .strewn .result) (rw (tail-part 0) at (c .before .before .before .strewn .ensures)) (c .before .before .is-all2 .ensures (c .before .if6 .taken)) (c .after-series2 .ensures)
+returns-5 c = series-goes (here (c .before .before .before .before .before .before .before .before .before .before .before .before .before .before)) (c .before .before .before .strewn .result) (rw (tail-part 0) at (c .before .before .before .strewn .ensures)) (c .before .before .is-all2 .ensures (c .before .if6 .taken)) (c .after-series2 .ensures)
 
 returns-6 : tie.Need-returns-6
-returns-6 c = c .before .before .before .before .before .before .before .before .before .before .before .before .before .before .before .before .before .before .before .pre .2
+returns-6 c = c .before .before .before .before .before .before .before .before .before .before .before .before .before .before .before .before .before .before .before .before .pre .2
 
 returns-7 : tie.Need-returns-7
 returns-7 c = c .before .before .before .before .before .before .before .before .before .before .before .before .before .before .before .pre .2

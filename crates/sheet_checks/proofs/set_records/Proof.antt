@@ -1,4 +1,4 @@
--- `sheet_checks::set_records` meets its contract: what was walked is all, or the walk over the set begins anew.
+-- `sheet_checks::set_records` meets its contract: what was told at a glance is all, or the walk over the set begins anew.
 use native.Mathlib.Omega.{arith}
 use lib.ListN.{length}
 use Rattle.coding.proofs.Rooms.{tail-part}
@@ -16,26 +16,20 @@ walked-requires c κs = search needs
 returns : tie.Need-returns
 returns c = told-as (length (c .before .before .before .before .before .before .args .s .now)) (c .walked .ensures) (turn-done (c .before .before .before .glanced .ensures) (omega (arith, c .before .if1 .taken)))
 
-table-requires : tie.Need-table-requires
-table-requires c κs = search needs
+sub-set-anew : tie.Need-sub-set-anew
+sub-set-anew c = search needs
 
-slice-aggregate-item-records : tie.Need-slice-aggregate-item-records
-slice-aggregate-item-records c = search needs
+part-set-anew-start : tie.Need-part-set-anew-start
+part-set-anew-start c = search needs
 
-sub-item-records : tie.Need-sub-item-records
-sub-item-records c = search needs
+part-set-anew-end : tie.Need-part-set-anew-end
+part-set-anew-end c = search needs
 
-part-item-records-start : tie.Need-part-item-records-start
-part-item-records-start c = search needs
-
-part-item-records-end : tie.Need-part-item-records-end
-part-item-records-end c = search needs
-
-item-records-requires : tie.Need-item-records-requires
-item-records-requires c κs = search needs
+set-anew-requires : tie.Need-set-anew-requires
+set-anew-requires c κs = search needs
 
 returns-2 : tie.Need-returns-2
-returns-2 c = rw tail-part at (c .item-records .ensures)
+returns-2 c = rw tail-part at (c .set-anew .ensures)
 
 pub set-records-spec : {M : Type 1} → statement M
 set-records-spec =
@@ -44,10 +38,8 @@ set-records-spec =
     glanced-requires
     walked-requires
     returns
-    table-requires
-    slice-aggregate-item-records
-    sub-item-records
-    part-item-records-start
-    part-item-records-end
-    item-records-requires
+    sub-set-anew
+    part-set-anew-start
+    part-set-anew-end
+    set-anew-requires
     returns-2)

@@ -6,7 +6,7 @@ run-requires : tie.Need-run-requires
 run-requires c κs = (c .before .before .before .pre .2, c .before .before .before .pre .1)
 
 item-rest-requires : tie.Need-item-rest-requires
-item-rest-requires c κs = (c .before .before .before .before .pre .0, c .before .before .before .before .pre .1, c .run .ensures .0, c .before .before .before .before .pre .2)
+item-rest-requires c κs = (c .before .before .before .before .before .pre .0, c .before .before .before .before .before .pre .1, c .before .run .ensures .0, c .before .before .before .before .before .pre .2)
 
 returns : tie.Need-returns
 returns c = c .item-rest .ensures

@@ -21,8 +21,8 @@ part-pack-walk-end c = search needs
 
 pack-walk-requires : tie.Need-pack-walk-requires
 pack-walk-requires c κs =
-    let (g, l, i) = c .before .before .before .before .before .pre in
-    (c .before .before .table .ensures, rw tail-part l, rw tail-part i, g)
+    let (g, l, i) = c .before .before .before .before .before .before .pre in
+    (c .before .before .before .table .ensures, rw tail-part l, rw tail-part i, g)
 
 returns : tie.Need-returns
 returns c = rw tail-part at (c .pack-walk .ensures)

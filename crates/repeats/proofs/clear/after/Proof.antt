@@ -23,13 +23,13 @@ clear-to-requires : tie.Need-clear-to-requires
 clear-to-requires c κs = search needs
 
 returns-6 : tie.Need-returns-6
-returns-6 c = rw (c .before .if6 .taken) (c .clear-to .ensures)
+returns-6 c = rw (c .before .before .if6 .taken) (c .clear-to .ensures)
 
 clear-to-requires-2 : tie.Need-clear-to-requires-2
 clear-to-requires-2 c κs = search needs
 
 returns-7 : tie.Need-returns-7
-returns-7 c = rw (c .before .if6 .left) (c .clear-to2 .ensures)
+returns-7 c = rw (c .before .before .if6 .left) (c .clear-to2 .ensures)
 
 pub after-spec : {M : Type 1} → statement M
 after-spec =

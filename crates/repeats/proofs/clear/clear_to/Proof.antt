@@ -8,10 +8,10 @@ use Rattle.repeats.proofs.clear.clear_to.Statement.{statement}
 use Rattle.repeats.proofs.clear.clear_to.Tie as tie
 
 abbrev Inv-loop : tie.InvT-loop
-Inv-loop s sheet ids set part₀ r₀ part r = ClearBelow part (peek sheet ids set) s r
+Inv-loop s sheet ids set bits₀ part₀ r₀ bits part r = ClearBelow part (peek sheet ids set) s r
 
 abbrev μ-loop : tie.MeasureT-loop
-μ-loop s sheet ids set part₀ r₀ part r = 4 - part
+μ-loop s sheet ids set bits₀ part₀ r₀ bits part r = 4 - part
 
 loop-holds : tie.Need-loop-holds Inv-loop μ-loop
 loop-holds c x h = absurd (omega arith)
@@ -29,7 +29,7 @@ loop-less : tie.Need-loop-less Inv-loop μ-loop
 loop-less c = search needs
 
 loop-again : tie.Need-loop-again Inv-loop μ-loop
-loop-again c = below-more _ _ _ _ (c .before .before .before .loop .inv) _ _ (c .before .part-clear .ensures) (c .least .ensures)
+loop-again c = below-more _ _ _ _ (c .before .before .before .before .loop .inv) _ _ (c .before .part-clear .ensures) (c .least .ensures)
 
 is-other-requires : tie.Need-is-other-requires Inv-loop μ-loop
 is-other-requires c κs = search needs
@@ -38,7 +38,7 @@ clear-to-requires : tie.Need-clear-to-requires Inv-loop μ-loop
 clear-to-requires c κs = search needs
 
 returns : tie.Need-returns Inv-loop μ-loop
-returns c = rw (c .before .before .before .before .if1 .taken) (c .clear-to .ensures)
+returns c = rw (c .before .before .before .before .before .if1 .taken) (c .clear-to .ensures)
 
 returns-2 : tie.Need-returns-2 Inv-loop μ-loop
 returns-2 c = let l = c .before .before .before .before in below-all _ _ _ _ (l .before .loop .inv) (l .loop-test .left)

@@ -40,28 +40,22 @@ next-of-requires c κs = search needs
 returns-2 : tie.Need-returns-2 Inv-loop μ-loop
 returns-2 c = c .before .before .before .before .before .before .before .loop .inv .clear
 
-slice-aggregate-may-stand : tie.Need-slice-aggregate-may-stand Inv-loop μ-loop
-slice-aggregate-may-stand c = sym (c .before .before .before .before .before .before .before .before .loop .inv .long)
-
 may-stand-requires : tie.Need-may-stand-requires Inv-loop μ-loop
-may-stand-requires c κs = c .before .before .before .before .before .before .before .before .loop .inv .long
+may-stand-requires c κs = c .before .before .before .before .before .before .before .before .before .loop .inv .long
 
 returns-3 : tie.Need-returns-3 Inv-loop μ-loop
-returns-3 c = c .before .before .before .before .before .before .before .before .before .before .loop .inv .clear
-
-slice-aggregate-mark : tie.Need-slice-aggregate-mark Inv-loop μ-loop
-slice-aggregate-mark c = sym (c .before .before .before .before .before .before .before .before .before .before .before .loop .inv .long)
+returns-3 c = c .before .before .before .before .before .before .before .before .before .before .before .loop .inv .clear
 
 mark-requires : tie.Need-mark-requires Inv-loop μ-loop
-mark-requires c κs = c .before .before .before .before .before .before .before .before .before .before .before .loop .inv .long
+mark-requires c κs = c .before .before .before .before .before .before .before .before .before .before .before .before .loop .inv .long
 
 loop-again : tie.Need-loop-again Inv-loop μ-loop
 loop-again c =
     let a = c .before .before .before .before .before .before .before in
-    clearing-more _ _ _ _ _ (a .before .before .before .before .before .before .before .loop .inv) (peek-room _ _ _) _ _ (a .before .before .next-of .ensures) (omega (arith, a .if2 .left)) (c .before .before .before .before .before .may-stand .ensures (c .before .before .before .before .if3 .left)) _ (c .before .before .mark .ensures)
+    clearing-more _ _ _ _ _ (a .before .before .before .before .before .before .before .loop .inv) (peek-room _ _ _) _ _ (a .before .before .next-of .ensures) (omega (arith, a .if2 .left)) (c .before .before .before .before .may-stand .ensures (c .before .before .before .if3 .left)) _ (c .before .mark .ensures)
 
 add-q : tie.Need-add-q Inv-loop μ-loop
-add-q c = omega (arith, loop-again c .within, c .before .before .before .before .before .before .before .before .before .before .before .before .before .before .before .before .good)
+add-q c = omega (arith, loop-again c .within, c .before .before .before .before .before .before .before .before .before .before .before .before .before .before .before .before .before .good)
 
 loop-less : tie.Need-loop-less Inv-loop μ-loop
 loop-less c = omega (arith, c .before .before .before .before .before .before .before .if2 .left, c .before .before .before .before .before .before .before .before .before .before .before .before .before .loop-test .taken)
@@ -83,10 +77,8 @@ part-clear-spec =
     part-next-of-end
     next-of-requires
     returns-2
-    slice-aggregate-may-stand
     may-stand-requires
     returns-3
-    slice-aggregate-mark
     mark-requires
     add-q
     loop-less

@@ -24,14 +24,14 @@ pub fn put_len(out: &mut [u8], at: usize, n: usize) -> usize
 }
 
 // The seven low bits, as the last byte has them.
-fn low7(n: u64) -> u8
+pub fn low7(n: u64) -> u8
     ensures { λ r. ⌜ r ≡ n % 128 ⌝ }
 {
     (n & 127) as u8
 }
 
 // The same with the high bit, as every byte before the last has them.
-fn marked7(n: u64) -> u8
+pub fn marked7(n: u64) -> u8
     ensures { λ r. ⌜ r ≡ n % 128 + 128 ⌝ }
 {
     low7(n) | 128

@@ -1,6 +1,6 @@
 // The codings of document 01 from the bytes' side: lengths, tags and ids, numbers, the key and the checksum.
 ghost use mathlib.Core.Path.{_≡_};
-ghost use Prim.Native.Nat.{_+_, _*_, _%_, _^_, _≤_, _<_};
+ghost use Prim.Native.Nat.{_+_, _-_, _*_, _%_, _^_, _≤_, _<_};
 ghost use mathlib.Core.Bool.{_&&_, _||_};
 ghost use lib.ListN.{length, take};
 ghost use Rattle.format.specs.Coding.{bytesNumber, lenOf, oidGo, oid, tagOf, idOf};
@@ -74,6 +74,14 @@ fn push7(v: u64, b: u64) -> u64
     ensures { λ r. ⌜ r ≡ v * 128 + b % 128 ⌝ }
 {
     (v << 7) | (b & 127)
+}
+
+// The id of two bytes, the first with its high bit: for who reads both at once.
+pub fn two7(a: u64, b: u64) -> u64
+    requires { ⌜ (128 ≤ a) × (a < 256) × (b < 128) ⌝ }
+    ensures { λ r. ⌜ r ≡ (a - 128) * 128 + b ⌝ }
+{
+    push7(push7(0, a), b)
 }
 
 // The bytes of a tag or an id: k at most, the last without its high bit.

@@ -192,7 +192,7 @@ pub fn short_pack_head(s: &[u8]) -> Head
         return Head::Fault(0);
     }
     Head::Whole {
-        key: (a - 128) * 128 + b,
+        key: coding::two7(a, b),
         used: 2,
         width: 1,
         size,

@@ -149,8 +149,8 @@ fn put_head(out: &mut [u8], at: usize, n: usize, id: u64) -> usize
         out[a] = id as u8;
         return a + 1;
     }
-    out[a] = (id / 128 + 128) as u8;
-    out[a + 1] = (id % 128) as u8;
+    out[a] = coded::marked7(coding::widths::above7(id));
+    out[a + 1] = coded::low7(id);
     a + 2
 }
 

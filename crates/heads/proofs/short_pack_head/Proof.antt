@@ -54,18 +54,16 @@ returns-7 c = search needs
 returns-8 : tie.Need-returns-8
 returns-8 c = search needs
 
-mul-t14 : tie.Need-mul-t14
-mul-t14 c = search needs
-
-add-t15 : tie.Need-add-t15
-add-t15 c = search needs
+two7-requires : tie.Need-two7-requires
+two7-requires c κs = search needs
 
 returns-9 : tie.Need-returns-9
 returns-9 c =
-    let n = c .before .before .before .before .before .before .before .before in
-    let a = c .before .before .before .before .before .before .wide2 .ensures in
+    let i = c .before in
+    let n = i .before .before .before .before .before .before .before .before in
+    let a = i .before .before .before .before .before .before .wide2 .ensures in
     let few = n .before .before .if2 .left in
-    (pack-head-two _ _ (n .before .before .before .wide .ensures .0) (omega (arith, few)) (omega (arith, n .before .if3 .left, n .before .before .before .before .before .if1 .left)) _ _ (a .0) (c .before .before .before .wide3 .ensures .0) (omega (arith, c .before .before .before .before .before .if5 .left, c .before .if7 .left)) (a .1) (omega (arith, c .before .before .if6 .left)) (omega (arith, c .if8 .left, n .if4 .left)), refl, omega (arith, few), omega arith)
+    rw (c .two7 .ensures) (pack-head-two _ _ (n .before .before .before .wide .ensures .0) (omega (arith, few)) (omega (arith, n .before .if3 .left, n .before .before .before .before .before .if1 .left)) _ _ (a .0) (i .before .before .before .wide3 .ensures .0) (omega (arith, i .before .before .before .before .before .if5 .left, i .before .if7 .left)) (a .1) (omega (arith, i .before .before .if6 .left)) (omega (arith, i .if8 .left, n .if4 .left)), refl, omega (arith, few), omega arith)
 
 pub short-pack-head-spec : {M : Type 1} → statement M
 short-pack-head-spec =
@@ -86,6 +84,5 @@ short-pack-head-spec =
     returns-6
     returns-7
     returns-8
-    mul-t14
-    add-t15
+    two7-requires
     returns-9)

@@ -4,7 +4,7 @@ use lib.ListN.{length-set}
 use borrow.Author.Needs.{needs}
 use Rattle.coded.proofs.Codings.{short-oid}
 use Rattle.packets.proofs.Forms.{len-some}
-use Rattle.packets.proofs.Heads.{front-sized, two-oid, short-head}
+use Rattle.packets.proofs.Heads.{front-sized, two-long, two-oid, short-head}
 use Rattle.packets.proofs.put_head.Statement.{statement}
 use Rattle.packets.proofs.put_head.Tie as tie
 
@@ -50,23 +50,27 @@ same-length-3 c = search needs
 returns-3 : tie.Need-returns-3
 returns-3 c = short-head (c .before .before .before .before .args .n) (c .before .before .before .before .args .id) (c .before .before .before .before .args .out .now) (c .before .before .before .before .args .at) (omega arith) (short-oid _ _ _ (omega arith))
 
+above7-requires : tie.Need-above7-requires
+above7-requires c κs = search needs
+
+marked7-requires : tie.Need-marked7-requires
+marked7-requires c κs = search needs
+
+slice-write-out-3 : tie.Need-slice-write-out-3
+slice-write-out-3 c =
+    let i = c .before .before .before .before .before .before in
+    simp length-set (omega (arith, i .pre .2, front-sized (i .args .n) (i .args .id), len-some (i .args .n), two-long (i .args .id) (omega arith) (omega arith)))
+
+low7-requires : tie.Need-low7-requires
+low7-requires c κs = search needs
+
 add-out : tie.Need-add-out
 add-out c = search needs
 
-cast-out-3 : tie.Need-cast-out-3
-cast-out-3 c = search needs
-
-slice-write-out-3 : tie.Need-slice-write-out-3
-slice-write-out-3 c = simp length-set (omega (arith, c .before .before .before .before .pre .2, front-sized (c .before .before .before .before .args .n) (c .before .before .before .before .args .id), len-some (c .before .before .before .before .args .n), two-oid (c .before .before .before .before .args .id) (c .before .before .before .before .args .out .now) (c .before .before .before .before .args .at) (omega arith) (omega arith) .0))
-
-cast-out-4 : tie.Need-cast-out-4
-cast-out-4 c = search needs
-
-add-out-2 : tie.Need-add-out-2
-add-out-2 c = search needs
-
 slice-write-out-4 : tie.Need-slice-write-out-4
-slice-write-out-4 c = simp length-set (omega (arith, c .before .before .before .before .pre .2, front-sized (c .before .before .before .before .args .n) (c .before .before .before .before .args .id), len-some (c .before .before .before .before .args .n), two-oid (c .before .before .before .before .args .id) (c .before .before .before .before .args .out .now) (c .before .before .before .before .args .at) (omega arith) (omega arith) .0))
+slice-write-out-4 c =
+    let i = c .before .before .before .before .before .before .before in
+    simp length-set (omega (arith, i .pre .2, front-sized (i .args .n) (i .args .id), len-some (i .args .n), two-long (i .args .id) (omega arith) (omega arith)))
 
 add-result-2 : tie.Need-add-result-2
 add-result-2 c = search needs
@@ -75,7 +79,9 @@ same-length-4 : tie.Need-same-length-4
 same-length-4 c = search needs
 
 returns-4 : tie.Need-returns-4
-returns-4 c = short-head (c .before .before .before .before .args .n) (c .before .before .before .before .args .id) (c .before .before .before .before .args .out .now) (c .before .before .before .before .args .at) (omega arith) (two-oid _ _ _ (omega arith) (omega arith))
+returns-4 c =
+    let i = c .before .before .before .before .before .before .before in
+    short-head (i .args .n) (i .args .id) (i .args .out .now) (i .args .at) (omega arith) (two-oid _ _ _ (omega arith) (omega arith) (c .before .before .above7 .ensures) (c .before .marked7 .ensures) (c .low7 .ensures))
 
 pub put-head-spec : {M : Type 1} → statement M
 put-head-spec =
@@ -95,11 +101,11 @@ put-head-spec =
     add-result
     same-length-3
     returns-3
-    add-out
-    cast-out-3
+    above7-requires
+    marked7-requires
     slice-write-out-3
-    cast-out-4
-    add-out-2
+    low7-requires
+    add-out
     slice-write-out-4
     add-result-2
     same-length-4

@@ -91,15 +91,16 @@
  * thread at any time, and from a signal handler, as long as no one changes the
  * lent bytes while it runs.
  *
- * It takes at most 4,096 bytes of stack, whatever the input (3,808 were seen; a
- * signal stack of MINSIGSTKSZ may have fewer). It ends for every input. Usual
- * packets take microseconds, and the worst packets timed under half a
- * millisecond; only where thousands of target ids are alike in their last 14
- * bits does the time grow with the square of their count.
+ * It takes at most 3,688 bytes of stack, whatever the input: its return address
+ * and all below it, summed up over the compiled code (a signal stack of
+ * MINSIGSTKSZ may have fewer; a linker that looks memset up at its first call
+ * takes more, so link with -z now where the stack is small). It ends for every
+ * input. Usual packets take microseconds, and the worst packets timed under
+ * half a millisecond; only where thousands of target ids are alike in their
+ * last 14 bits does the time grow with the square of their count.
  *
  * The calls were proved: what is said here of numbers, places and bytes holds
- * for all inputs. What is said of NULL, alignment and the stack is tested, not
- * proved.
+ * for all inputs. What is said of NULL and alignment is tested, not proved.
  */
 #ifndef VMTI_H
 #define VMTI_H

@@ -4,6 +4,8 @@
 #   x86_run PROGRAM..     runs what x86_cc linked
 #   x86_kit_run PROGRAM.. runs what rt linked, under the kit's loader and C library
 #   x86_archive           sees to target/staticlib/libvmti.a
+#   kept_module FOLDER    the LLVM module of the archive, and the words that the kit's compiler is given with it
+#   kept_clang FOLDER KIND OUT WORD..  that compiler once more on that module, with those words and these; KIND is -c or -S
 #   native_archive FILE   the same code for this machine, to time it; on x86-64 that is the archive itself
 #   native_cc WORD..      compiles and links C with it
 #   second_bench          the second reader's bench, its functions aligned as ours; its path is $second
@@ -35,27 +37,48 @@ x86_archive() {
   make --no-print-directory target/staticlib/libvmti.a > target/staticlib.log 2>&1 || { tail -n 5 target/staticlib.log; return 1; }
 }
 
-# On another machine the LLVM module that rt hands to the kit's compiler is kept and compiled once more, for this machine. No
-# proof is about what comes of it: it is for timing alone. Functions begin at 16 bytes, as in the archive, so that their time does not
-# hang on where the linker puts them.
+# kept_module FOLDER: makes the archive under a home of the kit whose clang keeps what it is given, as module.bc and words
+kept_module() {
+  local home tools=on/$(uname -m)/toolchain
+  home=$(cd "$kit/../../.." && pwd)
+  rm -rf "$1"
+  mkdir -p "$1/$tools/bin"
+  link_all "$home" "$1" on
+  link_all "$home/on/$(uname -m)" "$1/on/$(uname -m)" toolchain
+  link_all "$kit" "$1/$tools" bin
+  link_all "$kit/bin" "$1/$tools/bin" clang
+  printf '#!/bin/sh\nfor word in "$@"; do case $word in *.bc) cp "$word" "%s/module.bc" ;; esac; done\nprintf "%%s\\n" "$@" > "%s/words"\nexec "%s/bin/clang" "$@"\n' \
+    "$PWD/$1" "$PWD/$1" "$kit" > "$1/$tools/bin/clang"
+  chmod +x "$1/$tools/bin/clang"
+  RATTLE_HOME=$PWD/$1 rt staticlib vmti > target/staticlib.log 2>&1 || { tail -n 5 target/staticlib.log; return 1; }
+  [ -s "$1/module.bc" ] && [ -s "$1/words" ]
+}
+
+kept_clang() {
+  local kept=$1 kind=$2 out=$3 word last='' words=()
+  while IFS= read -r word; do
+    case $last:$word in
+      -o:*) word=$out ;;
+      *:-c) word=$kind ;;
+      *:*.bc) word=$kept/module.bc ;;
+      *:--sysroot=*) word=--sysroot=$kit ;;
+    esac
+    words+=("$word")
+    last=$word
+  done < "$kept/words"
+  "$kit/bin/clang" "${words[@]}" "${@:4}"
+}
+
+# On another machine the archive's module is compiled once more, for this machine. No proof is about what comes of it: it is for
+# timing alone. Functions begin at 16 bytes, as in the archive, so that their time does not hang on where the linker puts them.
 native_archive() {
   if [ -z "$emulator" ]; then
     x86_archive
     cp target/staticlib/libvmti.a "$1"
     return
   fi
-  local home kept=target/native
-  home=$(cd "$kit/../../.." && pwd)
-  rm -rf "$kept"
-  mkdir -p "$kept/on/$(uname -m)/toolchain/bin"
-  link_all "$home" "$kept" on
-  link_all "$home/on/$(uname -m)" "$kept/on/$(uname -m)" toolchain
-  link_all "$kit" "$kept/on/$(uname -m)/toolchain" bin
-  link_all "$kit/bin" "$kept/on/$(uname -m)/toolchain/bin" clang
-  printf '#!/bin/sh\nfor word in "$@"; do case $word in *.bc) cp "$word" "%s/module.bc" ;; esac; done\nexec "%s/bin/clang" "$@"\n' \
-    "$PWD/$kept" "$kit" > "$kept/on/$(uname -m)/toolchain/bin/clang"
-  chmod +x "$kept/on/$(uname -m)/toolchain/bin/clang"
-  RATTLE_HOME=$PWD/$kept rt staticlib vmti > target/staticlib.log 2>&1 || { tail -n 5 target/staticlib.log; return 1; }
+  local kept=target/native
+  kept_module "$kept" || return 1
   "$kit/bin/clang" --target="$(uname -m)-unknown-linux-gnu" --no-default-config -Wno-override-module -O3 -mllvm "$aligned" -fPIC -c -x ir \
     "$kept/module.bc" -o "$1" 2> "$kept/log" || { cat "$kept/log"; return 1; }
 }

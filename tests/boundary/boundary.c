@@ -1,5 +1,5 @@
-/* Makes the calls of a stream of cases (tests/compare/src/bin/boundary.rs says how it goes) and holds the
- * number, every lent byte and the bytes around them to it.
+/* Makes the calls of a stream of cases and holds the number, every lent byte and the bytes around them to it. A number that a
+ * call can answer and that never came up is a failure too.
  *
  *   boundary [heap] < STREAM
  *
@@ -8,31 +8,14 @@
 #define _GNU_SOURCE
 #include <setjmp.h>
 #include <signal.h>
-#include <stdio.h>
-#include <stdlib.h>
 #include <string.h>
 #include <sys/mman.h>
-#include "vmti.h"
+#include "stream.h"
 
-enum { PAGE = 4096, SPAN = 32 * PAGE, AROUND = 64, ROOMS = 2, SHOWN = 5 };
+enum { AROUND = 64, SHOWN = 5 };
 
-/* The calls, and the numbers that each can answer, in the order of document 01's table. */
-enum { READ, WRITE, NORMALISE, EDIT, CALLS };
-
-static const struct {
-    const char *name;
-    const char *answers;    /* one sign for each number from 0 on, '+' where the call can answer it */
-} calls[CALLS] = {
-    {"vmti_read", "+++++++++++++++++"},
-    {"vmti_write", "++.....+.++++++.++"},
-    {"vmti_normalise", "+++++++++++++++++"},
-    {"vmti_edit", "+++++++++++++++++.++"},
-};
-
-/* What a call is made on, but for the buffers lent; an edit alone looks at level and those after it. */
-struct question {
-    uint64_t which, form, level, target, tag, removal;
-};
+/* The numbers that each call can answer: a sign for each of document 01's table from 0 on, '+' where it can. */
+static const char *const answers[CALLS] = {"+++++++++++++++++", "++.....+.++++++.++", "+++++++++++++++++", "+++++++++++++++++.++"};
 
 /* What the output is filled with, and what stands around both: no two bytes near each other are alike. */
 static uint8_t pattern[SPAN + 256];
@@ -47,12 +30,6 @@ struct lent {
     size_t size;
     uint8_t *around;        /* the AROUND bytes on the side that faces no such page */
 };
-
-static void die(const char *why)
-{
-    fprintf(stderr, "boundary: %s\n", why);
-    exit(2);
-}
 
 static void on_touch(int signal)
 {
@@ -119,50 +96,11 @@ static int call(const struct question *q, const struct lent *in, const struct le
     return 1;
 }
 
-static void get(void *to, size_t count)
-{
-    if (fread(to, 1, count, stdin) != count)
-        die("the stream breaks off");
-}
-
-static uint64_t get_number(size_t width)
-{
-    uint8_t bytes[8];
-    uint64_t n = 0;
-    get(bytes, width);
-    while (width-- > 0)
-        n = n << 8 | bytes[width];
-    return n;
-}
-
-static struct question get_question(void)
-{
-    struct question q;
-    q.which = get_number(8);
-    q.form = get_number(8);
-    q.level = get_number(8);
-    q.target = get_number(8);
-    q.tag = get_number(8);
-    q.removal = get_number(8);
-    if (q.which >= CALLS)
-        die("no such call");
-    return q;
-}
-
-static size_t get_bytes(uint8_t *to)
-{
-    size_t count = get_number(4);
-    if (count > SPAN)
-        die("a case is too long");
-    get(to, count);
-    return count;
-}
-
 static void show(const char *why, const struct question *q, const uint8_t *input, size_t input_len, size_t room,
                  uint64_t wanted, uint64_t got)
 {
     size_t i;
-    printf("%s, %s: form %llu, level %llu, target %llu, tag %llu, removal %llu, room %zu, input of %zu:", calls[q->which].name,
+    printf("%s, %s: form %llu, level %llu, target %llu, tag %llu, removal %llu, room %zu, input of %zu:", names[q->which],
            why, (unsigned long long)q->form, (unsigned long long)q->level, (unsigned long long)q->target,
            (unsigned long long)q->tag, (unsigned long long)q->removal, room, input_len);
     for (i = 0; i < input_len && i < 200; i++)
@@ -176,13 +114,13 @@ static int report(uint64_t which, const uint64_t *seen)
 {
     int missing = 0;
     size_t n;
-    printf("%s answered as expected: success %llu", calls[which].name, (unsigned long long)seen[0]);
-    for (n = 1; n < strlen(calls[which].answers); n++)
-        if (calls[which].answers[n] == '+')
+    printf("%s answered as expected: success %llu", names[which], (unsigned long long)seen[0]);
+    for (n = 1; n < strlen(answers[which]); n++)
+        if (answers[which][n] == '+')
             printf(", %zu: %llu", n, (unsigned long long)seen[n]);
     printf("\n");
-    for (n = 0; n < strlen(calls[which].answers); n++)
-        if (calls[which].answers[n] == '+' && seen[n] == 0) {
+    for (n = 0; n < strlen(answers[which]); n++)
+        if (answers[which][n] == '+' && seen[n] == 0) {
             printf("%zu never came up\n", n);
             missing = 1;
         }

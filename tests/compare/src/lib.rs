@@ -1,5 +1,7 @@
 //! What the programs here have in common: document 01's examples, as packets
-//! and edits.
+//! and edits, and the cases that take the calls deep.
+
+pub mod deep;
 
 use second::generate::{EditCase, PacketCase};
 use second::{Form, Level};

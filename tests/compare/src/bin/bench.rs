@@ -7,6 +7,7 @@
 //! `bench count CALL TIMES NAME` makes one call on a packet so many times, for
 //! who counts its instructions.
 
+use compare::deep::between;
 use second::generate::limits::most_packs;
 use second::generate::tree::{Node, Tree};
 use second::generate::named;
@@ -152,15 +153,4 @@ fn sheets() -> Vec<(String, Vec<u8>)> {
         ("sheet-ids-alike".into(), targets(&between(&alike))),
         ("sheet-ids-alike-held".into(), sheet(b"PK\0TS", fewer.iter().map(held).collect())),
     ]
-}
-
-/// The first, the last, the first and the last of the rest, and so on.
-fn between<T: Copy>(list: &[T]) -> Vec<T> {
-    let mut rest = list.iter().copied();
-    let mut taken = Vec::new();
-    while let Some(first) = rest.next() {
-        taken.push(first);
-        taken.extend(rest.next_back());
-    }
-    taken
 }

@@ -1,15 +1,17 @@
-//! Writes a stream of cases for `tests/boundary/boundary.c`, with the second
+//! Writes a stream of cases for `boundary.c` and `stack.c`, with the second
 //! reader's answers: `boundary SEED COUNT`, COUNT seeded packets after
-//! document 01's examples and the named ones, each read and, every other one,
-//! normalised, half as many seeded sheets, each written, and half as many
-//! seeded edits; and for every sixteenth a packet and a sheet of targets laid
-//! out alike, one byte of them changed; with two rooms each.
+//! document 01's examples, the named ones and those that take the calls deep,
+//! each read and, every other one, normalised, half as many seeded sheets, each
+//! written, and half as many seeded edits; and for every sixteenth a packet and
+//! a sheet of targets laid out alike, one byte of them changed; with two rooms
+//! each.
 //!
 //! The stream, numbers low byte first: count of inputs (8); for each its call,
 //! form, level, target, tag and removal (8 each), the length (4) and bytes of
 //! the value to put, those of the input, then for each room its size (4), the
 //! one number (8), the count of bytes written (4) and those bytes.
 
+use compare::deep;
 use second::generate::mutate::repair;
 use second::generate::random::Random;
 use second::generate::{edit, named, packet, sheet, EditCase, PacketCase};
@@ -67,17 +69,22 @@ fn main() -> io::Result<()> {
     let (seed, count) = (numbers.next().unwrap_or(1), numbers.next().unwrap_or(1_000));
     let mut first: Vec<PacketCase> = compare::examples();
     first.extend(named().into_iter().map(|named| PacketCase { form: named.form, bytes: named.packet }));
-    let named = first.len() as u64;
-    let edits = compare::edits();
-    let out = &mut BufWriter::new(io::stdout().lock());
     let alike = alike(&first);
-    out.write_all(&(2 * named + edits.len() as u64 + 2 * count + count / 2 + 2 * count.div_ceil(16)).to_le_bytes())?;
+    first.extend(deep::packets());
+    let named = first.len() as u64;
+    let edits: Vec<EditCase> = compare::edits().into_iter().chain(deep::edits()).collect();
+    let sheets = deep::sheets();
+    let out = &mut BufWriter::new(io::stdout().lock());
+    out.write_all(&(2 * named + (edits.len() + sheets.len()) as u64 + 2 * count + count / 2 + 2 * count.div_ceil(16)).to_le_bytes())?;
     for (index, case) in first.iter().enumerate() {
         write_case(out, index, &of_packet(Call::Read, index, case))?;
         write_case(out, index, &of_packet(Call::Normalise, index, case))?;
     }
     for (index, case) in edits.into_iter().enumerate() {
         write_case(out, index, &of_edit(index, case))?;
+    }
+    for (index, sheet) in sheets.into_iter().enumerate() {
+        write_case(out, index, &of_sheet(sheet))?;
     }
     for index in 0..count {
         let (case, place) = (packet(seed, index), (named + index) as usize);

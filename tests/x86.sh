@@ -39,16 +39,21 @@ x86_archive() {
 
 # kept_module FOLDER: makes the archive under a home of the kit whose clang keeps what it is given, as module.bc and words
 kept_module() {
-  local home tools=on/$(uname -m)/toolchain
+  local home tools
   home=$(cd "$kit/../../.." && pwd)
+  tools=on/$(uname -m)/toolchain
   rm -rf "$1"
   mkdir -p "$1/$tools/bin"
   link_all "$home" "$1" on
   link_all "$home/on/$(uname -m)" "$1/on/$(uname -m)" toolchain
   link_all "$kit" "$1/$tools" bin
   link_all "$kit/bin" "$1/$tools/bin" clang
-  printf '#!/bin/sh\nfor word in "$@"; do case $word in *.bc) cp "$word" "%s/module.bc" ;; esac; done\nprintf "%%s\\n" "$@" > "%s/words"\nexec "%s/bin/clang" "$@"\n' \
-    "$PWD/$1" "$PWD/$1" "$kit" > "$1/$tools/bin/clang"
+  cat > "$1/$tools/bin/clang" << END
+#!/bin/sh
+for word in "\$@"; do case \$word in *.bc) cp "\$word" "$PWD/$1/module.bc" ;; esac; done
+printf '%s\\n' "\$@" > "$PWD/$1/words"
+exec "$kit/bin/clang" "\$@"
+END
   chmod +x "$1/$tools/bin/clang"
   RATTLE_HOME=$PWD/$1 rt staticlib vmti > target/staticlib.log 2>&1 || { tail -n 5 target/staticlib.log; return 1; }
   [ -s "$1/module.bc" ] && [ -s "$1/words" ]

@@ -1,6 +1,7 @@
 //! The second reader: an implementation of document 01's packets and sheets,
-//! written from that document alone, to be compared with the proved one on
-//! many inputs and to be the speed that one is measured against.
+//! written from that document and the readings of it, and not from the proved
+//! code, to be compared with that on many inputs and to be the speed that it
+//! is measured against.
 //!
 //! Every call works on lent buffers. A refusal changes none of them; success
 //! changes nothing beyond what it counts.

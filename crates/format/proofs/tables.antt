@@ -2,3 +2,4 @@
 mod Open
 mod Starred
 mod Readings
+mod Boundaries

@@ -1,23 +1,25 @@
 -- Demand 2: writing what was read, and reading what was written.
 use mathlib.Core.Path.{_≡_, refl, sym, ap, _∙_, subst}
+use mathlib.Core.Bool.{Bool, true, false}
 use mathlib.Core.List.{List}
 use mathlib.Core.Logic.{_↔_}
-use Prim.Native.Nat.{ℕ, _≤_}
+use Prim.Native.Nat.{ℕ, _≤_, _<_}
 use native.Mathlib.Omega.{arith}
 use lib.ListN.{length, drop}
 use borrow.Author.Tests.{leb-true, le-leb}
 use Rattle.format.specs.Answer.{Ans, ok, refused, _>>=_, need}
 use Rattle.format.specs.Coding.{Bytes}
 use Rattle.format.specs.Lists.{flatAll}
-use Rattle.format.specs.Table.{Form, Level, ruleOf}
+use Rattle.format.specs.Table.{Form, Level, isNumber, ruleOf}
 use Rattle.format.specs.Packet.{Item, Packet, flat}
 use Rattle.format.specs.Read.{parse, limit}
-use Rattle.format.specs.Sheet.{Sheet, content, valOf, formOf, partBytes, sheetBytes, unsheet}
+use Rattle.format.specs.Sheet.{Val, Sheet, content, valOf, formOf, partBytes, sheetBytes, unsheet}
 use Rattle.format.specs.Calls.{packetOf, packed, read, write, normalise}
 use Rattle.format.specs.Valid.{Valid}
 use Rattle.format.specs.demands.Demand2.{Normal, SheetAgain, SameMeaning, ValueKept}
 use Rattle.format.proofs.words.Answers.{never, bind-then, need-then, ok-inj}
-use Rattle.format.proofs.table.Values.{short-keeps, short-number}
+use Rattle.format.proofs.table.Values.{short-keeps, short-number, short-shortest}
+use Rattle.format.proofs.table.Shortest.{shortest-one}
 use Rattle.format.proofs.reading.Packets.{parse-says, valid-parses}
 use Rattle.format.proofs.sheets.Sheets.{sheet-says, sheet-back, form-back}
 use Rattle.format.proofs.sheets.Content.{content-valid}
@@ -139,6 +141,26 @@ same-meaning f s t hs ht = record {
         let w : packetOf (content p) ≡ packetOf (content q) = ok-inj _ _ (sym (normal-parses f s hs p ep) ∙ ap (parse f) z ∙ normal-parses f t ht q eq) in
         sym (normal-says f s hs p ep) ∙ ap content w ∙ normal-says f t ht q eq
 
-pub value-kept : (l : Level) (i : Item) → ValueKept l i
+-- ---- an item's value
+
+pub value-kept : (l : Level) (i : Item) → Bytes (i .value) → 0 < length (i .value) → ValueKept l i (valOf l i)
 unfolding valOf
-value-kept l i = record { tag = refl; bytes = short-keeps (ruleOf l (i .tag)) (i .value); number = short-number (ruleOf l (i .tag)) (i .value) }
+value-kept l i h p = record {
+  tag = refl;
+  bytes = short-keeps (ruleOf l (i .tag)) (i .value);
+  number = λ e. (short-number (ruleOf l (i .tag)) (i .value), short-shortest (ruleOf l (i .tag)) (i .value) e h p);
+}
+
+-- nothing else is so kept
+pub one-value : (l : Level) (i : Item) (x y : Val) → ValueKept l i x → ValueKept l i y → x ≡ y
+one-value l i x y a b = go (isNumber (ruleOf l (i .tag) .kind)) refl
+  where
+    same-val : x .value ≡ y .value → x ≡ y
+    same-val e = let t : x .tag ≡ y .tag = a .tag ∙ sym (b .tag) in ap (λ (w : ℕ × List ℕ). record { tag = w .0; value = w .1 }) (rw (t, e) refl)
+
+    go : (n : Bool) → isNumber (ruleOf l (i .tag) .kind) ≡ n → x ≡ y
+    go false e = same-val (a .bytes e ∙ sym (b .bytes e))
+    go true e =
+        let (m, s) = a .number e in
+        let (n, z) = b .number e in
+        same-val (shortest-one (x .value) (y .value) s z (m ∙ sym n))

@@ -1,11 +1,12 @@
 -- Values: shortening keeps what a value says, and what its rule asks. Once over the width.
-use mathlib.Core.Path.{_≡_, refl}
-use Prim.Native.Nat.{ℕ, suc, _-_, _%_, _≤_, _<_}
+use mathlib.Core.Path.{_≡_, refl, sym}
+use mathlib.Core.Logic.{_⊎_, inl, inr}
+use Prim.Native.Nat.{ℕ, zero, suc, _-_, _%_, _≤_, _<_}
 use native.Mathlib.Omega.{arith}
 use native.Mathlib.Nat.{mod-one}
 use mathlib.Core.Bool.{Bool, true, false, not, _&&_, _||_}
 use mathlib.Core.List.{List, [], _∷_}
-use lib.ListN.{length}
+use lib.ListN.{length, getD}
 use lib.Dec.{leb, eqb}
 use borrow.Author.Tests.{leb-true, eqb-true, le-leb, eq-eqb, lt-ltb, ltb-true, not-true}
 use Rattle.format.specs.Answer.{ok, _>>=_, need}
@@ -13,6 +14,7 @@ use Rattle.format.specs.Coding.{Bytes, bytesNumber, number}
 use Rattle.format.specs.Lists.{none?, has}
 use Rattle.format.specs.Table.{Form, Level, set, pack, Most, upTo, any, Rule, rules, find, ruleOf, mayStand, mayBegin, standing, isNumber, within, sized, valued, itemRules, strip, short}
 use Rattle.format.specs.Valid.{Valued}
+use Rattle.format.specs.demands.Demand2.{Shortest}
 use Rattle.format.proofs.words.Answers.{bind-then, need-then, need-last, no-bool, and-both}
 use Rattle.format.proofs.words.Shrinks.{Shrinks, shrinks-not}
 
@@ -89,6 +91,15 @@ strip-shrinks =
 
 strip-some : (v : List ℕ) → 0 < length v → 0 < length (strip v)
 strip-some = strip-by (λ v w. 0 < length v → 0 < length w) (λ h. h) (λ b s e h. h) (λ c s ih h. ih (omega arith))
+
+-- one byte is left, or the first is not 0
+strip-first : (v : List ℕ) → 0 < length v → (length (strip v) ≡ 1) ⊎ (0 < getD (strip v) 0 0)
+strip-first = strip-by (λ v w. 0 < length v → (length w ≡ 1) ⊎ (0 < getD w 0 0)) (λ h. absurd (omega arith)) first (λ c s ih h. ih (omega arith))
+  where
+    first : (b : ℕ) (s : List ℕ) → eqb b 0 && not (none? s) ≡ false → 0 < length (b ∷ s) → (length (b ∷ s) ≡ 1) ⊎ (0 < b)
+    first zero [] e h = inl refl
+    first zero (c ∷ s) e h = no-bool (sym e)
+    first (suc b) s e h = inr (omega arith)
 
 strip-twice : (v : List ℕ) → strip (strip v) ≡ strip v
 unfolding strip
@@ -172,6 +183,10 @@ short-size r v h = (short-by (λ w. 0 < length w) r v (λ e. strip-some v h) (λ
 
 pub short-bytes : (r : Rule) (v : List ℕ) → Bytes v → Bytes (short r v)
 short-bytes r v h = short-by Bytes r v (λ e. strip-bytes v h) (λ _. h)
+
+pub short-shortest : (r : Rule) (v : List ℕ) → isNumber (r .kind) ≡ true → Bytes v → 0 < length v → Shortest (short r v)
+unfolding short
+short-shortest r v e h p = rw (e, short) (strip-bytes v h, strip-some v p, strip-first v p)
 
 -- a number keeps its number, and all other values every byte
 pub short-number : (r : Rule) (v : List ℕ) → bytesNumber (short r v) ≡ bytesNumber v

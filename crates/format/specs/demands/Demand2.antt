@@ -1,17 +1,17 @@
 -- Demand 2: what is written of a packet's sheet is its normal form, what is read of a written sheet is that sheet, and only the numbers
 -- that document 01 lists lose leading zeros.
 use mathlib.Core.Path.{_≡_}
-use mathlib.Core.Bool.{false}
+use mathlib.Core.Bool.{true, false}
 use mathlib.Core.List.{List}
-use mathlib.Core.Logic.{_↔_}
-use Prim.Native.Nat.{ℕ}
-use lib.ListN.{drop}
+use mathlib.Core.Logic.{_↔_, _⊎_}
+use Prim.Native.Nat.{ℕ, _<_}
+use lib.ListN.{length, drop, getD}
 use Rattle.format.specs.Answer.{ok, refused}
-use Rattle.format.specs.Coding.{bytesNumber}
+use Rattle.format.specs.Coding.{Bytes, bytesNumber}
 use Rattle.format.specs.Table.{Form, Level, isNumber, ruleOf}
 use Rattle.format.specs.Packet.{Item, Packet, flat}
 use Rattle.format.specs.Read.{parse}
-use Rattle.format.specs.Sheet.{content, valOf, formOf}
+use Rattle.format.specs.Sheet.{Val, content, formOf}
 use Rattle.format.specs.Calls.{packetOf, read, write, normalise}
 
 -- of a packet's bytes s
@@ -33,10 +33,14 @@ pub record SheetAgain (sheet : List ℕ) : Type 0 where
 pub record SameMeaning (f : Form) (s t : List ℕ) : Type 0 where
   pub same : (x y : List ℕ) → read f s ≡ ok x → read f t ≡ ok y → (x ≡ y) ↔ (normalise f s ≡ normalise f t)
 
--- an item and what stands for it in the sheet
-pub record ValueKept (l : Level) (i : Item) : Type 0 where
-  pub tag : valOf l i .tag ≡ i .tag
+-- a number in its shortest form: one byte, or a first byte that is not 0
+abbrev pub Shortest : List ℕ → Type 0
+Shortest v = Bytes v × (0 < length v) × ((length v ≡ 1) ⊎ (0 < getD v 0 0))
+
+-- an item, and x which stands for it in the sheet
+pub record ValueKept (l : Level) (i : Item) (x : Val) : Type 0 where
+  pub tag : x .tag ≡ i .tag
   -- a value that is no N or P item stands there byte for byte
-  pub bytes : isNumber (ruleOf l (i .tag) .kind) ≡ false → valOf l i .value ≡ i .value
-  -- and every value keeps its number
-  pub number : bytesNumber (valOf l i .value) ≡ bytesNumber (i .value)
+  pub bytes : isNumber (ruleOf l (i .tag) .kind) ≡ false → x .value ≡ i .value
+  -- and one that is keeps its number, in its shortest form
+  pub number : isNumber (ruleOf l (i .tag) .kind) ≡ true → (bytesNumber (x .value) ≡ bytesNumber (i .value)) × Shortest (x .value)

@@ -31,7 +31,7 @@ refused-small f s n p e = go (leb (length s) 8192) refl
     long z = unfold parse limit need _>>=_ in (rw z)
 
     go : (b : Bool) → leb (length s) 8192 ≡ b → (1 ≤ n) × (n ≤ 19) × (p ≤ 8192)
-    go true z = let k = parse-answers f s .by n p e in (k .0, k .1, omega (arith, k .2, leb-true (length s) 8192 z))
+    go true z = let k = parse-answers f s .by n p e in (k .0 .0, k .0 .1, omega (arith, k .1, leb-true (length s) 8192 z))
     go false z =
         let q : _≡_ {A = Ans Packet} (refused 1 0) (refused n p) = sym (long z) ∙ e in
         let a : 1 ≡ n = cc in

@@ -5,12 +5,12 @@ ghost use lib.Dec.{ltb};
 ghost use lib.ListN.{length};
 ghost use Rattle.format.specs.Packet.{closed};
 ghost use Rattle.format.specs.Calls.{packed};
-ghost use Rattle.format.specs.Edit as Edit;
 ghost use Rattle.format.specs.Edit.{editEntries};
 ghost use Rattle.format.specs.Room.{leaves};
 ghost use Rattle.items.specs.Meet.{formOf, levelOf, glanceTable};
 ghost use Rattle.edits.specs.Meet.{holderOf, changeOf, keptOf, setEdited, shortOf, SetOf, Editing};
 ghost use Rattle.answers.specs.Meet.{leftOf};
+ghost use Rattle.answers.specs.Calls.{Edits};
 ghost use Rattle.edit.specs.Meet.{foundRefusal};
 use answers::Answer;
 use answers::answer_of;
@@ -116,7 +116,7 @@ pub fn edit(
     value: &[u8],
     out: &mut [u8],
 ) -> Answer
-    ensures { λ r. ⌜ leftOf r (now (out .exit)) ≡ leaves (now (out .entry)) (Edit.edit (formOf alone) (holderOf set id) tag (changeOf removal (now (value .entry))) (now (packet .entry))) ⌝ }
+    ensures { λ r. ⌜ Edits (formOf alone) (holderOf set id) tag (changeOf removal (now (value .entry))) (now (packet .entry)) (now (out .entry)) r (now (out .exit)) ⌝ }
 {
     let glances = items::quick::glances();
     let c = checks::check(&glances, packet, alone);

@@ -32,7 +32,7 @@ use Rattle.levels.specs.Meet.{pieceOf, itemSizes, total, weightOfPack, w
 -- ---- what a piece says of its item
 
 pub here-zero : {A : Type 0} (x : Ans A) (n q : ℕ) → Here x → x ≡ refused n q → q ≡ 0
-here-zero x n q h e = omega (arith, h .by n q e .2)
+here-zero x n q h e = omega (arith, h .by n q e .1)
 
 fault-says : (l : Level) (x : Ans (Got Item)) (n : ℕ) → Here x → piece.Fault n ≡ pieceOf l x → x ≡ refused n 0
 fault-says l (ok i) n h e = absurd (let z : _≡_ {A = ℕ} 0 1 = cc in omega arith)

@@ -6,7 +6,8 @@ use mathlib.Core.List.{List, _++_, map}
 use lib.ListN.{length, drop}
 use lib.Dec.{leb, eqb}
 use Rattle.format.specs.Answer.{Ans, ok, refused}
-use Rattle.format.specs.Rows.{Row}
+use Rattle.format.specs.Table.{Form}
+use Rattle.format.specs.Rows.{Row, locate}
 use Rattle.format.specs.Room.{Left, leaves}
 use Rattle.rows.specs.declared.table.Row as table
 use Rattle.rows.specs.Meet.{numbers, rowOf, tableOf}
@@ -29,6 +30,13 @@ tabled (refused n p) = refused n p
 
 abbrev pub leavesTable : List table.Row → Ans (List Row) → Left table.Row
 leavesTable lent x = leaves lent (tabled x)
+
+-- what the contracts of `locate_numbers` and `locate` say, as relations: of the packet, what was lent, the answer, and what is left there
+abbrev pub Locates : Form → List ℕ → List ℕ → Answer → List ℕ → Type 0
+Locates f packet lent a left = leftOf a left ≡ leavesRows lent (locate f packet)
+
+abbrev pub Tables : Form → List ℕ → List table.Row → Answer → List table.Row → Type 0
+Tables f packet lent a left = leftOf a left ≡ leavesTable lent (locate f packet)
 
 -- how many rows an answer says to be written
 abbrev pub countOf : Answer → ℕ

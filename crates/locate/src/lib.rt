@@ -1,9 +1,7 @@
 // Locate: a packet is checked and its rows are counted, then they are written.
 ghost use mathlib.Core.Path.{_≡_};
-ghost use Rattle.format.specs.Rows as Rows;
 ghost use Rattle.items.specs.Meet.{formOf};
-ghost use Rattle.answers.specs.Meet.{leftOf};
-ghost use Rattle.locate.specs.Meet.{leavesRows};
+ghost use Rattle.locate.specs.Meet.{Locates};
 use answers::Answer;
 use answers::answer_of;
 use answers::refusal;
@@ -11,7 +9,7 @@ use checks::Checked;
 
 // A packet's rows, as numbers, four to a row.
 pub fn locate_numbers(packet: &[u8], alone: bool, rows: &mut [u64]) -> Answer
-    ensures { λ r. ⌜ leftOf r (now (rows .exit)) ≡ leavesRows (now (rows .entry)) (Rows.locate (formOf alone) (now (packet .entry))) ⌝ }
+    ensures { λ r. ⌜ Locates (formOf alone) (now (packet .entry)) (now (rows .entry)) r (now (rows .exit)) ⌝ }
 {
     let glances = items::quick::glances();
     let c = checks::check(&glances, packet, alone);

@@ -4,8 +4,7 @@ ghost use Prim.Native.Nat.{_≤_};
 ghost use lib.ListN.{length};
 ghost use Rattle.format.specs.Rows as Rows;
 ghost use Rattle.items.specs.Meet.{formOf};
-ghost use Rattle.answers.specs.Meet.{leftOf};
-ghost use Rattle.locate.specs.Meet.{leavesTable, countOf, Filled};
+ghost use Rattle.locate.specs.Meet.{Tables, countOf, Filled};
 use answers::Answer;
 use rows::table::Row;
 
@@ -31,7 +30,7 @@ fn numbered(packet: &[u8], alone: bool, room: usize, numbers: &mut [u64]) -> Ans
 
 // A packet's rows.
 pub fn locate(packet: &[u8], alone: bool, rows: &mut [Row]) -> Answer
-    ensures { λ r. ⌜ leftOf r (now (rows .exit)) ≡ leavesTable (now (rows .entry)) (Rows.locate (formOf alone) (now (packet .entry))) ⌝ }
+    ensures { λ r. ⌜ Tables (formOf alone) (now (packet .entry)) (now (rows .entry)) r (now (rows .exit)) ⌝ }
 {
     let mut numbers = [0u64; 16384];
     let a = numbered(packet, alone, rows.len(), &mut numbers);

@@ -1,9 +1,7 @@
 // Normalise: a packet is checked and its sizes are added up, then its normal form is written.
 ghost use mathlib.Core.Path.{_≡_};
-ghost use Rattle.format.specs.Calls as Calls;
-ghost use Rattle.format.specs.Room.{leaves};
 ghost use Rattle.items.specs.Meet.{formOf};
-ghost use Rattle.answers.specs.Meet.{leftOf};
+ghost use Rattle.answers.specs.Calls.{Normalises};
 use answers::Answer;
 use answers::answer_of;
 use answers::refusal;
@@ -11,7 +9,7 @@ use checks::Checked;
 
 // A packet to its normal form: what `write` makes of its sheet, with no sheet between.
 pub fn normalise(packet: &[u8], alone: bool, out: &mut [u8]) -> Answer
-    ensures { λ r. ⌜ leftOf r (now (out .exit)) ≡ leaves (now (out .entry)) (Calls.normalise (formOf alone) (now (packet .entry))) ⌝ }
+    ensures { λ r. ⌜ Normalises (formOf alone) (now (packet .entry)) (now (out .entry)) r (now (out .exit)) ⌝ }
 {
     let glances = items::quick::glances();
     let c = checks::check(&glances, packet, alone);

@@ -2,10 +2,8 @@
 ghost use mathlib.Core.Path.{_≡_};
 ghost use Prim.Native.Nat.{_+_};
 ghost use Rattle.format.specs.Sheet.{formByte};
-ghost use Rattle.format.specs.Calls as Calls;
-ghost use Rattle.format.specs.Room.{leaves};
 ghost use Rattle.items.specs.Meet.{formOf};
-ghost use Rattle.answers.specs.Meet.{leftOf};
+ghost use Rattle.answers.specs.Calls.{Reads};
 use answers::Answer;
 use answers::answer_of;
 use answers::refusal;
@@ -20,7 +18,7 @@ fn head_of(alone: bool) -> u64
 
 // A packet to its sheet.
 pub fn read(packet: &[u8], alone: bool, sheet: &mut [u8]) -> Answer
-    ensures { λ r. ⌜ leftOf r (now (sheet .exit)) ≡ leaves (now (sheet .entry)) (Calls.read (formOf alone) (now (packet .entry))) ⌝ }
+    ensures { λ r. ⌜ Reads (formOf alone) (now (packet .entry)) (now (sheet .entry)) r (now (sheet .exit)) ⌝ }
 {
     let glances = items::quick::glances();
     let c = checks::check(&glances, packet, alone);

@@ -36,7 +36,7 @@ written-refused s n p e = go (leb (length s) 65536) refl
     long z = unfold write unsheet sheetLimit need _>>=_ in (rw z)
 
     go : (b : Bool) → leb (length s) 65536 ≡ b → (n ≤ 19) × (p ≤ 65536)
-    go true z = let k = numbered embedded s theSet 0 remove .write-answers .by n p e in (k .1, omega (arith, k .2, leb-true (length s) 65536 z))
+    go true z = let k = numbered embedded s theSet 0 remove .write-answers .by n p e in (k .0 .1, omega (arith, k .1, leb-true (length s) 65536 z))
     go false z =
         let q : _≡_ {A = Ans (List ℕ)} (refused 1 0) (refused n p) = sym (long z) ∙ e in
         let a : 1 ≡ n = cc in
@@ -82,7 +82,7 @@ edit-answer f h tag c s n p e = go (leb (length s) 8192) refl
     long z = unfold edit parse limit need _>>=_ in (rw z)
 
     go : (b : Bool) → leb (length s) 8192 ≡ b → (n ≤ 19) × (p ≤ 65536)
-    go true z = let k = numbered f s h tag c .edit-answers .by n p e in (k .1, omega (arith, k .2, leb-true (length s) 8192 z))
+    go true z = let k = numbered f s h tag c .edit-answers .by n p e in (k .0 .1, omega (arith, k .1, leb-true (length s) 8192 z))
     go false z =
         let q : _≡_ {A = Ans (List ℕ)} (refused 1 0) (refused n p) = sym (long z) ∙ e in
         let a : 1 ≡ n = cc in

@@ -35,7 +35,7 @@ record Wrote (x : Ans (List ℕ)) (a : Answer) (left : List ℕ) : Type 0 where
 
 wrote : (size : ℕ) (lent : List ℕ) (x : Ans (List ℕ)) (a : Answer) (left : List ℕ) → Answers size x → leftOf a left ≡ leaves lent x → a .number ≡ 0 → Wrote x a left
 unfolding leaves
-wrote size lent (refused n p) a left h e z = absurd (omega (arith, h .by n p refl .0, ap (λ l. l .number) e, z))
+wrote size lent (refused n p) a left h e z = absurd (omega (arith, h .by n p refl .0 .0, ap (λ l. l .number) e, z))
 wrote size lent (ok b) a left h e z = go (leb (length b) (length lent)) refl
   where
     go : (r : Bool) → leb (length b) (length lent) ≡ r → Wrote (ok b) a left

@@ -1,2 +1,5 @@
 pub mod Meet
-pub mod Promises
+pub mod Demand1
+pub mod Demand2
+pub mod Demand3
+pub mod FromC

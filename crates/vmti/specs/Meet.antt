@@ -1,12 +1,19 @@
 -- Where the calls as C makes them meet document 01: what numbers name.
+use mathlib.Core.Path.{_≡_}
 use Prim.Native.Nat.{ℕ}
 use mathlib.Core.Bool.{not}
 use mathlib.Core.List.{List}
 use lib.Dec.{eqb}
+use Rattle.format.specs.Answer.{Ans}
 use Rattle.format.specs.Table.{Form}
+use Rattle.format.specs.Room.{leaves, oneNumber}
 use Rattle.format.specs.Edit.{Holder, Change}
 use Rattle.items.specs.Meet.{formOf}
 use Rattle.edits.specs.Meet.{holderOf, changeOf}
+
+-- the one number r that comes back for what x answers, and what is left of the buffer that held `lent`
+abbrev pub Returns : List ℕ → Ans (List ℕ) → ℕ → List ℕ → Type 0
+Returns lent x r left = (r ≡ oneNumber (leaves lent x)) × (left ≡ leaves lent x .lent)
 
 -- the form that a number names
 abbrev pub formNamed : ℕ → Form

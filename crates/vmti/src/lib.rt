@@ -3,8 +3,7 @@ ghost use mathlib.Core.Path.{_≡_};
 ghost use Prim.Native.Nat.{_+_, _*_, _≤_};
 ghost use Rattle.format.specs.Calls as Calls;
 ghost use Rattle.format.specs.Edit as Edit;
-ghost use Rattle.format.specs.Room.{leaves, oneNumber};
-ghost use Rattle.vmti.specs.Meet.{formNamed, holderNamed, changeNamed};
+ghost use Rattle.vmti.specs.Meet.{Returns, formNamed, holderNamed, changeNamed};
 use answers::Answer;
 use edit::edit;
 use normalise::normalise;
@@ -22,24 +21,21 @@ fn one_number(a: Answer) -> u64
 // Form 0 is embedded, any other number standalone.
 #[no_mangle]
 pub extern "C" fn vmti_read(form: u64, packet: &[u8], sheet: &mut [u8]) -> u64
-    ensures { λ r. ⌜ (r ≡ oneNumber (leaves (now (sheet .entry)) (Calls.read (formNamed form) (now (packet .entry)))))
-        × (now (sheet .exit) ≡ leaves (now (sheet .entry)) (Calls.read (formNamed form) (now (packet .entry))) .lent) ⌝ }
+    ensures { λ r. ⌜ Returns (now (sheet .entry)) (Calls.read (formNamed form) (now (packet .entry))) r (now (sheet .exit)) ⌝ }
 {
     one_number(read(packet, form != 0, sheet))
 }
 
 #[no_mangle]
 pub extern "C" fn vmti_write(sheet: &[u8], packet: &mut [u8]) -> u64
-    ensures { λ r. ⌜ (r ≡ oneNumber (leaves (now (packet .entry)) (Calls.write (now (sheet .entry)))))
-        × (now (packet .exit) ≡ leaves (now (packet .entry)) (Calls.write (now (sheet .entry))) .lent) ⌝ }
+    ensures { λ r. ⌜ Returns (now (packet .entry)) (Calls.write (now (sheet .entry))) r (now (packet .exit)) ⌝ }
 {
     one_number(write(sheet, packet))
 }
 
 #[no_mangle]
 pub extern "C" fn vmti_normalise(form: u64, packet: &[u8], out: &mut [u8]) -> u64
-    ensures { λ r. ⌜ (r ≡ oneNumber (leaves (now (out .entry)) (Calls.normalise (formNamed form) (now (packet .entry)))))
-        × (now (out .exit) ≡ leaves (now (out .entry)) (Calls.normalise (formNamed form) (now (packet .entry))) .lent) ⌝ }
+    ensures { λ r. ⌜ Returns (now (out .entry)) (Calls.normalise (formNamed form) (now (packet .entry))) r (now (out .exit)) ⌝ }
 {
     one_number(normalise(packet, form != 0, out))
 }
@@ -56,8 +52,7 @@ pub extern "C" fn vmti_edit(
     value: &[u8],
     out: &mut [u8],
 ) -> u64
-    ensures { λ r. ⌜ (r ≡ oneNumber (leaves (now (out .entry)) (Edit.edit (formNamed form) (holderNamed level target) tag (changeNamed removal (now (value .entry))) (now (packet .entry)))))
-        × (now (out .exit) ≡ leaves (now (out .entry)) (Edit.edit (formNamed form) (holderNamed level target) tag (changeNamed removal (now (value .entry))) (now (packet .entry))) .lent) ⌝ }
+    ensures { λ r. ⌜ Returns (now (out .entry)) (Edit.edit (formNamed form) (holderNamed level target) tag (changeNamed removal (now (value .entry))) (now (packet .entry))) r (now (out .exit)) ⌝ }
 {
     one_number(edit(
         packet,

@@ -1,8 +1,6 @@
 // Write: a sheet is checked and the sizes of its packet are added up, then the packet is written.
 ghost use mathlib.Core.Path.{_≡_};
-ghost use Rattle.format.specs.Calls as Calls;
-ghost use Rattle.format.specs.Room.{leaves};
-ghost use Rattle.answers.specs.Meet.{leftOf};
+ghost use Rattle.answers.specs.Calls.{Writes};
 ghost use Rattle.write.specs.Meet.{sheetRefusal};
 use answers::Answer;
 use answers::answer_of;
@@ -24,7 +22,7 @@ fn sheet_refusal(c: Sheeted) -> Answer
 
 // A sheet to its packet.
 pub fn write(sheet: &[u8], packet: &mut [u8]) -> Answer
-    ensures { λ r. ⌜ leftOf r (now (packet .exit)) ≡ leaves (now (packet .entry)) (Calls.write (now (sheet .entry))) ⌝ }
+    ensures { λ r. ⌜ Writes (now (sheet .entry)) (now (packet .entry)) r (now (packet .exit)) ⌝ }
 {
     let c = sheet_checks::check(sheet);
     let Sheeted::Fine {

@@ -1,14 +1,16 @@
--- Refusals with a number from 1 to 19 and an early place, through do-blocks and runs.
+-- Refusals with a number of the table and an early place, through do-blocks and runs.
 use mathlib.Core.Path.{_≡_, refl, sym, subst}
 use Prim.Native.Nat.{ℕ, zero, suc, _+_, _-_, _≤_, _<_}
 use native.Mathlib.Omega.{arith}
-use mathlib.Core.Bool.{Bool, true, false}
+use mathlib.Core.Bool.{Bool, true, false, not, _&&_}
 use mathlib.Core.List.{List, [], _∷_}
 use lib.ListN.{length}
+use lib.Dec.{leb, eqb}
+use borrow.Author.Tests.{leb-true}
 use Rattle.format.specs.Answer.{Ans, ok, refused, Got, got, _>>=_, need, after}
 use Rattle.format.specs.Run.{Step, skip, run}
-use Rattle.format.specs.demands.Demand1.{Refuses, Answers}
-use Rattle.format.proofs.words.Answers.{never, bind-then, after-then, ok-inj}
+use Rattle.format.specs.demands.Demand1.{Refuses, Listed, Answers}
+use Rattle.format.proofs.words.Answers.{never, bind-then, after-then, ok-inj, no-bool, and-both}
 
 -- ---- through do-blocks, for any P
 
@@ -42,19 +44,27 @@ unfolding after
 refuses-after {P = P} j (ok a) h g = refuses-ok P a
 refuses-after {P = P} j (refused n p) h g = refuses-no P n (j + p) (g n p (h .by n p refl))
 
+-- ---- a number of the table, by one computed test
+
+pub listed : (n : ℕ) → leb 1 n && leb n 19 && not (eqb n 16) ≡ true → Listed n
+listed n e =
+    let (a, b) = and-both (leb 1 n && leb n 19) (not (eqb n 16)) e in
+    let (l, m) = and-both (leb 1 n) (leb n 19) a in
+    (leb-true 1 n l, leb-true n 19 m, λ z. no-bool (rw z at b))
+
 -- ---- before the end of what is read
 
 abbrev pub Early : {A : Type 0} → ℕ → Ans A → Type 0
-Early size a = Refuses (λ n p. (1 ≤ n) × (n ≤ 19) × (p < size)) a
+Early size a = Refuses (λ n p. Listed n × (p < size)) a
 
 pub early-more : {A : Type 0} (j k : ℕ) (m : Ans A) → Early j m → j ≤ k → Early k m
-early-more j k m h l = refuses-more m h (λ n p q. (q .0, q .1, omega (arith, q .2)))
+early-more j k m h l = refuses-more m h (λ n p q. (q .0, omega (arith, q .1)))
 
 pub early-after : {A : Type 0} (j k i : ℕ) (m : Ans A) → Early k m → (0 < k → j + k ≤ i) → Early i (after j m)
-early-after j k i m h g = refuses-after j m h (λ n p q. (q .0, q .1, omega (arith, q .2, g (omega (arith, q .2)))))
+early-after j k i m h g = refuses-after j m h (λ n p q. (q .0, omega (arith, q .1, g (omega (arith, q .1)))))
 
 pub early-answers : {A : Type 0} (j k : ℕ) (m : Ans A) → Early j m → j ≤ k + 1 → Answers k m
-early-answers j k m h l = refuses-more m h (λ n p q. (q .0, q .1, omega (arith, q .2)))
+early-answers j k m h l = refuses-more m h (λ n p q. (q .0, omega (arith, q .1)))
 
 -- ---- a run
 

@@ -13,68 +13,68 @@ use Rattle.format.specs.Table.{Form, embedded, standalone, Level, pack, 
 use Rattle.format.specs.Packet.{Item, Pack, Entry, tagOfItem, idOfPack, tagOfEntry}
 use Rattle.format.specs.Run.{run, always}
 use Rattle.format.specs.Read.{Head, headOf, item, PackHead, packHead, onePack, deepen, entry, opening, start, closing, parse}
-use Rattle.format.specs.demands.Demand1.{Answers}
+use Rattle.format.specs.demands.Demand1.{Listed, Answers}
 use Rattle.format.proofs.words.Answers.{bind-then, need-then, after-then, ok-inj}
-use Rattle.format.proofs.bounds.Answers.{refuses-ok, refuses-no, refuses-need, refuses-bind, refuses-after, Early, early-after, early-more, early-answers, Steady, run-early}
+use Rattle.format.proofs.bounds.Answers.{listed, refuses-ok, refuses-no, refuses-need, refuses-bind, refuses-after, Early, early-after, early-more, early-answers, Steady, run-early}
 
 -- ---- refused where it begins
 
 abbrev pub Here : {A : Type 0} → Ans A → Type 0
 Here m = Early 1 m
 
-pub here-need : (t : Bool) (n : ℕ) → 1 ≤ n → n ≤ 19 → Here (need t n)
-here-need t n p q = refuses-need t n (p, q, omega arith)
+pub here-need : (t : Bool) (n : ℕ) → Listed n → Here (need t n)
+here-need t n h = refuses-need t n (h, omega arith)
 
-oidGo-here : (k bad n acc : ℕ) (s : List ℕ) → 1 ≤ bad → bad ≤ 19 → Here (oidGo k bad n acc s)
+oidGo-here : (k bad n acc : ℕ) (s : List ℕ) → Listed bad → Here (oidGo k bad n acc s)
 unfolding oidGo
-oidGo-here zero bad n acc s p q = refuses-no _ bad 0 (p, q, omega arith)
-oidGo-here (suc k) bad n acc [] p q = refuses-no _ 3 0 (omega arith, omega arith, omega arith)
-oidGo-here (suc k) bad n acc (b ∷ s) p q = go (oidGo-here k bad (suc n) (acc * 128 + (b - 128)) s p q) (ltb b 128) refl
+oidGo-here zero bad n acc s h = refuses-no _ bad 0 (h, omega arith)
+oidGo-here (suc k) bad n acc [] h = refuses-no _ 3 0 (listed 3 refl, omega arith)
+oidGo-here (suc k) bad n acc (b ∷ s) h = go (oidGo-here k bad (suc n) (acc * 128 + (b - 128)) s h) (ltb b 128) refl
   where
     go : Here (oidGo k bad (suc n) (acc * 128 + (b - 128)) s) → (t : Bool) → ltb b 128 ≡ t → Here (oidGo (suc k) bad n acc (b ∷ s))
     go ih true z = rw (z, oidGo) (refuses-ok _ _)
     go ih false z = rw (z, oidGo) ih
 
-oid-here : (k bad : ℕ) (s : List ℕ) → 1 ≤ bad → bad ≤ 19 → Here (oid k bad s)
+oid-here : (k bad : ℕ) (s : List ℕ) → Listed bad → Here (oid k bad s)
 unfolding oid
-oid-here k bad s p q = refuses-bind _ _ (oidGo-here k bad 0 0 s p q) λ r _. refuses-bind _ _ (here-need _ bad p q) λ _ _. refuses-ok _ _
+oid-here k bad s h = refuses-bind _ _ (oidGo-here k bad 0 0 s h) λ r _. refuses-bind _ _ (here-need _ bad h) λ _ _. refuses-ok _ _
 
 tag-here : (s : List ℕ) → Here (tagOf s)
 unfolding tagOf
-tag-here s = refuses-bind _ _ (oid-here 2 4 s (omega arith) (omega arith)) λ r _. refuses-bind _ _ (here-need _ 4 (omega arith) (omega arith)) λ _ _. refuses-ok _ _
+tag-here s = refuses-bind _ _ (oid-here 2 4 s (listed 4 refl)) λ r _. refuses-bind _ _ (here-need _ 4 (listed 4 refl)) λ _ _. refuses-ok _ _
 
 id-here : (s : List ℕ) → Here (idOf s)
 unfolding idOf
-id-here s = oid-here 9 8 s (omega arith) (omega arith)
+id-here s = oid-here 9 8 s (listed 8 refl)
 
 pub len-here : (s : List ℕ) → Here (lenOf s)
 unfolding lenOf longOf
-len-here [] = refuses-no _ 3 0 (omega arith, omega arith, omega arith)
+len-here [] = refuses-no _ 3 0 (listed 3 refl, omega arith)
 len-here (b ∷ s) = go (ltb b 128) refl
   where
     go : (t : Bool) → ltb b 128 ≡ t → Here (lenOf (b ∷ s))
     go true z = rw (z, lenOf) (refuses-ok _ _)
     go false z =
         rw (z, lenOf)
-        (refuses-bind _ _ (here-need _ 5 (omega arith) (omega arith)) λ _ _. refuses-bind _ _ (here-need _ 3 (omega arith) (omega arith)) λ _ _. refuses-ok _ _)
+        (refuses-bind _ _ (here-need _ 5 (listed 5 refl)) λ _ _. refuses-bind _ _ (here-need _ 3 (listed 3 refl)) λ _ _. refuses-ok _ _)
 
 -- ---- items
 
 pub standing-here : (l : Level) (f : Form) (seen : List ℕ) (tag : ℕ) (last : Bool) → Here (standing l f seen tag last)
 unfolding standing
 standing-here l f seen tag last =
-    refuses-bind _ _ (here-need _ 9 (omega arith) (omega arith)) λ _ _.
-    refuses-bind _ _ (here-need _ 13 (omega arith) (omega arith)) λ _ _.
-    here-need _ 14 (omega arith) (omega arith)
+    refuses-bind _ _ (here-need _ 9 (listed 9 refl)) λ _ _.
+    refuses-bind _ _ (here-need _ 13 (listed 13 refl)) λ _ _.
+    here-need _ 14 (listed 14 refl)
 
 pub valued-here : (r : Rule) (v : List ℕ) → Here (valued r v)
 unfolding valued
-valued-here r v = refuses-bind _ _ (here-need _ 11 (omega arith) (omega arith)) λ _ _. here-need _ 12 (omega arith) (omega arith)
+valued-here r v = refuses-bind _ _ (here-need _ 11 (listed 11 refl)) λ _ _. here-need _ 12 (listed 12 refl)
 
 pub rules-here : (l : Level) (f : Form) (seen : List ℕ) (tag : ℕ) (last : Bool) (v : List ℕ) → Here (itemRules l f seen tag last v)
 unfolding itemRules
 rules-here l f seen tag last v =
-    refuses-bind _ _ (here-need _ 7 (omega arith) (omega arith)) λ _ _.
+    refuses-bind _ _ (here-need _ 7 (listed 7 refl)) λ _ _.
     refuses-bind _ _ (standing-here l f seen tag last) λ _ _.
     valued-here (ruleOf l tag) v
 
@@ -83,8 +83,8 @@ unfolding headOf
 head-here l s =
     refuses-bind _ _ (tag-here s) λ t _.
     refuses-bind _ _ (len-here (drop (t .used) s)) λ n _.
-    refuses-bind _ _ (here-need _ 5 (omega arith) (omega arith)) λ _ _.
-    refuses-bind _ _ (here-need _ 6 (omega arith) (omega arith)) λ _ _. refuses-ok _ _
+    refuses-bind _ _ (here-need _ 5 (listed 5 refl)) λ _ _.
+    refuses-bind _ _ (here-need _ 6 (listed 6 refl)) λ _ _. refuses-ok _ _
 
 pub head-room : (l : Level) (s : List ℕ) (h : Head) → headOf l s ≡ ok h → h .from + h .size ≤ length s
 unfolding headOf
@@ -116,7 +116,7 @@ pub pack-head-here : (s : List ℕ) → Here (packHead s)
 unfolding packHead
 pack-head-here s =
     refuses-bind _ _ (len-here s) λ n _.
-    refuses-bind _ _ (here-need _ 6 (omega arith) (omega arith)) λ _ _.
+    refuses-bind _ _ (here-need _ 6 (listed 6 refl)) λ _ _.
     refuses-bind _ _ (id-here (take (n .val) (drop (n .used) s))) λ _ _. refuses-ok _ _
 
 pub pack-head-room : (s : List ℕ) (h : PackHead) → packHead s ≡ ok h → h .width + h .size ≤ length s
@@ -129,13 +129,13 @@ pack-head-room s h e =
 
 pub ended-here : (f : Form) (tags : List ℕ) → Here (ended f tags)
 unfolding ended
-ended-here f tags = here-need _ 14 (omega arith) (omega arith)
+ended-here f tags = here-need _ 14 (listed 14 refl)
 
 pub pack-early : (f : Form) (seen s : List ℕ) → 0 < length s → Early (length s) (onePack f seen s)
 unfolding onePack
 pack-early f seen s p =
     refuses-bind _ _ (early-more 1 (length s) _ (pack-head-here s) (omega arith)) λ h eh.
-    refuses-bind _ _ (refuses-need _ 10 (omega arith, omega arith, p)) λ _ _.
+    refuses-bind _ _ (refuses-need _ 10 (listed 10 refl, p)) λ _ _.
     let body : List ℕ = drop (h .used) (take (h .size) (drop (h .width) s)) in
     let l : length body ≡ min (h .size) (length s - h .width) - h .used = simp (length-drop, length-take) in
     refuses-bind _ _
@@ -194,21 +194,21 @@ opening-here : (f : Form) (s : List ℕ) → Here (opening f s)
 unfolding opening
 opening-here embedded s = refuses-ok _ _
 opening-here standalone s =
-    refuses-bind _ _ (here-need _ 2 (omega arith) (omega arith)) λ _ _.
+    refuses-bind _ _ (here-need _ 2 (listed 2 refl)) λ _ _.
     refuses-bind _ _ (len-here (drop 16 s)) λ n _.
-    refuses-bind _ _ (here-need _ 6 (omega arith) (omega arith)) λ _ _. refuses-ok _ _
+    refuses-bind _ _ (here-need _ 6 (listed 6 refl)) λ _ _. refuses-ok _ _
 
 closing-answers : (f : Form) (s : List ℕ) (es : List Entry) → Answers (length s) (closing f s es)
 unfolding closing
 closing-answers embedded s es = refuses-ok _ _
 closing-answers standalone s es =
-    refuses-bind _ _ (refuses-after (length s) _ (here-need _ 14 (omega arith) (omega arith)) λ n p q. (q .0, q .1, omega (arith, q .2))) λ _ _.
-    refuses-bind _ _ (refuses-after (length s - 4) _ (here-need _ 15 (omega arith) (omega arith)) λ n p q. (q .0, q .1, omega (arith, q .2))) λ _ _. refuses-ok _ _
+    refuses-bind _ _ (refuses-after (length s) _ (here-need _ 14 (listed 14 refl)) λ n p q. (q .0, omega (arith, q .1))) λ _ _.
+    refuses-bind _ _ (refuses-after (length s - 4) _ (here-need _ 15 (listed 15 refl)) λ n p q. (q .0, omega (arith, q .1))) λ _ _. refuses-ok _ _
 
 pub parse-answers : (f : Form) (s : List ℕ) → Answers (length s) (parse f s)
 unfolding parse
 parse-answers f s =
-    refuses-bind _ _ (refuses-need _ 1 (omega arith, omega arith, omega arith)) λ _ _.
+    refuses-bind _ _ (refuses-need _ 1 (listed 1 refl, omega arith)) λ _ _.
     refuses-bind _ _ (early-answers 1 (length s) _ (opening-here f s) (omega arith)) λ w _.
     refuses-bind _ _ (set-answers (start f w)) λ es _.
     refuses-bind _ _ (closing-answers f s (es .val)) λ _ _. refuses-ok _ _

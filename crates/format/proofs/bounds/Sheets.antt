@@ -16,7 +16,7 @@ use Rattle.format.specs.Calls.{packed}
 use Rattle.format.specs.Edit.{Holder, theSet, target, Change, put, remove, isTargets, targetTags, tagsAt, changeRules, editRules}
 use Rattle.format.specs.demands.Demand1.{Answers}
 use Rattle.format.proofs.words.Answers.{never, no-bool, bind-then, need-then, after-then, ok-inj}
-use Rattle.format.proofs.bounds.Answers.{refuses-ok, refuses-no, refuses-need, refuses-bind, refuses-after, Early, early-after, early-more, early-answers, Steady, run-early, run-room}
+use Rattle.format.proofs.bounds.Answers.{listed, refuses-ok, refuses-no, refuses-need, refuses-bind, refuses-after, Early, early-after, early-more, early-answers, Steady, run-early, run-room}
 use Rattle.format.proofs.bounds.Packets.{Here, here-need, standing-here, valued-here, rules-here, ended-here}
 
 -- ---- records
@@ -24,9 +24,9 @@ use Rattle.format.proofs.bounds.Packets.{Here, here-need, standing-here
 field-here : (l : Level) (s : List ℕ) → Here (field l s)
 unfolding field
 field-here l s =
-    refuses-bind _ _ (here-need _ 17 (omega arith) (omega arith)) λ _ _.
-    refuses-bind _ _ (here-need _ 17 (omega arith) (omega arith)) λ _ _.
-    refuses-bind _ _ (here-need _ 17 (omega arith) (omega arith)) λ _ _. refuses-ok _ _
+    refuses-bind _ _ (here-need _ 17 (listed 17 refl)) λ _ _.
+    refuses-bind _ _ (here-need _ 17 (listed 17 refl)) λ _ _.
+    refuses-bind _ _ (here-need _ 17 (listed 17 refl)) λ _ _. refuses-ok _ _
 
 field-room : (l : Level) (s : List ℕ) (r : Got Val) → field l s ≡ ok r → (4 ≤ length s) × (r .used ≤ length s)
 unfolding field
@@ -41,7 +41,7 @@ unfolding valueAt
 value-here l f seen s =
     refuses-bind _ _ (field-here l (drop 2 s)) λ v _.
     refuses-bind _ _ (rules-here l f seen _ true _) λ _ _.
-    refuses-bind _ _ (here-need _ 17 (omega arith) (omega arith)) λ _ _. refuses-ok _ _
+    refuses-bind _ _ (here-need _ 17 (listed 17 refl)) λ _ _. refuses-ok _ _
 
 value-room : (l : Level) (f : Form) (seen s : List ℕ) (r : Got Val) → valueAt l f seen s ≡ ok r → r .used ≤ length s
 unfolding valueAt
@@ -61,9 +61,9 @@ target-steady f = record { early = early; room = room }
   where
     early : (seen s : List ℕ) → 0 < length s → Early (length s) (targetAt f seen s)
     early seen s p =
-        refuses-bind _ _ (refuses-need _ 17 (omega arith, omega arith, p)) λ _ _.
-        refuses-bind _ _ (refuses-need _ 17 (omega arith, omega arith, p)) λ _ _.
-        refuses-bind _ _ (refuses-need _ 10 (omega arith, omega arith, p)) λ _ _.
+        refuses-bind _ _ (refuses-need _ 17 (listed 17 refl, p)) λ _ _.
+        refuses-bind _ _ (refuses-need _ 17 (listed 17 refl, p)) λ _ _.
+        refuses-bind _ _ (refuses-need _ 10 (listed 10 refl, p)) λ _ _.
         refuses-bind _ _
         (early-after 10 (length (drop 10 s)) (length s) _ (run-early (is TI) tagOfVal (valueAt pack f) (value-steady pack f) (drop 10 s)) (λ q. omega (arith, q, length-drop 10 s))) λ vs _.
         refuses-bind _ _ (early-more 1 (length s) _ (ended-here f (map tagOfVal (vs .val))) p) λ _ _. refuses-ok _ _
@@ -81,7 +81,7 @@ target-steady f = record { early = early; room = room }
 series-early : (f : Form) (seen s : List ℕ) → 0 < length s → Early (length s) (seriesAt f seen s)
 unfolding seriesAt
 series-early f seen s p =
-    refuses-bind _ _ (refuses-need _ 17 (omega arith, omega arith, p)) λ _ _.
+    refuses-bind _ _ (refuses-need _ 17 (listed 17 refl, p)) λ _ _.
     refuses-bind _ _ (early-more 1 (length s) _ (standing-here set f seen 101 true) p) λ _ _.
     refuses-bind _ _
     (early-after 2 (length (drop 2 s)) (length s) _ (run-early (is TG) idOfTarget (targetAt f) (target-steady f) (drop 2 s)) (λ q. omega (arith, q, length-drop 2 s))) λ _ _.
@@ -110,7 +110,7 @@ part-steady f = record { early = early; room = room }
       where
         at-series : is IT s ≡ false → (c : Bool) → is TS s ≡ c → Early (length s) (partAt f seen s)
         at-series z true m = rw (z, partAt, m, partAt) (series-early f seen s p)
-        at-series z false m = rw (z, partAt, m, partAt) (refuses-no _ 17 0 (omega arith, omega arith, p))
+        at-series z false m = rw (z, partAt, m, partAt) (refuses-no _ 17 0 (listed 17 refl, p))
 
         at-item : (c : Bool) → is IT s ≡ c → Early (length s) (partAt f seen s)
         at-item true m = rw (m, partAt) (refuses-bind _ _ (early-more 1 (length s) _ (value-here set f seen s) p) λ _ _. refuses-ok _ _)
@@ -130,31 +130,31 @@ part-steady f = record { early = early; room = room }
 -- ---- the sheet, and a packet's bytes within the limit
 
 form-here : (s : List ℕ) → Here (formOf s)
-form-here [] = refuses-no _ 17 0 (omega arith, omega arith, omega arith)
+form-here [] = refuses-no _ 17 0 (listed 17 refl, omega arith)
 form-here (zero ∷ s) = refuses-ok _ _
 form-here (suc zero ∷ s) = refuses-ok _ _
-form-here (suc (suc n) ∷ s) = refuses-no _ 17 0 (omega arith, omega arith, omega arith)
+form-here (suc (suc n) ∷ s) = refuses-no _ 17 0 (listed 17 refl, omega arith)
 
 pub unsheet-answers : (s : List ℕ) → Answers (length s) (unsheet s)
 unfolding unsheet
 unsheet-answers s =
-    refuses-bind _ _ (refuses-need _ 1 (omega arith, omega arith, omega arith)) λ _ _.
-    refuses-bind _ _ (refuses-need _ 17 (omega arith, omega arith, omega arith)) λ _ _.
+    refuses-bind _ _ (refuses-need _ 1 (listed 1 refl, omega arith)) λ _ _.
+    refuses-bind _ _ (refuses-need _ 17 (listed 17 refl, omega arith)) λ _ _.
     refuses-bind _ _ (early-answers 1 (length s) _ (form-here (drop 2 s)) (omega arith)) λ f _.
     refuses-bind _ _
     (early-answers (length s) (length s) _
     (early-after 3 (length (drop 3 s)) (length s) _ (run-early always tagOfPart (partAt f) (part-steady f) (drop 3 s)) (λ q. omega (arith, q, length-drop 3 s))) (omega arith)) λ ps _.
-    refuses-bind _ _ (refuses-after (length s) _ (here-need _ 14 (omega arith) (omega arith)) λ n p q. (q .0, q .1, omega (arith, q .2))) λ _ _. refuses-ok _ _
+    refuses-bind _ _ (refuses-after (length s) _ (here-need _ 14 (listed 14 refl)) λ n p q. (q .0, omega (arith, q .1))) λ _ _. refuses-ok _ _
 
 pub packed-answers : (k : ℕ) (p : Packet) → Answers k (packed p)
 unfolding packed
-packed-answers k p = refuses-bind _ _ (refuses-need _ 1 (omega arith, omega arith, omega arith)) λ _ _. refuses-ok _ _
+packed-answers k p = refuses-bind _ _ (refuses-need _ 1 (listed 1 refl, omega arith)) λ _ _. refuses-ok _ _
 
 -- ---- the edit's own refusals
 
 ask-here : {X A : Type 0} (hit : X → Bool) (f : X → Ans A) → ((x : X) → Here (f x)) → (xs : List X) → Here (askHit hit f xs)
 unfolding askHit
-ask-here hit f h [] = refuses-no _ 18 0 (omega arith, omega arith, omega arith)
+ask-here hit f h [] = refuses-no _ 18 0 (listed 18 refl, omega arith)
 ask-here hit f h (x ∷ xs) = go (ask-here hit f h xs) (hit x) refl
   where
     go : Here (askHit hit f xs) → (b : Bool) → hit x ≡ b → Here (askHit hit f (x ∷ xs))
@@ -167,20 +167,20 @@ tags-here theSet ps = refuses-ok _ _
 tags-here (target i) ps = ask-here isTargets (targetTags i) part ps
   where
     part : (p : Part) → Here (targetTags i p)
-    part (one v) = refuses-no _ 18 0 (omega arith, omega arith, omega arith)
+    part (one v) = refuses-no _ 18 0 (listed 18 refl, omega arith)
     part (targets ts) = ask-here _ _ (λ g. refuses-ok _ _) ts
 
 change-here : (f : Form) (l : Level) (tag : ℕ) (tags : List ℕ) (c : Change) → Here (changeRules f l tag tags c)
 unfolding changeRules
 change-here f l tag tags (put v) =
-    refuses-bind _ _ (here-need _ 7 (omega arith) (omega arith)) λ _ _.
-    refuses-bind _ _ (here-need _ 13 (omega arith) (omega arith)) λ _ _.
+    refuses-bind _ _ (here-need _ 7 (listed 7 refl)) λ _ _.
+    refuses-bind _ _ (here-need _ 13 (listed 13 refl)) λ _ _.
     valued-here _ v
-change-here f l tag tags remove = refuses-bind _ _ (here-need _ 18 (omega arith) (omega arith)) λ _ _. here-need _ 14 (omega arith) (omega arith)
+change-here f l tag tags remove = refuses-bind _ _ (here-need _ 18 (listed 18 refl)) λ _ _. here-need _ 14 (listed 14 refl)
 
 pub edit-here : (h : Holder) (tag : ℕ) (c : Change) (s : Sheet) → Here (editRules h tag c s)
 unfolding editRules
 edit-here h tag c s =
-    refuses-bind _ _ (here-need _ 19 (omega arith) (omega arith)) λ _ _.
+    refuses-bind _ _ (here-need _ 19 (listed 19 refl)) λ _ _.
     refuses-bind _ _ (tags-here h (s .parts)) λ tags _.
     change-here _ _ tag tags c

@@ -1,5 +1,5 @@
--- Demand 1, of the definitions: a refusal gives a number from 1 to 19 and a place within the input; and what a call leaves in the room
--- lent, for every answer and every room. That each call ends with an answer, for all bytes, is what it is to be a definition here.
+-- Demand 1, of the definitions: a refusal gives a number of document 01's table and a place within the input; and what a call leaves in
+-- the room lent, for every answer and every room. That each call ends with an answer, for all bytes, is what it is to be a definition here.
 use mathlib.Core.Path.{_≡_}
 use mathlib.Core.List.{List}
 use Prim.Native.Nat.{ℕ, _≤_, _<_}
@@ -15,9 +15,13 @@ use Rattle.format.specs.Room.{leaves}
 pub record Refuses {A : Type 0} (P : ℕ → ℕ → Type 0) (a : Ans A) : Type 0 where
   pub by : (n p : ℕ) → a ≡ refused n p → P n p
 
+-- a number of the table, but for 16, which is about the room lent
+abbrev pub Listed : ℕ → Type 0
+Listed n = (1 ≤ n) × (n ≤ 19) × (n ≡ 16 → ⊥)
+
 -- numbers and places of an answer to an input of so many bytes
 abbrev pub Answers : {A : Type 0} → ℕ → Ans A → Type 0
-Answers size a = Refuses (λ n p. (1 ≤ n) × (n ≤ 19) × (p ≤ size)) a
+Answers size a = Refuses (λ n p. Listed n × (p ≤ size)) a
 
 pub record Numbered (f : Form) (s : List ℕ) (h : Holder) (tag : ℕ) (c : Change) : Type 0 where
   pub read-answers : Answers (length s) (read f s)

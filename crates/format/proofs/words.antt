@@ -6,3 +6,4 @@ pub mod Flats
 pub mod Together
 pub mod Shrinks
 pub mod Changes
+pub mod Firsts

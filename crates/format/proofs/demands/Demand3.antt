@@ -24,7 +24,7 @@ use Rattle.format.proofs.sheets.Sheets.{sheet-back}
 use Rattle.format.proofs.sheets.Content.{content-valid}
 use Rattle.format.proofs.sheets.Normal.{closed-form}
 use Rattle.format.proofs.edits.Results.{edited-valid, edited-says, edited-normal}
-use Rattle.format.proofs.edits.Kept.{edited-kept}
+use Rattle.format.proofs.edits.Kept.{edited-kept, one-kept}
 use Rattle.format.proofs.demands.Accepted.{read-is}
 use Rattle.format.proofs.demands.Demand2.{packed-then, packed-valid, normal-is, normal-parses}
 
@@ -118,11 +118,7 @@ module _ (f : Form) (h : Holder) (tag : ℕ) (c : Change) (s : List ℕ) where
         }
 
     kept : (b : List ℕ) → edit f h tag c s ≡ ok b → Kept f h tag c s b
-    kept b e =
-        edit-then b e λ p ep u eu l z.
-        let q = parse-says f s p hs ep in
-        let k : Kept (p .form) h tag c (flat p) (flat (editPacket h tag c p)) = edited-kept h tag c p u (q .valid) eu in
-        subst (λ x. Kept f h tag c s x) z (subst (λ x. Kept f h tag c x (flat (editPacket h tag c p))) (q .lies-flat) (subst (λ g. Kept g h tag c (flat p) (flat (editPacket h tag c p))) (q .form-is) k))
+    kept b e = edit-then b e λ p ep u eu l z. edited-kept f h tag c s p u b (parse-says f s p hs ep) eu z
 
     pub demand-3 : Demand3 f h tag c s
-    demand-3 = record { changed = changed; refusal = λ n a. (refused-why n a, why-refused n a); kept = kept }
+    demand-3 = record { changed = changed; refusal = λ n a. (refused-why n a, why-refused n a); kept = kept; one-kept = one-kept f h tag c s }

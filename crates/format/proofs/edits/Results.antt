@@ -80,7 +80,7 @@ set-made f tag remove h = tt
 
 -- ---- a changed pack
 
-abbrev changedItems : ℕ → Change → List Item → List Item
+abbrev pub changedItems : ℕ → Change → List Item → List Item
 changedItems tag c is = applied tagOfItem (λ v. itemOf (valWith pack tag v)) tag c is
 
 located : (f : Form) (tag : ℕ) (c : Change) (ks : List ℕ) → ChangeOk f pack tag c → ended f ks ≡ ok tt → ended f (changedKeys tag c ks) ≡ ok tt

@@ -190,6 +190,9 @@ edits =
     ∷ edited (E (0x65 ∷ 0x81 ∷ 6 ∷ 0x81 ∷ 4 ∷ 7 ∷ 4 ∷ 1 ∷ 1 ∷ [])) (target 7) 4 remove (ok lone)
     ∷ edited (E (5 ∷ 0x81 ∷ 1 ∷ 2 ∷ [])) theSet 5 (put (2 ∷ [])) (ok (5 ∷ 1 ∷ 2 ∷ []))
     ∷ edited (E (0x65 ∷ 0x81 ∷ 2 ∷ 1 ∷ 7 ∷ [])) theSet 5 (put (2 ∷ [])) (ok (0x65 ∷ 0x81 ∷ 2 ∷ 1 ∷ 7 ∷ 5 ∷ 1 ∷ 2 ∷ []))
+    -- and no bytes that only look like the item, within another's value or across two of them
+    ∷ edited (E (30 ∷ 3 ∷ 5 ∷ 1 ∷ 2 ∷ 5 ∷ 0x81 ∷ 1 ∷ 2 ∷ [])) theSet 5 (put (2 ∷ [])) (ok (30 ∷ 3 ∷ 5 ∷ 1 ∷ 2 ∷ 5 ∷ 1 ∷ 2 ∷ []))
+    ∷ edited (E (5 ∷ 0x81 ∷ 1 ∷ 2 ∷ 0x81 ∷ 1 ∷ 1 ∷ 2 ∷ [])) theSet 129 remove (ok (5 ∷ 0x81 ∷ 1 ∷ 2 ∷ []))
     -- what must stay, and where a new item goes
     ∷ edited sealed theSet 2 remove (refused 14 0)
     ∷ edited placed (target 7) 17 remove (refused 14 0)

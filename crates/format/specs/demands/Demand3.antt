@@ -36,3 +36,5 @@ pub record Demand3 (f : Form) (h : Holder) (tag : ℕ) (c : Change) (s : List �
   pub refusal : (n a : ℕ) → edit f h tag c s ≡ refused n a ↔ Why f h tag c s n a
   -- every byte outside the item, the lengths around it and the checksum is kept, in order
   pub kept : (b : List ℕ) → edit f h tag c s ≡ ok b → Kept f h tag c s b
+  -- and no other bytes keep them so
+  pub one-kept : (b b′ : List ℕ) → Kept f h tag c s b → Kept f h tag c s b′ → b ≡ b′

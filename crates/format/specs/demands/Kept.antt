@@ -1,74 +1,85 @@
--- What an edit keeps: every byte but the item, the lengths around it and the checksum, in the same order. Said of the bytes alone.
+-- What an edit keeps, of the packet's tree: every piece but the item, the lengths around it and the checksum stands as it stood,
+-- byte for byte and in order. A piece is an entry of the set, a pack of the series or an item of a pack.
 use mathlib.Core.Path.{_≡_}
-use Prim.Native.Nat.{ℕ, _-_}
-use mathlib.Core.List.{List, [], _∷_, _++_}
+use Prim.Native.Nat.{ℕ, _+_}
+use mathlib.Core.Bool.{false}
+use mathlib.Core.List.{List, [], _∷_, _++_, map}
 use mathlib.Core.Logic.{_⊎_}
-use lib.ListN.{length, take}
+use lib.ListN.{length}
 use Rattle.format.specs.Coding.{oidBytes, lenWidth, fixed}
+use Rattle.format.specs.Lists.{has, flatAll}
 use Rattle.format.specs.Table.{Form, embedded, standalone, Level, set, pack, ruleOf, short}
-use Rattle.format.specs.Packet.{under, theKey, checksum}
+use Rattle.format.specs.Packet.{Pack, Entry, series, Packet, tagOfItem, idOfPack, tagOfEntry, under, flatItem, flatPack, flatEntry, covered, checksum}
 use Rattle.format.specs.Edit.{Holder, theSet, target, Change, put, remove}
-
--- `new` is `old` with its part x replaced by y: what stands before and after is the same
-pub record Swapped (x y old new : List ℕ) : Type 0 where
-  pub before : List ℕ
-  pub after : List ℕ
-  pub was : old ≡ before ++ (x ++ after)
-  pub now : new ≡ before ++ (y ++ after)
+use Rattle.format.specs.Valid.{Lies}
 
 -- bytes under their shortest length
 abbrev pub brief : List ℕ → List ℕ
 brief b = under (lenWidth (length b)) b
 
--- an item's bytes: its tag, a length and a value
-abbrev pub AnItem : ℕ → List ℕ → Type 0
-AnItem tag x = (w : ℕ) × (v : List ℕ) × (x ≡ oidBytes tag ++ under w v)
-
--- what the item was: there, or for a put also not there, and then the new one goes to its level's end
-abbrev pub OldItem : ℕ → Change → List ℕ → List ℕ → Type 0
-OldItem tag (put v) x after = AnItem tag x ⊎ ((x ≡ []) × (after ≡ []))
-OldItem tag remove x after = AnItem tag x
-
--- what it becomes: the value, first shortened, under its shortest length; or nothing
+-- what the item becomes: the value, first shortened, under its shortest length; or nothing
 abbrev pub newItem : Level → ℕ → Change → List ℕ
 newItem l tag (put v) = oidBytes tag ++ brief (short (ruleOf l tag) v)
 newItem l tag remove = []
 
--- the items of a level
-pub record LevelKept (l : Level) (tag : ℕ) (c : Change) (old new : List ℕ) : Type 0 where
-  pub item : List ℕ
-  pub swapped : Swapped item (newItem l tag c) old new
-  pub stood : OldItem tag c item (swapped .after)
+-- these bytes between pieces that stand as they stood
+abbrev pub between : {X : Type 0} → (X → List ℕ) → List X → List X → List ℕ → List ℕ
+between lay before after b = flatAll lay before ++ (b ++ flatAll lay after)
 
--- in a target: the item within its pack, the pack within its series, the series within the set
-pub record TargetKept (i tag : ℕ) (c : Change) (old new : List ℕ) : Type 0 where
-  pub items : List ℕ
-  pub items′ : List ℕ
-  pub packs : List ℕ
-  pub packs′ : List ℕ
-  pub pack-width : ℕ
-  pub series-width : ℕ
-  pub in-pack : LevelKept pack tag c items items′
-  pub in-series : Swapped (under pack-width (oidBytes i ++ items)) (brief (oidBytes i ++ items′)) packs packs′
-  pub in-set : Swapped (oidBytes 101 ++ under series-width packs) (oidBytes 101 ++ brief packs′) old new
+-- a set's bytes as a packet: as they are, or under the key and the shortest outer length, with a fresh checksum
+abbrev pub shut : Form → List ℕ → List ℕ
+shut embedded b = b
+shut standalone b = let front = covered (lenWidth (length b + 4)) b in front ++ fixed 2 (checksum front)
 
-abbrev pub SetKept : Holder → ℕ → Change → List ℕ → List ℕ → Type 0
-SetKept theSet tag c old new = LevelKept set tag c old new
-SetKept (target i) tag c old new = TargetKept i tag c old new
+-- of the pieces xs, x is the one with this key, a tag or an id; the others stand before it and after it
+pub record At {X : Type 0} (key : X → ℕ) (k : ℕ) (xs before : List X) (x : X) (after : List X) : Type 0 where
+  pub parts : xs ≡ before ++ (x ∷ after)
+  pub key-is : key x ≡ k
 
--- a standalone packet: the key, the outer length, the set, and the checksum
-pub record AloneKept (h : Holder) (tag : ℕ) (c : Change) (s b : List ℕ) : Type 0 where
-  pub body : List ℕ
-  pub body′ : List ℕ
+-- where the change is made: at the one with the key; for a put, if none has it, at the level's end
+abbrev pub Stood : {X : Type 0} → (X → ℕ) → ℕ → Change → List X → List X → List X → Type 0
+Stood {X = X} key k (put v) xs before after = ((x : X) × At key k xs before x after) ⊎ ((has k (map key xs) ≡ false) × (before ≡ xs) × (after ≡ []))
+Stood {X = X} key k remove xs before after = (x : X) × At key k xs before x after
+
+-- where a target's pack stands: in the series, and the series in the set
+pub record PackAt (i : ℕ) (es : List Entry) : Type 0 where
+  pub before : List Entry
+  pub after : List Entry
   pub width : ℕ
-  pub sum : List ℕ
-  pub sum′ : List ℕ
-  pub kept : SetKept h tag c body body′
-  pub was : s ≡ theKey ++ under width (body ++ (1 ∷ 2 ∷ sum))
-  pub now : b ≡ theKey ++ brief (body′ ++ (1 ∷ 2 ∷ sum′))
-  pub sum-size : length sum ≡ 2
-  pub sum-fresh : sum′ ≡ fixed 2 (checksum (take (length b - 2) b))
+  pub packs : List Pack
+  pub series-at : At tagOfEntry 101 es before (series width packs) after
+  pub earlier : List Pack
+  pub later : List Pack
+  pub it : Pack
+  pub pack-at : At idOfPack i packs earlier it later
 
-abbrev pub Kept : Form → Holder → ℕ → Change → List ℕ → List ℕ → Type 0
-Kept embedded h tag c s b = SetKept h tag c s b
-Kept standalone h tag c s b = AloneKept h tag c s b
+-- new items in that pack, the lengths around them shortest
+abbrev pub around : {i : ℕ} {es : List Entry} → PackAt i es → List ℕ → List ℕ
+around {i} p items =
+    between flatEntry (p .before) (p .after) (oidBytes 101 ++ brief (between flatPack (p .earlier) (p .later) (brief (oidBytes i ++ items))))
+
+-- one level, of a pack or of the set: the item is new
+pub record LevelKept {X : Type 0} (l : Level) (key : X → ℕ) (lay : X → List ℕ) (tag : ℕ) (c : Change) (xs : List X) (new : List ℕ) : Type 0 where
+  pub before : List X
+  pub after : List X
+  pub stood : Stood key tag c xs before after
+  pub now : new ≡ between lay before after (newItem l tag c)
+
+-- the level is a pack's
+pub record TargetKept (i tag : ℕ) (c : Change) (es : List Entry) (new : List ℕ) : Type 0 where
+  pub place : PackAt i es
+  pub items : List ℕ
+  pub in-pack : LevelKept pack tagOfItem flatItem tag c (place .it .items) items
+  pub now : new ≡ around place items
+
+abbrev pub SetKept : Holder → ℕ → Change → List Entry → List ℕ → Type 0
+SetKept theSet tag c es new = LevelKept set tagOfEntry flatEntry tag c es new
+SetKept (target i) tag c es new = TargetKept i tag c es new
+
+-- s is a valid packet, of the one tree that lies so, and b is that tree's bytes with the one change
+pub record Kept (f : Form) (h : Holder) (tag : ℕ) (c : Change) (s b : List ℕ) : Type 0 where
+  pub packet : Packet
+  pub lies : Lies f s packet
+  pub body : List ℕ
+  pub kept : SetKept h tag c (packet .entries) body
+  pub now : b ≡ shut f body

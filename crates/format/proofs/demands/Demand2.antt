@@ -22,7 +22,7 @@ use Rattle.format.proofs.table.Values.{short-keeps, short-number, short
 use Rattle.format.proofs.table.Shortest.{shortest-one}
 use Rattle.format.proofs.reading.Packets.{parse-says, valid-parses}
 use Rattle.format.proofs.sheets.Sheets.{sheet-says, sheet-back, form-back}
-use Rattle.format.proofs.sheets.Content.{content-valid}
+use Rattle.format.proofs.sheets.Content.{content-form, content-valid}
 use Rattle.format.proofs.sheets.Normal.{closed-form, packet-valid, packet-content}
 use Rattle.format.proofs.sheets.Same.{normal-less}
 use Rattle.format.proofs.demands.Accepted.{read-is, read-then}
@@ -32,9 +32,9 @@ use Rattle.format.proofs.demands.Accepted.{read-is, read-then}
 normal-valid : (p : Packet) → Valid p → Valid (packetOf (content p))
 normal-valid p h = packet-valid (content p) (content-valid p h) (omega (arith, normal-less p h, h .small))
 
-pub packed-valid : (p : Packet) → Valid p → packed p ≡ ok (flat p)
+pub packed-small : (p : Packet) → length (flat p) ≤ 8192 → packed p ≡ ok (flat p)
 unfolding packed limit _>>=_ need
-packed-valid p h = rw (le-leb (length (flat p)) 8192 (h .small))
+packed-small p h = rw (le-leb (length (flat p)) 8192 h)
 
 pub packet-form : (t : Sheet) → packetOf t .form ≡ t .form
 unfolding packetOf
@@ -44,20 +44,16 @@ packet-form t = closed-form (t .form) _
 pub packet-parses : (t : Sheet) → Valid (packetOf t) → parse (t .form) (flat (packetOf t)) ≡ ok (packetOf t)
 packet-parses t h = ap (λ g. parse g (flat (packetOf t))) (sym (packet-form t)) ∙ valid-parses (packetOf t) h
 
-content-form : (p : Packet) → content p .form ≡ p .form
-unfolding content
-content-form p = refl
-
 module _ (f : Form) (s : List ℕ) (b : Bytes s) where
   pub normal-is : (p : Packet) → parse f s ≡ ok p → normalise f s ≡ ok (flat (packetOf (content p)))
   unfolding normalise _>>=_
-  normal-is p e = rw e (packed-valid (packetOf (content p)) (normal-valid p (parse-says f s p b e .valid)))
+  normal-is p e = rw e (packed-small (packetOf (content p)) (normal-valid p (parse-says f s p b e .valid) .small))
 
   write-is : (p : Packet) → parse f s ≡ ok p → write (sheetBytes (content p)) ≡ ok (flat (packetOf (content p)))
   unfolding write _>>=_
   write-is p e =
       let h = parse-says f s p b e .valid in
-      rw (sheet-back (content p) (content-valid p h)) (packed-valid (packetOf (content p)) (normal-valid p h))
+      rw (sheet-back (content p) (content-valid p h)) (packed-small (packetOf (content p)) (normal-valid p h .small))
 
   -- what the normal form reads as
   pub normal-parses : (p : Packet) → parse f s ≡ ok p → parse f (flat (packetOf (content p))) ≡ ok (packetOf (content p))
@@ -82,7 +78,7 @@ module _ (f : Form) (s : List ℕ) (b : Bytes s) where
 
   own-normal : (p : Packet) → parse f s ≡ ok p → normalise f (flat (packetOf (content p))) ≡ ok (flat (packetOf (content p)))
   unfolding normalise _>>=_
-  own-normal p e = rw (normal-parses p e, normal-says p e) (packed-valid (packetOf (content p)) (normal-valid p (parse-says f s p b e .valid)))
+  own-normal p e = rw (normal-parses p e, normal-says p e) (packed-small (packetOf (content p)) (normal-valid p (parse-says f s p b e .valid) .small))
 
   pub normal : Normal f s
   normal = record {

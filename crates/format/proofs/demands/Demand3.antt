@@ -17,16 +17,18 @@ use Rattle.format.specs.Calls.{packetOf, packed, read, write, normalise}
 use Rattle.format.specs.Edit.{Holder, Change, editSheet, editRules, editPacket, edit}
 use Rattle.format.specs.Valid.{Valid, SheetValid}
 use Rattle.format.specs.demands.Kept.{Kept}
-use Rattle.format.specs.demands.Demand3.{Why, Changed, Demand3}
+use Rattle.format.specs.demands.Demand3.{Why, Allowed, Changed, Demand3}
 use Rattle.format.proofs.words.Answers.{never, bind-then, ok-inj}
-use Rattle.format.proofs.reading.Packets.{parse-says, valid-parses}
+use Rattle.format.proofs.reading.Packets.{parse-says, valid-parses, lies-parses}
 use Rattle.format.proofs.sheets.Sheets.{sheet-back}
-use Rattle.format.proofs.sheets.Content.{content-valid}
+use Rattle.format.proofs.sheets.Content.{content-form, content-valid}
 use Rattle.format.proofs.sheets.Normal.{closed-form}
+use Rattle.format.proofs.edits.Rules.{rules-then, rules-give}
 use Rattle.format.proofs.edits.Results.{edited-valid, edited-says, edited-normal}
-use Rattle.format.proofs.edits.Kept.{edited-kept, one-kept}
+use Rattle.format.proofs.edits.Allowed.{allowed-says, allowed-gives}
+use Rattle.format.proofs.edits.Kept.{edited-kept, kept-is, kept-tags, one-kept}
 use Rattle.format.proofs.demands.Accepted.{read-is}
-use Rattle.format.proofs.demands.Demand2.{packed-then, packed-valid, normal-is, normal-parses}
+use Rattle.format.proofs.demands.Demand2.{packed-then, packed-small, normal-is, normal-parses}
 
 edited-form : (h : Holder) (tag : ℕ) (c : Change) (p : Packet) → editPacket h tag c p .form ≡ p .form
 unfolding editPacket
@@ -95,15 +97,17 @@ module _ (f : Form) (h : Holder) (tag : ℕ) (c : Change) (s : List ℕ) where
 
     write-afresh : (t : Sheet) → SheetValid t → Valid (packetOf t) → write (sheetBytes t) ≡ ok (flat (packetOf t))
     unfolding write _>>=_
-    write-afresh t v w = rw (sheet-back t v) (packed-valid (packetOf t) w)
+    write-afresh t v w = rw (sheet-back t v) (packed-small (packetOf t) (w .small))
+
+    -- the edited sheet is valid
+    result-sheet : (p : Packet) → Valid (editPacket h tag c p) → SheetValid (editSheet h tag c (content p))
+    result-sheet p v = subst SheetValid (edited-says h tag c p) (content-valid (editPacket h tag c p) v)
 
     afresh : (p : Packet) → parse f s ≡ ok p → Valid (editPacket h tag c p) → normalise f s ≡ ok s
         → write (sheetBytes (editSheet h tag c (content p))) ≡ ok (flat (editPacket h tag c p))
     afresh p e v n =
-        let t : Sheet = editSheet h tag c (content p) in
-        let z : editPacket h tag c p ≡ packetOf t = ap (editPacket h tag c) (normal-packet p e n) ∙ edited-normal h tag c (content p) in
-        let sv : SheetValid t = subst SheetValid (edited-says h tag c p) (content-valid (editPacket h tag c p) v) in
-        write-afresh t sv (subst Valid z v) ∙ ap (λ q. ok (flat q)) (sym z)
+        let z : editPacket h tag c p ≡ packetOf (editSheet h tag c (content p)) = ap (editPacket h tag c) (normal-packet p e n) ∙ edited-normal h tag c (content p) in
+        write-afresh (editSheet h tag c (content p)) (result-sheet p v) (subst Valid z v) ∙ ap (λ q. ok (flat q)) (sym z)
 
     changed : (b : List ℕ) → edit f h tag c s ≡ ok b → Changed f h tag c s b
     changed b e =
@@ -117,8 +121,27 @@ module _ (f : Form) (h : Holder) (tag : ℕ) (c : Change) (s : List ℕ) where
           afresh = λ n. afresh p ep v n ∙ ap ok z;
         }
 
-    kept : (b : List ℕ) → edit f h tag c s ≡ ok b → Kept f h tag c s b
-    kept b e = edit-then b e λ p ep u eu l z. edited-kept f h tag c s p u b (parse-says f s p hs ep) eu z
+    accepted-says : (b : List ℕ) → edit f h tag c s ≡ ok b → (k : Kept f h tag c s b) × Allowed f h tag c (content (k .packet)) × (length b ≤ 8192)
+    accepted-says b e =
+        edit-then b e λ p ep u eu l z.
+        let q = parse-says f s p hs ep in
+        let a = rules-then h tag c (content p) u eu λ n k _ _ _. allowed-says f h tag c (content p) (content-form p ∙ q .form-is) n k (result-sheet p (result-valid p ep u eu l)) in
+        (edited-kept f h tag c s p u b q eu z, a, subst (λ x. length x ≤ 8192) z l)
+
+    accepted-gives : (b : List ℕ) → (k : Kept f h tag c s b) × Allowed f h tag c (content (k .packet)) × (length b ≤ 8192) → edit f h tag c s ≡ ok b
+    unfolding edit _>>=_
+    accepted-gives b (k, a, l) =
+        let p = k .packet in
+        let z = kept-is f h tag c s b k in
+        let (tags, et, pr) = kept-tags f h tag c s b k in
+        let (n, m) = allowed-gives f h tag c (content p) tags (content-form p ∙ k .lies .form-is) et (content-valid p (k .lies .valid)) a in
+        rw (lies-parses f s p (k .lies), rules-give h tag c (content p) tags n m et pr) (packed-small (editPacket h tag c p) (subst (λ x. length x ≤ 8192) z l) ∙ ap ok (sym z))
 
     pub demand-3 : Demand3 f h tag c s
-    demand-3 = record { changed = changed; refusal = λ n a. (refused-why n a, why-refused n a); kept = kept; one-kept = one-kept f h tag c s }
+    demand-3 = record {
+      changed = changed;
+      refusal = λ n a. (refused-why n a, why-refused n a);
+      accepted = λ b. (accepted-says b, accepted-gives b);
+      kept = λ b e. accepted-says b e .0;
+      one-kept = one-kept f h tag c s;
+    }

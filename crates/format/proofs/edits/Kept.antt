@@ -17,7 +17,7 @@ use Rattle.format.specs.Valid.{All, Once, Together, PackValid, EntryVali
 use Rattle.format.specs.demands.Kept.{brief, newItem, between, shut, Stood, PackAt, around, LevelKept, SetKept, Kept}
 use Rattle.format.proofs.words.Answers.{never, no-bool, ok-inj}
 use Rattle.format.proofs.words.Changes.{map-ask}
-use Rattle.format.proofs.words.Firsts.{First, first-parts, first-all, first-put, first-out, first-on, first-as, Hit, found, ask-then, keyed, none-put, none-has, first-at, at-first}
+use Rattle.format.proofs.words.Firsts.{First, first-parts, first-all, first-put, first-out, first-on, first-ask, first-as, Hit, found, ask-then, keyed, none-put, none-has, first-at, at-has, at-first}
 use Rattle.format.proofs.words.Flats.{flat-append}
 use Rattle.format.proofs.words.Together.{map-keys}
 use Rattle.format.proofs.reading.Packets.{lies-parses}
@@ -35,6 +35,10 @@ module _ {X : Type 0} (key : X → ℕ) (tag : ℕ) where
   stood-found (put v) xs p (inr n) = (xs, [], inr (none-has key tag xs n, refl, refl))
   stood-found remove xs p (inl r) = (r .before, r .after, (r .it, first-at key tag (r .first)))
   stood-found remove xs p (inr n) = no-bool (sym (none-has key tag xs n) ∙ p)
+
+  stood-present : (c : Change) (xs before after : List X) → Stood key tag c xs before after → Present tag c (map key xs)
+  stood-present (put v) xs before after s = tt
+  stood-present remove xs before after s = at-has key tag (s .1)
 
 laid : {X : Type 0} (lay : X → List ℕ) (before : List X) (x : X) (after : List X) → flatAll lay (before ++ (x ∷ after)) ≡ between lay before after (lay x)
 unfolding flatAll
@@ -127,6 +131,10 @@ module _ (f : Form) (i : ℕ) (es : List Entry) (valid : Together tagOfEntry (En
   items-once : Once (map tagOfItem (p .it .items))
   items-once = first-all (PackValid f) pack-first (packs-valid .each) .items-valid .once
 
+  place-tags : askHit isSeries (entryTags i) es ≡ ok (map tagOfItem (p .it .items))
+  unfolding entryTags
+  place-tags = first-ask (entryTags i) series-first ∙ first-ask (λ p. ok (map tagOfItem (p .items))) pack-first
+
   -- the change, made in that pack
   place-edits : (tag : ℕ) (c : Change) → editEntries (target i) tag c es ≡ p .before ++ (seriesWith (p .earlier ++ (inPack tag c (p .it) ∷ p .later)) ∷ p .after)
   unfolding editEntries inEntry
@@ -183,6 +191,13 @@ module _ (f : Form) (tag : ℕ) (c : Change) (es : List Entry) (valid : Together
       (level-is pack tagOfItem flatItem tag (anItem pack tag) (item-bytes pack tag) c (at .it .items) (k .items) (items-once f i es valid at) (k .in-pack))
       ∙ sym (target-bytes f i es valid at tag c)
 
+  set-tags : (h : Holder) (b : List ℕ) → SetKept h tag c es b → (tags : List ℕ) × (tagsIn h es ≡ ok tags) × Present tag c tags
+  unfolding tagsIn
+  set-tags theSet b k = (map tagOfEntry es, refl, stood-present tagOfEntry tag c es (k .before) (k .after) (k .stood))
+  set-tags (target i) b k =
+      let m = k .in-pack in
+      (map tagOfItem (k .place .it .items), place-tags f i es valid (k .place), stood-present tagOfItem tag c (k .place .it .items) (m .before) (m .after) (m .stood))
+
 -- ---- the packet
 
 closed-bytes : (f : Form) (es : List Entry) → flat (closed f es) ≡ shut f (flatAll flatEntry es)
@@ -217,6 +232,14 @@ module _ (f : Form) (h : Holder) (tag : ℕ) (c : Change) (s : List ℕ) where
   kept-is b k =
       let p = k .packet in
       k .now ∙ ap (shut f) (set-is (p .form) tag c (p .entries) (k .lies .valid .entries-valid) h (k .body) (k .kept)) ∙ sym (edited-bytes p (k .lies))
+
+  -- the level that is changed stands, and so does what is removed
+  pub kept-tags : (b : List ℕ) (k : Kept f h tag c s b) → (tags : List ℕ) × (tagsAt h (content (k .packet) .parts) ≡ ok tags) × Present tag c tags
+  unfolding content
+  kept-tags b k =
+      let p = k .packet in
+      let (tags, et, pr) = set-tags (p .form) tag c (p .entries) (k .lies .valid .entries-valid) h (k .body) (k .kept) in
+      (tags, tags-say h (p .entries) ∙ et, pr)
 
   -- two results that keep all other pieces are one
   pub one-kept : (b b′ : List ℕ) → Kept f h tag c s b → Kept f h tag c s b′ → b ≡ b′

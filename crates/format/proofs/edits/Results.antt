@@ -21,13 +21,13 @@ use Rattle.format.proofs.coding.Lengths.{width-holds}
 use Rattle.format.proofs.table.Values.{short-twice}
 use Rattle.format.proofs.reading.Items.{length-item}
 use Rattle.format.proofs.reading.Entries.{plain-flat}
-use Rattle.format.proofs.sheets.Content.{meets-short, val-tag, target-id, part-tag}
+use Rattle.format.proofs.sheets.Content.{meets-short, val-tag, target-id, part-tag, content-form}
 use Rattle.format.proofs.sheets.Normal.{closed-valid, closed-form, closed-entries, closed-content, item-tag, pack-id, entry-tag, pack-with-valid, pack-with-id, series-with-valid, packs-less, items-less, entries-less, sheet-path}
 use Rattle.format.proofs.edits.Rules.{ChangeOk, rules-then}
 
 -- ---- a changed level, of a pack or of the set
 
-abbrev changedKeys : ℕ → Change → List ℕ → List ℕ
+abbrev pub changedKeys : ℕ → Change → List ℕ → List ℕ
 changedKeys tag (put v) ks = putKey tag ks
 changedKeys tag remove ks = outKey tag ks
 
@@ -40,13 +40,14 @@ abbrev Made : {X : Type 0} → (List ℕ → X) → (X → List ℕ) → (X → 
 Made make flat Q n (put v) = length (flat (make v)) ≤ n → Q (make v)
 Made make flat Q n remove = Unit {0}
 
-module _ {X : Type 0} (key : X → ℕ) (make : List ℕ → X) (flat : X → List ℕ) (Q : X → Type 0) (n tag : ℕ) (same : (v : List ℕ) → key (make v) ≡ tag) where
-  applied-keys : (c : Change) (xs : List X) → map key (applied key make tag c xs) ≡ changedKeys tag c (map key xs)
-  unfolding applied
-  applied-keys (put v) xs =
-      map-put key (λ x. eqb (key x) tag) (λ k. eqb k tag) (λ x. refl) (make v) xs ∙ ap (λ k. putIn (λ k. eqb k tag) k (map key xs)) (same v)
-  applied-keys remove xs = map-out key (λ x. eqb (key x) tag) (λ k. eqb k tag) (λ x. refl) xs
+pub applied-keys : {X : Type 0} (key : X → ℕ) (make : List ℕ → X) (tag : ℕ) → ((v : List ℕ) → key (make v) ≡ tag) → (c : Change) (xs : List X)
+    → map key (applied key make tag c xs) ≡ changedKeys tag c (map key xs)
+unfolding applied
+applied-keys key make tag same (put v) xs =
+    map-put key (λ x. eqb (key x) tag) (λ k. eqb k tag) (λ x. refl) (make v) xs ∙ ap (λ k. putIn (λ k. eqb k tag) k (map key xs)) (same v)
+applied-keys key make tag same remove xs = map-out key (λ x. eqb (key x) tag) (λ k. eqb k tag) (λ x. refl) xs
 
+module _ {X : Type 0} (key : X → ℕ) (make : List ℕ → X) (flat : X → List ℕ) (Q : X → Type 0) (n tag : ℕ) (same : (v : List ℕ) → key (make v) ≡ tag) where
   applied-all : (c : Change) (xs : List X) → Made make flat Q n c → length (flatAll flat (applied key make tag c xs)) ≤ n → All Q xs → All Q (applied key make tag c xs)
   unfolding applied
   applied-all (put v) xs m b h = all-put Q (λ x. eqb (key x) tag) (make v) (m (omega (arith, b, size-put flat (λ x. eqb (key x) tag) (make v) xs))) xs h
@@ -55,7 +56,7 @@ module _ {X : Type 0} (key : X → ℕ) (make : List ℕ → X) (flat : X → Li
   applied-together : (c : Change) (xs : List X) → Made make flat Q n c → length (flatAll flat (applied key make tag c xs)) ≤ n → Together key Q xs
       → Together key Q (applied key make tag c xs)
   applied-together c xs m b h =
-      record { once = subst Once (sym (applied-keys c xs)) (keys-once tag c (map key xs) (h .once)); each = applied-all c xs m b (h .each) }
+      record { once = subst Once (sym (applied-keys key make tag same c xs)) (keys-once tag c (map key xs) (h .once)); each = applied-all c xs m b (h .each) }
 
 -- ---- a put item
 
@@ -94,7 +95,7 @@ unfolding inPack
 pack-changed f tag c k p h b =
     let is : List Item = changedItems tag c (p .items) in
     let ks : map tagOfItem is ≡ changedKeys tag c (map tagOfItem (p .items))
-    = applied-keys tagOfItem (λ v. itemOf (valWith pack tag v)) flatItem (ItemValid pack f) 8192 tag (made-tag pack tag) c (p .items) in
+    = applied-keys tagOfItem (λ v. itemOf (valWith pack tag v)) tag (made-tag pack tag) c (p .items) in
     pack-with-valid f (p .id) is (h .id-range)
     (applied-together tagOfItem (λ v. itemOf (valWith pack tag v)) flatItem (ItemValid pack f) 8192 tag (made-tag pack tag) c (p .items) (pack-made f tag c k)
     (omega (arith, b, items-less (p .id) is)) (h .items-valid))
@@ -162,14 +163,10 @@ begins-changed : (f : Form) (h : Holder) (tag : ℕ) (c : Change) → ChangeOk f
     → Begins f (map tagOfEntry (editEntries h tag c es))
 unfolding editEntries
 begins-changed f theSet tag (put v) k es b =
-    rw (applied-keys tagOfEntry (λ v. plain (itemOf (valWith set tag v))) flatEntry (EntryValid f) 8192 tag (made-tag set tag) (put v) es) (begins-put f tag (map tagOfEntry es) b)
+    rw (applied-keys tagOfEntry (λ v. plain (itemOf (valWith set tag v))) tag (made-tag set tag) (put v) es) (begins-put f tag (map tagOfEntry es) b)
 begins-changed f theSet tag remove k es b =
-    rw (applied-keys tagOfEntry (λ v. plain (itemOf (valWith set tag v))) flatEntry (EntryValid f) 8192 tag (made-tag set tag) remove es) (begins-out f tag (map tagOfEntry es) k b)
+    rw (applied-keys tagOfEntry (λ v. plain (itemOf (valWith set tag v))) tag (made-tag set tag) remove es) (begins-out f tag (map tagOfEntry es) k b)
 begins-changed f (target i) tag c k es b = rw (keys-on tagOfEntry isSeries (inEntry i tag c) (entry-key i tag c) es) b
-
-content-form : (p : Packet) → content p .form ≡ p .form
-unfolding content
-content-form p = refl
 
 pub edited-valid : (h : Holder) (tag : ℕ) (c : Change) (p : Packet) (u : Unit {0}) → Valid p → editRules h tag c (content p) ≡ ok u → length (flat (editPacket h tag c p)) ≤ 8192
     → Valid (editPacket h tag c p)

@@ -5,15 +5,15 @@ use mathlib.Core.Bool.{true, false, _&&_}
 use mathlib.Core.List.{List}
 use lib.ListN.{length}
 use lib.Dec.{eqb}
-use borrow.Author.Tests.{ltb-true, not-true}
-use Rattle.format.specs.Answer.{ok}
+use borrow.Author.Tests.{ltb-true, lt-ltb, not-true}
+use Rattle.format.specs.Answer.{ok, _>>=_, need}
 use Rattle.format.specs.Lists.{has}
 use Rattle.format.specs.Table.{Form, Level, isAlone, nameable, valued}
 use Rattle.format.specs.Sheet.{Sheet}
 use Rattle.format.specs.Edit.{Holder, Change, put, remove, levelOf, mustStay, tagsAt, changeRules, editRules}
 use Rattle.format.specs.Valid.{Meets}
 use Rattle.format.proofs.words.Answers.{bind-then, need-then, need-last}
-use Rattle.format.proofs.table.Values.{valued-says}
+use Rattle.format.proofs.table.Values.{valued-says, valued-gives}
 
 -- a value to put that its level takes, or a removal of what need not stay
 abbrev pub ChangeOk : Form → Level → ℕ → Change → Type 0
@@ -45,3 +45,14 @@ rules-then h tag c s u e k =
     need-then _ _ _ _ e λ n e₁.
     bind-then _ _ _ e₁ λ tags et e₂.
     k n (change-says _ _ _ _ _ _ n e₂) tags et (change-present _ _ _ _ _ _ e₂)
+
+-- and the other way
+change-gives : (f : Form) (l : Level) (tag : ℕ) (tags : List ℕ) (c : Change) → ChangeOk f l tag c → Present tag c tags → changeRules f l tag tags c ≡ ok tt
+unfolding changeRules _>>=_ need
+change-gives f l tag tags (put v) k p = rw (lt-ltb 0 (length v) (k .not-empty), k .may-stand, valued-gives l tag v (k .valued))
+change-gives f l tag tags remove k p = rw (p, k)
+
+pub rules-give : (h : Holder) (tag : ℕ) (c : Change) (s : Sheet) (tags : List ℕ) → nameable (levelOf h) tag ≡ true → ChangeOk (s .form) (levelOf h) tag c
+    → tagsAt h (s .parts) ≡ ok tags → Present tag c tags → editRules h tag c s ≡ ok tt
+unfolding editRules _>>=_ need
+rules-give h tag c s tags n k et p = rw (n, et) (change-gives (s .form) (levelOf h) tag tags c k p)

@@ -93,6 +93,10 @@ unfolding content sheetBytes
 content-size p h =
     omega (arith, body-less p, flat-less partOf flatEntry partBytes 5 (EntryValid (p .form)) (part-size (p .form)) (p .entries) (h .entries-valid .each))
 
+pub content-form : (p : Packet) → content p .form ≡ p .form
+unfolding content
+content-form p = refl
+
 pub content-valid : (p : Packet) → Valid p → SheetValid (content p)
 unfolding content
 content-valid p h = record {

@@ -163,6 +163,16 @@ module _ (t : ℕ) where
       go ih true z = rw (z, takeOut) (rw (eqb-true k t z, n) at e)
       go ih false z = rw (z, takeOut) (or-mono (eqb k j) (has j ks) (has j (outKey ks)) ih e)
 
+  -- and one taken out of keys that stand once is gone
+  pub out-gone : (ks : List ℕ) → Once ks → has t (outKey ks) ≡ false
+  unfolding takeOut
+  out-gone [] o = unfold has in refl
+  out-gone (k ∷ ks) o = go (out-gone ks (o .1)) (eqb k t) refl
+    where
+      go : has t (outKey ks) ≡ false → (b : Bool) → eqb k t ≡ b → has t (outKey (k ∷ ks)) ≡ false
+      go ih true z = rw (z, takeOut) (rw (eqb-true k t z) at (o .0))
+      go ih false z = rw (z, takeOut) (has-not k t (outKey ks) z ih)
+
 -- ---- sizes and emptiness
 
 pub size-put : {X : Type 0} (flat : X → List ℕ) (hit : X → Bool) (y : X) (xs : List X) → length (flat y) ≤ length (flatAll flat (putIn hit y xs))

@@ -45,6 +45,11 @@ module _ {X : Type 0} {hit : X → Bool} where
   first-on f (here z) = rw (z, onHit)
   first-on f (there {y = y} z r) = rw (z, onHit) (ap (λ l. y ∷ l) (first-on f r))
 
+  pub changed-all : (P : X → Type 0) (f : X → X) {xs before after : List X} {x : X} → First hit xs before x after → All P (onHit hit f xs) → P (f x)
+  unfolding onHit
+  changed-all P f (here z) h = (rw (z, onHit) at h) .0
+  changed-all P f (there z r) h = changed-all P f r ((rw (z, onHit) at h) .1)
+
   pub first-ask : {A : Type 0} (f : X → Ans A) {xs before after : List X} {x : X} → First hit xs before x after → askHit hit f xs ≡ f x
   unfolding askHit
   first-ask f (here z) = rw (z, askHit)

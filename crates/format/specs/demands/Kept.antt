@@ -53,7 +53,7 @@ pub record PackAt (i : ℕ) (es : List Entry) : Type 0 where
   pub it : Pack
   pub pack-at : At idOfPack i packs earlier it later
 
--- new items in that pack, the lengths around them shortest
+-- the set's bytes with these items in that pack, the lengths around them shortest
 abbrev pub around : {i : ℕ} {es : List Entry} → PackAt i es → List ℕ → List ℕ
 around {i} p items =
     between flatEntry (p .before) (p .after) (oidBytes 101 ++ brief (between flatPack (p .earlier) (p .later) (brief (oidBytes i ++ items))))
@@ -65,7 +65,7 @@ pub record LevelKept {X : Type 0} (l : Level) (key : X → ℕ) (lay : X → Lis
   pub stood : Stood key tag c xs before after
   pub now : new ≡ between lay before after (newItem l tag c)
 
--- the level is a pack's
+-- the same in a target's pack
 pub record TargetKept (i tag : ℕ) (c : Change) (es : List Entry) (new : List ℕ) : Type 0 where
   pub place : PackAt i es
   pub items : List ℕ

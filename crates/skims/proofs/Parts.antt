@@ -15,7 +15,7 @@ use Rattle.format.specs.Run.{run}
 use Rattle.format.specs.Sheet.{Val, Target, Part, one, targets, tagOfVal, idOfTarget, IT, TS, TG, TI, is, valueAt, targetAt, seriesAt, partAt}
 use Rattle.format.proofs.words.Answers.{no-bool, bind-then, need-then, ok-inj}
 use Rattle.format.proofs.table.Tags.{nameable-high, nameable-set}
-use Rattle.format.proofs.bounds.Answers.{refuses-bind, refuses-ok}
+use Rattle.format.proofs.bounds.Answers.{listed, refuses-bind, refuses-ok}
 use Rattle.format.proofs.bounds.Packets.{Here, here-need, standing-here}
 use Rattle.format.proofs.bounds.Sheets.{value-here}
 use Rattle.format.proofs.sheets.Values.{mark-says}
@@ -75,14 +75,14 @@ fault-by whole (refused m q) n apart h e =
 
 series-here : (f : Form) (seen u : List ℕ) → Here (seriesOpens f seen u)
 unfolding seriesOpens
-series-here f seen u = refuses-bind _ _ (here-need _ 17 (omega arith) (omega arith)) λ _ _. standing-here set f seen 101 true
+series-here f seen u = refuses-bind _ _ (here-need _ 17 (listed 17 refl)) λ _ _. standing-here set f seen 101 true
 
 target-here : (seen u : List ℕ) → Here (targetOpens seen u)
 unfolding targetOpens
 target-here seen u =
-    refuses-bind _ _ (here-need _ 17 (omega arith) (omega arith)) λ _ _.
-    refuses-bind _ _ (here-need _ 17 (omega arith) (omega arith)) λ _ _.
-    refuses-bind _ _ (here-need _ 10 (omega arith) (omega arith)) λ _ _. refuses-ok _ _
+    refuses-bind _ _ (here-need _ 17 (listed 17 refl)) λ _ _.
+    refuses-bind _ _ (here-need _ 17 (listed 17 refl)) λ _ _.
+    refuses-bind _ _ (here-need _ 10 (listed 10 refl)) λ _ _. refuses-ok _ _
 
 module _ (f : Form) (seen u : List ℕ) (n : ℕ) where
   value-fault : (l : Level) → piece.Fault n ≡ pieceBy valueWhole (valueAt l f seen u) → valueAt l f seen u ≡ refused n 0

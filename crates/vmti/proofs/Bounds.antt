@@ -47,7 +47,7 @@ normal-long : (f : Form) (s y : List ℕ) → normalise f s ≡ ok y → length 
 unfolding normalise
 normal-long f s y e = bind-then _ _ _ e λ p _ e₁. packed-long (packetOf (content p)) y e₁
 
-abbrev Small : Answer → Type 0
+abbrev pub Small : Answer → Type 0
 Small a = (a .number ≤ 19) × (a .place ≤ 65536)
 
 -- from the same facts of what is left

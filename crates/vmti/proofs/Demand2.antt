@@ -26,6 +26,11 @@ use Rattle.answers.proofs.Results.{one-result}
 use Rattle.vmti.specs.Demand2.{Given, Reading, Normalising, Fits, Writing, Demand2}
 use Rattle.vmti.proofs.Leaving.{given, refusing, accepted-only, wrote, one-left}
 
+-- a packet that has a normal form is valid, and that is its
+normal-then : {X : Type 0} (f : Form) (s : List ℕ) → Bytes s → (b : List ℕ) → normalise f s ≡ ok b → ((p : Packet) → Lies f s p → flat (packetOf (content p)) ≡ b → X) → X
+unfolding normalise
+normal-then f s h b e k = bind-then _ _ _ e λ p ep _. k p (parse-says f s p h ep) (ok-inj _ _ (sym (normal-is f s h p ep) ∙ e))
+
 -- ---- read
 
 module _ (f : Form) (packet lent : List ℕ) (a : Answer) (left : List ℕ) where
@@ -45,13 +50,9 @@ module _ (f : Form) (packet lent : List ℕ) (a : Answer) (left : List ℕ) wher
     valid = λ p l. given lent left a _ (e ∙ ap (leaves lent) (normal-is f packet h p (lies-parses f packet p l)));
     only = λ y.
         let (b, q) = accepted-only lent left a (length packet) (normalise f packet) (numbered f packet theSet 0 remove .normalise-answers) e y in
-        normal-then b q λ p ep. (p, parse-says f packet p h ep);
+        normal-then f packet h b q λ p l _. (p, l);
     refusing = λ n p q. refusing lent left a (normalise f packet) e n p (normal f packet h .refuses n p .1 q);
   }
-    where
-      normal-then : {X : Type 0} (b : List ℕ) → normalise f packet ≡ ok b → ((p : Packet) → parse f packet ≡ ok p → X) → X
-      unfolding normalise
-      normal-then b e k = bind-then _ _ _ e λ p ep _. k p ep
 
 -- ---- write
 
@@ -83,7 +84,7 @@ module _ (lent : List ℕ) (a c : Answer) (left then : List ℕ) where
   pub one-normalising : (f : Form) (packet : List ℕ) → Bytes packet → Normalising f packet lent a left → Normalising f packet lent c then → (a ≡ c) × (left ≡ then)
   one-normalising f packet h r s =
       one-left (normalise f packet) lent a c left then
-      (λ b e. ?)
+      (λ b e. normal-then f packet h b e λ p l z. (rw z at (r .valid p l), rw z at (s .valid p l)))
       (λ n p q. r .refusing n p (normal f packet h .refuses n p .0 q))
       (λ n p q. s .refusing n p (normal f packet h .refuses n p .0 q))
 

@@ -23,11 +23,11 @@ leftIs n p l = record { number = n; place = p; lent = l }
 
 -- by whether there is room
 by-room : (P : Type 0) (m n : ℕ) → (m ≤ n → P) → (n < m → P) → P
-by-room P m n yes no = go (leb m n) refl
+by-room P m n there short = go (leb m n) refl
   where
     go : (b : Bool) → leb m n ≡ b → P
-    go true e = yes (leb-true m n e)
-    go false e = no (leb-false m n e)
+    go true e = there (leb-true m n e)
+    go false e = short (leb-false m n e)
 
 room-left : (lent b : List ℕ) → length b ≤ length lent → leaves lent (ok b) ≡ leftIs 0 (length b) (b ++ drop (length b) lent)
 unfolding leaves

@@ -1,2 +1,6 @@
 pub mod Bounds
-pub mod Promised
+pub mod Leaving
+pub mod Demand1
+pub mod Demand2
+pub mod Demand3
+pub mod FromC

@@ -1,2 +1,3 @@
 pub mod Meet
+pub mod Given
 pub mod Calls

@@ -6,7 +6,7 @@ use Rattle.format.specs.Calls.{read, write, normalise}
 use Rattle.format.specs.Edit.{theSet, remove, edit}
 use Rattle.format.proofs.demands.Demand1.{numbered}
 use Rattle.vmti.specs.Demand1.{Demand1}
-use Rattle.vmti.proofs.Leaving.{answered}
+use Rattle.answers.proofs.Given.{answered}
 
 pub demand-1 : Demand1
 demand-1 = record {

@@ -23,8 +23,8 @@ use Rattle.format.proofs.demands.Demand2.{normal-is, normal, write-then, sheet-
 use Rattle.answers.specs.declared.Answer.{Answer}
 use Rattle.answers.specs.Calls.{Reads, Writes, Normalises}
 use Rattle.answers.proofs.Results.{one-result}
-use Rattle.vmti.specs.Demand2.{Given, Reading, Normalising, Fits, Writing, Demand2}
-use Rattle.vmti.proofs.Leaving.{given, refusing, accepted-only, wrote, one-left}
+use Rattle.vmti.specs.Demand2.{Reading, Normalising, Fits, Writing, Demand2}
+use Rattle.answers.proofs.Given.{given, refusing, accepted-only, wrote, one-left}
 
 -- a packet that has a normal form is valid, and that is its
 normal-then : {X : Type 0} (f : Form) (s : List ℕ) → Bytes s → (b : List ℕ) → normalise f s ≡ ok b → ((p : Packet) → Lies f s p → flat (packetOf (content p)) ≡ b → X) → X

@@ -16,7 +16,7 @@ use Rattle.format.proofs.demands.Demand3.{demand-3}
 use Rattle.answers.specs.declared.Answer.{Answer}
 use Rattle.answers.specs.Calls.{Edits}
 use Rattle.vmti.specs.Demand3.{Editing, Edited, Demand3}
-use Rattle.vmti.proofs.Leaving.{given, refusing, accepted-only, wrote, one-left}
+use Rattle.answers.proofs.Given.{given, refusing, accepted-only, wrote, one-left}
 
 module _ (f : Form) (h : Holder) (tag : ℕ) (c : Change) (packet lent : List ℕ) (a : Answer) (left : List ℕ) (bytes : Bytes packet) where
   defined : Definitions.Demand3 f h tag c packet

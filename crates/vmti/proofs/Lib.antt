@@ -1,5 +1,4 @@
 pub mod Bounds
-pub mod Leaving
 pub mod Demand1
 pub mod Demand2
 pub mod Demand3

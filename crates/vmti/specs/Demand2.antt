@@ -1,10 +1,9 @@
 -- Demand 2 of the calls, closed: accepted exactly when valid, the sheet and the normal form that are defined, and one call after another.
 use mathlib.Core.Path.{_≡_}
-use mathlib.Core.Logic.{_⊎_}
-use mathlib.Core.List.{List, _++_}
-use Prim.Native.Nat.{ℕ, _≤_, _<_}
-use lib.ListN.{length, take, drop}
-use Rattle.format.specs.Answer.{Ans, ok, refused}
+use mathlib.Core.List.{List}
+use Prim.Native.Nat.{ℕ, _≤_}
+use lib.ListN.{length, drop}
+use Rattle.format.specs.Answer.{ok}
 use Rattle.format.specs.Coding.{Bytes}
 use Rattle.format.specs.Packet.{Packet, flat}
 use Rattle.format.specs.Table.{Form}
@@ -12,21 +11,8 @@ use Rattle.format.specs.Sheet.{Sheet, content, formOf, sheetBytes}
 use Rattle.format.specs.Calls.{packetOf, read, write}
 use Rattle.format.specs.Valid.{Lies, SheetValid}
 use Rattle.answers.specs.declared.Answer.{Answer}
-use Rattle.answers.specs.Meet.{answerOf}
+use Rattle.answers.specs.Given.{Given, Refusing, Accepted, written}
 use Rattle.answers.specs.Calls.{Reads, Writes, Normalises}
-
--- b is to be written: given room it stands there, else 16 says how much it takes
-pub record Given (b lent : List ℕ) (a : Answer) (left : List ℕ) : Type 0 where
-  pub with-room : length b ≤ length lent → (a ≡ answerOf 0 (length b)) × (left ≡ b ++ drop (length b) lent)
-  pub without : length lent < length b → (a ≡ answerOf 16 (length b)) × (left ≡ lent)
-
--- x refuses: its number and place, and nothing changed
-abbrev pub Refusing : Ans (List ℕ) → List ℕ → Answer → List ℕ → Type 0
-Refusing x lent a left = (n p : ℕ) → x ≡ refused n p → (a ≡ answerOf n p) × (left ≡ lent)
-
--- the input was not refused
-abbrev pub Accepted : Answer → Type 0
-Accepted a = (a .number ≡ 0) ⊎ (a .number ≡ 16)
 
 pub record Reading (f : Form) (packet lent : List ℕ) (a : Answer) (left : List ℕ) : Type 0 where
   -- "accepted exactly when it meets ST 0903.6 as narrowed in document 01, and its sheet .. the one defined there"
@@ -50,10 +36,6 @@ pub record Writing (sheet lent : List ℕ) (a : Answer) (left : List ℕ) : Type
   pub valid : (t : Sheet) → Fits sheet t → Given (flat (packetOf t)) lent a left
   pub only : Accepted a → (t : Sheet) × Fits sheet t
   pub refusing : Refusing (write sheet) lent a left
-
--- what a successful call wrote
-abbrev pub written : Answer → List ℕ → List ℕ
-written a left = take (a .place) left
 
 -- of a packet that `read` accepted, and of its sheet then written
 pub record ReadThenWritten (f : Form) (packet : List ℕ) (a : Answer) (left : List ℕ) : Type 0 where

@@ -11,8 +11,8 @@ use Rattle.format.specs.demands.Demand3.{Why, Changed, Allowed}
 use Rattle.format.specs.demands.Kept.{Kept}
 use Rattle.answers.specs.declared.Answer.{Answer}
 use Rattle.answers.specs.Meet.{answerOf}
+use Rattle.answers.specs.Given.{Given, Accepted, written}
 use Rattle.answers.specs.Calls.{Writes, Normalises, Edits}
-use Rattle.vmti.specs.Demand2.{Given, Accepted, written}
 
 pub record Editing (f : Form) (h : Holder) (tag : ℕ) (c : Change) (packet lent : List ℕ) (a : Answer) (left : List ℕ) : Type 0 where
   -- what is kept and what is changed is one packet, written where the edit is allowed and that has at most 8,192 bytes

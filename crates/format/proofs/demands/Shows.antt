@@ -1,73 +1,56 @@
 -- Show hands back the item's value.
 use mathlib.Core.Path.{_≡_, refl, sym, ap, _∙_}
-use Prim.Native.Nat.{ℕ}
+use Prim.Native.Nat.{ℕ, _+_}
 use mathlib.Core.Bool.{Bool, true, false, _&&_}
-use mathlib.Core.List.{List, [], _∷_, map}
+use mathlib.Core.List.{List, [], _∷_, _++_, append-assoc}
 use mathlib.Core.Logic.{_⊎_, inl, inr}
-use lib.ListN.{length}
+use lib.ListN.{length, take, drop, take-append-drop}
+use lib.Seq.{take-append-seam, drop-append-seam, drop-drop}
 use lib.Dec.{eqb}
 use Rattle.format.specs.Answer.{Ans, ok, refused, _>>=_}
 use Rattle.format.specs.Coding.{Bytes}
 use Rattle.format.specs.Lists.{askHit}
 use Rattle.format.specs.Table.{Form, embedded, standalone}
-use Rattle.format.specs.Packet.{Entry, Packet, flat}
-use Rattle.format.specs.Read.{parse}
+use Rattle.format.specs.Packet.{Entry, Packet}
+use Rattle.format.specs.Read.{start, parse}
 use Rattle.format.specs.Rows.{Row, sealItem, sealed, rowsOf}
 use Rattle.format.specs.Edit.{Holder}
 use Rattle.format.specs.Show.{reviewer, detector, nothing, numberOf, findRow, showable, eitherRow, showIn, show}
-use Rattle.format.specs.Valid.{Valid}
-use Rattle.format.specs.demands.Rows.{Cell, cell, entryCells, cellsOf, part, cellAt}
+use Rattle.format.specs.Valid.{Lies}
+use Rattle.format.specs.demands.Rows.{Cell, entryCells, cellsOf, part, InTurn}
 use Rattle.format.specs.demands.Shows.{valueIn, valueOf, ShownValue, Shows}
 use Rattle.format.proofs.words.Answers.{never, ok-inj}
-use Rattle.format.proofs.words.Changes.{map-ask}
 use Rattle.format.proofs.reading.Packets.{parse-says}
-use Rattle.format.proofs.rows.Point.{rows-point}
-use Rattle.format.proofs.rows.Find.{hitCell, cellFor, Of, OneSeries, one-series, one-snoc, holder-cell, holder-none, number-snoc}
+use Rattle.format.proofs.rows.Point.{lies-turn}
+use Rattle.format.proofs.rows.Find.{hitCell, valueFor, OneSeries, one-series, one-snoc, holder-value, holder-none, number-snoc}
 
 abbrev hitRow : ℕ → ℕ → Row → Bool
 hitRow k t w = eqb (w .target) k && eqb (w .tag) t
-
-ask-map : {X Y : Type 0} (h : X → Bool) (g : X → Y) (xs : List X) → askHit h (λ x. ok (g x)) xs ≡ (askHit h ok xs >>= λ x. ok (g x))
-unfolding askHit _>>=_
-ask-map h g [] = refl
-ask-map h g (x ∷ xs) = go (ask-map h g xs) (h x) refl
-  where
-    go : askHit h (λ x. ok (g x)) xs ≡ (askHit h ok xs >>= λ x. ok (g x)) → (b : Bool) → h x ≡ b → askHit h (λ x. ok (g x)) (x ∷ xs) ≡ (askHit h ok (x ∷ xs) >>= λ x. ok (g x))
-    go ih true z = rw (z, askHit)
-    go ih false z = rw (z, askHit) ih
-
-rows-cell : (s : List ℕ) (k t : ℕ) (rows : List Row) → cellFor k t (map (cellAt s) rows) ≡ (askHit (hitRow k t) ok rows >>= λ w. ok (cellAt s w))
-unfolding cellFor
-rows-cell s k t rows =
-    map-ask (cellAt s) (hitRow k t) (hitCell k t) (λ w. unfold cellAt in refl) ok rows
-    ∙ ask-map (hitRow k t) (cellAt s) rows
 
 -- what a row found says of the value, and none found
 abbrev Points : List ℕ → Ans Row → Ans (List ℕ) → Type 0
 Points s (ok w) v = (v ≡ ok (part s (w .offset) (w .size))) × (w .size ≡ length (part s (w .offset) (w .size)))
 Points s (refused n a) v = v ≡ refused 18 0
 
-of-ok : (s : List ℕ) (k t : ℕ) (v : Ans (List ℕ)) (w : Row) → Of k t v ≡ ok (cellAt s w) → Points s (ok w) v
-unfolding cellAt
-of-ok s k t (ok v) w e =
-    let c : cell k t v ≡ cellAt s w = ok-inj (cell k t v) (cellAt s w) e in
-    let z : v ≡ part s (w .offset) (w .size) = ap (λ (c : Cell). c .value) c in
-    let y : length v ≡ w .size = ap (λ (c : Cell). c .size) c in
-    (ap ok z, sym y ∙ ap length z)
-of-ok s k t (refused n a) w e = never n a (cellAt s w) e
+-- a value behind its head
+part-behind : (s a b : List ℕ) (at : ℕ) → part s at (length (a ++ b)) ≡ a ++ b → part s (at + length a) (length b) ≡ b
+part-behind s a b at e =
+    let d : List ℕ = drop at s in
+    let q : d ≡ a ++ (b ++ drop (length (a ++ b)) d) = sym (take-append-drop (length (a ++ b)) d) ∙ ap (λ x. x ++ drop (length (a ++ b)) d) e ∙ append-assoc a b _ in
+    ap (take (length b)) (sym (drop-drop (length a) at s) ∙ ap (drop (length a)) q ∙ drop-append-seam a _) ∙ take-append-seam b _
 
-of-refused : (k t m a : ℕ) (v : Ans (List ℕ)) → Of k t v ≡ refused m a → v ≡ refused m a
-of-refused k t m a (ok v) e = never m a (cell k t v) (sym e)
-of-refused k t m a (refused n b) e = cc
-
-ask-none : {X : Type 0} (h : X → Bool) (xs : List X) (m a : ℕ) → askHit h ok xs ≡ refused m a → askHit h ok xs ≡ refused 18 0
-unfolding askHit
-ask-none h [] m a e = refl
-ask-none h (x ∷ xs) m a e = go (ask-none h xs m a) (h x) refl
+turn-points : (s : List ℕ) (k t at : ℕ) (cs : List Cell) (rs : List Row) → InTurn s at cs rs → Points s (askHit (hitRow k t) ok rs) (valueFor k t cs)
+unfolding valueFor askHit
+turn-points s k t at [] [] h = refl
+turn-points s k t at [] (r ∷ rs) h = absurd h
+turn-points s k t at (c ∷ cs) [] h = absurd h
+turn-points s k t at (c ∷ cs) (r ∷ rs) h = go (turn-points s k t (at + length (c .head) + c .inside) cs rs (h .2)) (hitCell k t c) refl
   where
-    go : (askHit h ok xs ≡ refused m a → askHit h ok xs ≡ refused 18 0) → (b : Bool) → h x ≡ b → askHit h ok (x ∷ xs) ≡ refused 18 0
-    go ih true z = never m a x (sym (rw (z, askHit) at e))
-    go ih false z = rw (z, askHit) (ih (rw (z, askHit) at e))
+    go : Points s (askHit (hitRow k t) ok rs) (valueFor k t cs) → (b : Bool) → hitCell k t c ≡ b → Points s (askHit (hitRow k t) ok (r ∷ rs)) (valueFor k t (c ∷ cs))
+    go ih true z =
+        let v : part s (r .offset) (r .size) ≡ c .value = rw (h .0) (part-behind s (c .head) (c .value) at (h .1)) in
+        rw (ap (hitRow k t) (h .0) ∙ z, z, askHit) (ap ok (sym v), ap (λ (x : Row). x .size) (h .0) ∙ ap length (sym v))
+    go ih false z = rw (ap (hitRow k t) (h .0) ∙ z, z, askHit) ih
 
 -- ---- in one packet
 
@@ -81,29 +64,22 @@ unfolding sealed
 sealed-number embedded h es c = refl
 sealed-number standalone h es c = number-snoc h es (sealItem c)
 
-found : (s : List ℕ) (p : Packet) (h : Holder) (t : ℕ) → flat p ≡ s → Valid p → showable h t ≡ true → Points s (findRow h t p) (valueOf h t p)
-unfolding findRow valueOf _>>=_
-found s p h t fl v n = at-number (numberOf h (p .entries)) refl
+found : (f : Form) (s : List ℕ) (p : Packet) (h : Holder) (t : ℕ) → Lies f s p → showable h t ≡ true → Points s (findRow h t p) (valueOf h t p)
+unfolding findRow valueOf cellsOf _>>=_
+found f s p h t l n = at-number (numberOf h (p .entries)) refl
   where
     all : List Entry
     all = sealed (p .form) (p .entries) (p .sum)
 
-    cells : (k : ℕ) → numberOf h (p .entries) ≡ ok k → Of k t (valueIn h t all) ≡ (askHit (hitRow k t) ok (rowsOf p) >>= λ w. ok (cellAt s w))
-    cells k e =
-        sym (holder-cell h k t all n (sealed-one (p .form) (p .entries) (p .sum) (one-series (p .entries) (v .entries-valid .once))) (sealed-number (p .form) h (p .entries) (p .sum) ∙ e))
-        ∙ ap (cellFor k t) (sym (rows-at s p fl v))
-        ∙ rows-cell s k t (rowsOf p)
-      where
-        rows-at : (s : List ℕ) (p : Packet) → flat p ≡ s → Valid p → map (cellAt s) (rowsOf p) ≡ entryCells (sealed (p .form) (p .entries) (p .sum))
-        rows-at s p fl v = unfold cellsOf in (ap (λ x. map (cellAt x) (rowsOf p)) (sym fl) ∙ rows-point p v)
+    numbered : {a : Ans ℕ} → numberOf h (p .entries) ≡ a → numberOf h all ≡ a
+    numbered e = sealed-number (p .form) h (p .entries) (p .sum) ∙ e
 
-    at-row : (k : ℕ) → numberOf h (p .entries) ≡ ok k → (a : Ans Row) → askHit (hitRow k t) ok (rowsOf p) ≡ a → Points s a (valueIn h t all)
-    at-row k e (ok w) z = of-ok s k t (valueIn h t all) w (rw z at (cells k e))
-    at-row k e (refused m a) z = of-refused k t 18 0 (valueIn h t all) (rw (ask-none (hitRow k t) (rowsOf p) m a z) at (cells k e))
+    value-is : (k : ℕ) → numberOf h (p .entries) ≡ ok k → valueFor k t (entryCells all) ≡ valueIn h t all
+    value-is k e = holder-value h k t all n (sealed-one (p .form) (p .entries) (p .sum) (one-series (p .entries) (l .valid .entries-valid .once))) (numbered e)
 
     at-number : (a : Ans ℕ) → numberOf h (p .entries) ≡ a → Points s (findRow h t p) (valueIn h t all)
-    at-number (ok k) e = rw e (at-row k e (askHit (hitRow k t) ok (rowsOf p)) refl)
-    at-number (refused m a) e = rw e (holder-none h m a t all (sealed-number (p .form) h (p .entries) (p .sum) ∙ e))
+    at-number (ok k) e = rw (e, ← value-is k e) (turn-points s k t (start f (p .width)) (entryCells all) (rowsOf p) (lies-turn f s p l))
+    at-number (refused m a) e = rw e (holder-none h m a t all (numbered e))
 
 -- ---- in two
 
@@ -138,10 +114,10 @@ module _ (f : Form) (r d : List ℕ) (h : Holder) (t : ℕ) where
 
     module _ (hr : Bytes r) (hd : Bytes d) (n : showable h t ≡ true) where
       in-r : Points r (findRow h t p) (valueOf h t p)
-      in-r = let l = parse-says f r p hr ep in found r p h t (l .lies-flat) (l .valid) n
+      in-r = found f r p h t (parse-says f r p hr ep) n
 
       in-d : Points d (findRow h t q) (valueOf h t q)
-      in-d = let l = parse-says f d q hd eq in found d q h t (l .lies-flat) (l .valid) n
+      in-d = found f d q h t (parse-says f d q hd eq) n
 
       show-reviewer : (v : List ℕ) → valueOf h t p ≡ ok v → ShownValue f r d h t reviewer r v
       unfolding eitherRow

@@ -1,65 +1,65 @@
--- The cell of an item, by target number and tag, is that of the item's value in the tree.
+-- The value of the cell with an item's target number and tag is the item's value in the tree.
 use mathlib.Core.Path.{_≡_, refl, sym, ap, _∙_}
 use Prim.Native.Nat.{ℕ, suc, _≤_, _<_}
 use native.Mathlib.Omega.{arith}
 use mathlib.Core.Bool.{Bool, true, false, not, _&&_}
 use mathlib.Core.List.{List, [], _∷_, _++_, append-assoc, map}
+use lib.ListN.{length}
 use lib.Dec.{ltb, eqb}
-use borrow.Author.Tests.{eqb-true, ltb-true, eq-eqb, ne-eqb, not-true}
+use borrow.Author.Tests.{ltb-true, eq-eqb, ne-eqb, not-true}
 use Rattle.format.specs.Answer.{Ans, ok, refused}
+use Rattle.format.specs.Coding.{oidBytes}
 use Rattle.format.specs.Lists.{has, flatAll, askHit}
 use Rattle.format.specs.Table.{isSet}
 use Rattle.format.specs.Packet.{Item, Pack, Entry, plain, series, tagOfEntry, flatPack, packBody}
 use Rattle.format.specs.Edit.{Holder, theSet, target, levelOf, isSeries}
 use Rattle.format.specs.Show.{numberIn, seriesNumber, numberOf, showable}
 use Rattle.format.specs.Valid.{All, Once}
-use Rattle.format.specs.demands.Rows.{Cell, cell, itemCells, packCells, entryCells}
+use Rattle.format.specs.demands.Rows.{Cell, cell, itemCell, packCells, entryCells}
 use Rattle.format.specs.demands.Shows.{itemValue, entryValue, packValue, valueIn}
 use Rattle.format.proofs.words.Answers.{never, no-bool, ok-inj, and-both}
 use Rattle.format.proofs.words.Keys.{flip, has-none}
 
--- ---- a cell by its target and tag
+-- ---- a value by the target and tag of its cell
 
 abbrev pub hitCell : ℕ → ℕ → Cell → Bool
 hitCell k t c = eqb (c .target) k && eqb (c .tag) t
 
-unfoldable pub cellFor : ℕ → ℕ → List Cell → Ans Cell
-cellFor k t cs = askHit (hitCell k t) ok cs
+unfoldable pub valueFor : ℕ → ℕ → List Cell → Ans (List ℕ)
+valueFor k t cs = askHit (hitCell k t) (λ c. ok (c .value)) cs
 
-other : (k t : ℕ) (c : Cell) (cs : List Cell) → hitCell k t c ≡ false → cellFor k t (c ∷ cs) ≡ cellFor k t cs
-unfolding cellFor askHit
+other : (k t : ℕ) (c : Cell) (cs : List Cell) → hitCell k t c ≡ false → valueFor k t (c ∷ cs) ≡ valueFor k t cs
+unfolding valueFor askHit
 other k t c cs z = rw (z, askHit)
 
-no-target : (n k t x : ℕ) (v : List ℕ) → eqb n k ≡ false → hitCell k t (cell n x v) ≡ false
-no-target n k t x v z = rw z
+past-target : (k t : ℕ) (c : Cell) (cs : List Cell) → eqb (c .target) k ≡ false → valueFor k t (c ∷ cs) ≡ valueFor k t cs
+past-target k t c cs z = other k t c cs (rw z)
 
-skip-items : (n k t : ℕ) (is : List Item) (cs : List Cell) → eqb n k ≡ false → cellFor k t (itemCells n is ++ cs) ≡ cellFor k t cs
-unfolding itemCells
+skip-items : (n k t : ℕ) (is : List Item) (cs : List Cell) → eqb n k ≡ false → valueFor k t (map (itemCell n) is ++ cs) ≡ valueFor k t cs
 skip-items n k t [] cs z = refl
-skip-items n k t (i ∷ is) cs z = other k t (cell n (i .tag) (i .value)) (itemCells n is ++ cs) (no-target n k t (i .tag) (i .value) z) ∙ skip-items n k t is cs z
+skip-items n k t (i ∷ is) cs z = past-target k t (itemCell n i) (map (itemCell n) is ++ cs) z ∙ skip-items n k t is cs z
 
-skip-packs : (n k t : ℕ) (ps : List Pack) (cs : List Cell) → k < n → cellFor k t (packCells n ps ++ cs) ≡ cellFor k t cs
+-- past a pack's own cell, its items' cells and the rest
+past-pack : (n k t : ℕ) (p : Pack) (ps : List Pack) (cs : List Cell) → eqb n k && eqb 0 t ≡ false
+    → valueFor k t (packCells n (p ∷ ps) ++ cs) ≡ valueFor k t (map (itemCell n) (p .items) ++ (packCells (suc n) ps ++ cs))
 unfolding packCells
-skip-packs n k t [] cs l = refl
+past-pack n k t p ps cs z =
+    other k t (cell n 0 [] (p .width) (packBody p) (length (oidBytes (p .id)))) ((map (itemCell n) (p .items) ++ packCells (suc n) ps) ++ cs) z
+    ∙ ap (valueFor k t) (append-assoc (map (itemCell n) (p .items)) (packCells (suc n) ps) cs)
+
+skip-packs : (n k t : ℕ) (ps : List Pack) (cs : List Cell) → k < n → valueFor k t (packCells n ps ++ cs) ≡ valueFor k t cs
+skip-packs n k t [] cs l = unfold packCells in refl
 skip-packs n k t (p ∷ ps) cs l =
     let z : eqb n k ≡ false = ne-eqb n k λ e. omega arith in
-    other k t (cell n 0 (packBody p)) ((itemCells n (p .items) ++ packCells (suc n) ps) ++ cs) (no-target n k t 0 (packBody p) z)
-    ∙ ap (cellFor k t) (append-assoc (itemCells n (p .items)) (packCells (suc n) ps) cs)
-    ∙ skip-items n k t (p .items) (packCells (suc n) ps ++ cs) z
-    ∙ skip-packs (suc n) k t ps cs (omega arith)
+    past-pack n k t p ps cs (rw z) ∙ skip-items n k t (p .items) (packCells (suc n) ps ++ cs) z ∙ skip-packs (suc n) k t ps cs (omega arith)
 
--- the cell of a value, if there is one
-abbrev pub Of : ℕ → ℕ → Ans (List ℕ) → Ans Cell
-Of k t (ok v) = ok (cell k t v)
-Of k t (refused n a) = refused n a
-
-items-cell : (k t : ℕ) (is : List Item) (cs : List Cell) → cellFor k t cs ≡ refused 18 0 → cellFor k t (itemCells k is ++ cs) ≡ Of k t (itemValue t is)
-unfolding itemCells itemValue cellFor askHit
-items-cell k t [] cs e = e
-items-cell k t (i ∷ is) cs e = go (items-cell k t is cs e) (eqb (i .tag) t) refl
+items-value : (k t : ℕ) (is : List Item) (cs : List Cell) → valueFor k t cs ≡ refused 18 0 → valueFor k t (map (itemCell k) is ++ cs) ≡ itemValue t is
+unfolding itemValue valueFor askHit
+items-value k t [] cs e = e
+items-value k t (i ∷ is) cs e = go (items-value k t is cs e) (eqb (i .tag) t) refl
   where
-    go : cellFor k t (itemCells k is ++ cs) ≡ Of k t (itemValue t is) → (b : Bool) → eqb (i .tag) t ≡ b → cellFor k t (itemCells k (i ∷ is) ++ cs) ≡ Of k t (itemValue t (i ∷ is))
-    go ih true z = rw (eq-eqb k k refl, z, askHit) (ap (λ x. ok (cell k x (i .value))) (eqb-true (i .tag) t z))
+    go : valueFor k t (map (itemCell k) is ++ cs) ≡ itemValue t is → (b : Bool) → eqb (i .tag) t ≡ b → valueFor k t (map (itemCell k) (i ∷ is) ++ cs) ≡ itemValue t (i ∷ is)
+    go ih true z = rw (eq-eqb k k refl, z, askHit)
     go ih false z = rw (eq-eqb k k refl, z, askHit) ih
 
 number-low : (i n : ℕ) (ps : List Pack) (k : ℕ) → numberIn i n ps ≡ ok k → n ≤ k
@@ -71,34 +71,32 @@ number-low i n (p ∷ ps) k e = go (number-low i (suc n) ps k) (eqb (p .id) i) r
     go ih true z = let e′ : n ≡ k = ok-inj n k (rw (z, numberIn) at e) in omega arith
     go ih false z = let l = ih (rw (z, numberIn) at e) in omega arith
 
-packs-cell : (i n k t : ℕ) (ps : List Pack) (cs : List Cell) → 0 < t → numberIn i n ps ≡ ok k → cellFor k t cs ≡ refused 18 0
-    → cellFor k t (packCells n ps ++ cs) ≡ Of k t (askHit (λ p. eqb (p .id) i) (λ p. itemValue t (p .items)) ps)
-unfolding numberIn askHit packCells
-packs-cell i n k t [] cs pos e h = never 18 0 k e
-packs-cell i n k t (p ∷ ps) cs pos e h = go (λ e′. packs-cell i (suc n) k t ps cs pos e′ h) (eqb (p .id) i) refl
+packs-value : (i n k t : ℕ) (ps : List Pack) (cs : List Cell) → 0 < t → numberIn i n ps ≡ ok k → valueFor k t cs ≡ refused 18 0
+    → valueFor k t (packCells n ps ++ cs) ≡ askHit (λ p. eqb (p .id) i) (λ p. itemValue t (p .items)) ps
+unfolding numberIn askHit
+packs-value i n k t [] cs pos e h = never 18 0 k e
+packs-value i n k t (p ∷ ps) cs pos e h = go (λ e′. packs-value i (suc n) k t ps cs pos e′ h) (eqb (p .id) i) refl
   where
     rest : List Cell
     rest = packCells (suc n) ps ++ cs
-
-    past : hitCell k t (cell n 0 (packBody p)) ≡ false → cellFor k t (packCells n (p ∷ ps) ++ cs) ≡ cellFor k t (itemCells n (p .items) ++ rest)
-    past z =
-        other k t (cell n 0 (packBody p)) ((itemCells n (p .items) ++ packCells (suc n) ps) ++ cs) z
-        ∙ ap (cellFor k t) (append-assoc (itemCells n (p .items)) (packCells (suc n) ps) cs)
 
     zero-tag : (b : Bool) → b && eqb 0 t ≡ false
     zero-tag true = ne-eqb 0 t λ x. omega arith
     zero-tag false = refl
 
-    own : n ≡ k → cellFor k t (itemCells n (p .items) ++ rest) ≡ Of k t (itemValue t (p .items))
-    own z = rw z (items-cell k t (p .items) (packCells (suc k) ps ++ cs) (skip-packs (suc k) k t ps cs (omega arith) ∙ h))
+    past : valueFor k t (packCells n (p ∷ ps) ++ cs) ≡ valueFor k t (map (itemCell n) (p .items) ++ rest)
+    past = past-pack n k t p ps cs (zero-tag (eqb n k))
 
-    go : (numberIn i (suc n) ps ≡ ok k → cellFor k t rest ≡ Of k t (askHit (λ p. eqb (p .id) i) (λ p. itemValue t (p .items)) ps)) → (b : Bool) → eqb (p .id) i ≡ b
-        → cellFor k t (packCells n (p ∷ ps) ++ cs) ≡ Of k t (askHit (λ p. eqb (p .id) i) (λ p. itemValue t (p .items)) (p ∷ ps))
-    go ih true z = past (zero-tag (eqb n k)) ∙ own (ok-inj n k (rw (z, numberIn) at e)) ∙ rw (z, askHit)
+    own : n ≡ k → valueFor k t (map (itemCell n) (p .items) ++ rest) ≡ itemValue t (p .items)
+    own z = rw z (items-value k t (p .items) (packCells (suc k) ps ++ cs) (skip-packs (suc k) k t ps cs (omega arith) ∙ h))
+
+    go : (numberIn i (suc n) ps ≡ ok k → valueFor k t rest ≡ askHit (λ p. eqb (p .id) i) (λ p. itemValue t (p .items)) ps) → (b : Bool) → eqb (p .id) i ≡ b
+        → valueFor k t (packCells n (p ∷ ps) ++ cs) ≡ askHit (λ p. eqb (p .id) i) (λ p. itemValue t (p .items)) (p ∷ ps)
+    go ih true z = past ∙ own (ok-inj n k (rw (z, numberIn) at e)) ∙ rw (z, askHit)
     go ih false z =
         let e′ : numberIn i (suc n) ps ≡ ok k = rw (z, numberIn) at e in
         let m : eqb n k ≡ false = ne-eqb n k λ x. omega (arith, number-low i (suc n) ps k e′) in
-        past (zero-tag (eqb n k)) ∙ skip-items n k t (p .items) rest m ∙ ih e′ ∙ rw (z, askHit)
+        past ∙ skip-items n k t (p .items) rest m ∙ ih e′ ∙ rw (z, askHit)
 
 packs-none : {A : Type 0} (i n m a : ℕ) (g : Pack → Ans A) (ps : List Pack) → numberIn i n ps ≡ refused m a → askHit (λ p. eqb (p .id) i) g ps ≡ refused 18 0
 unfolding numberIn askHit
@@ -114,18 +112,21 @@ packs-none i n m a g (p ∷ ps) e = go (packs-none i (suc n) m a g ps) (eqb (p .
 zero-not : (k : ℕ) → 0 < k → eqb 0 k ≡ false
 zero-not k l = ne-eqb 0 k λ z. omega arith
 
-set-cell : (t : ℕ) (es : List Entry) → eqb t 101 ≡ false → cellFor 0 t (entryCells es) ≡ Of 0 t (askHit (λ e. eqb (tagOfEntry e) t) entryValue es)
+set-value : (t : ℕ) (es : List Entry) → eqb t 101 ≡ false → valueFor 0 t (entryCells es) ≡ askHit (λ e. eqb (tagOfEntry e) t) entryValue es
 unfolding entryCells askHit entryValue
-set-cell t [] n = unfold cellFor in refl
-set-cell t (plain i ∷ es) n = go (set-cell t es n) (eqb (i .tag) t) refl
+set-value t [] n = unfold valueFor in refl
+set-value t (plain i ∷ es) n = go (set-value t es n) (eqb (i .tag) t) refl
   where
-    go : cellFor 0 t (entryCells es) ≡ Of 0 t (askHit (λ e. eqb (tagOfEntry e) t) entryValue es) → (b : Bool) → eqb (i .tag) t ≡ b
-        → cellFor 0 t (cell 0 (i .tag) (i .value) ∷ entryCells es) ≡ Of 0 t (askHit (λ e. eqb (tagOfEntry e) t) entryValue (plain i ∷ es))
-    go ih true z = unfold cellFor in (rw (z, askHit) (ap (λ x. ok (cell 0 x (i .value))) (eqb-true (i .tag) t z)))
-    go ih false z = other 0 t (cell 0 (i .tag) (i .value)) (entryCells es) z ∙ ih ∙ rw (z, askHit)
-set-cell t (series w ps ∷ es) n =
+    go : valueFor 0 t (entryCells es) ≡ askHit (λ e. eqb (tagOfEntry e) t) entryValue es → (b : Bool) → eqb (i .tag) t ≡ b
+        → valueFor 0 t (itemCell 0 i ∷ entryCells es) ≡ askHit (λ e. eqb (tagOfEntry e) t) entryValue (plain i ∷ es)
+    go ih true z = unfold valueFor in (rw (z, askHit))
+    go ih false z = other 0 t (itemCell 0 i) (entryCells es) z ∙ ih ∙ rw (z, askHit)
+set-value t (series w ps ∷ es) n =
     let z : eqb 101 t ≡ false = flip t 101 n in
-    other 0 t (cell 0 101 (flatAll flatPack ps)) (packCells 1 ps ++ entryCells es) z ∙ skip-packs 1 0 t ps (entryCells es) (omega arith) ∙ set-cell t es n ∙ rw (z, askHit)
+    other 0 t (cell 0 101 (oidBytes 101) w (flatAll flatPack ps) 0) (packCells 1 ps ++ entryCells es) z
+    ∙ skip-packs 1 0 t ps (entryCells es) (omega arith)
+    ∙ set-value t es n
+    ∙ rw (z, askHit)
 
 series-pos : (i k : ℕ) (es : List Entry) → askHit isSeries (seriesNumber i) es ≡ ok k → 0 < k
 unfolding askHit seriesNumber
@@ -161,23 +162,20 @@ one-snoc [] i h = tt
 one-snoc (plain x ∷ es) i h = one-snoc es i h
 one-snoc (series w ps ∷ es) i h = no-snoc es i h
 
-tail-none : (k t : ℕ) (es : List Entry) → 0 < k → NoSeries es → cellFor k t (entryCells es) ≡ refused 18 0
+tail-none : (k t : ℕ) (es : List Entry) → 0 < k → NoSeries es → valueFor k t (entryCells es) ≡ refused 18 0
 unfolding entryCells
-tail-none k t [] l h = unfold cellFor askHit in refl
-tail-none k t (plain i ∷ es) l h =
-    other k t (cell 0 (i .tag) (i .value)) (entryCells es) (no-target 0 k t (i .tag) (i .value) (zero-not k l)) ∙ tail-none k t es l (h .1)
+tail-none k t [] l h = unfold valueFor askHit in refl
+tail-none k t (plain i ∷ es) l h = past-target k t (itemCell 0 i) (entryCells es) (zero-not k l) ∙ tail-none k t es l (h .1)
 tail-none k t (series w ps ∷ es) l h = no-bool (sym (h .0))
 
-target-cell : (i k t : ℕ) (es : List Entry) → 0 < t → OneSeries es → askHit isSeries (seriesNumber i) es ≡ ok k
-    → cellFor k t (entryCells es) ≡ Of k t (askHit isSeries (packValue i t) es)
+target-value : (i k t : ℕ) (es : List Entry) → 0 < t → OneSeries es → askHit isSeries (seriesNumber i) es ≡ ok k → valueFor k t (entryCells es) ≡ askHit isSeries (packValue i t) es
 unfolding entryCells askHit seriesNumber packValue
-target-cell i k t [] pos h e = never 18 0 k e
-target-cell i k t (plain x ∷ es) pos h e =
-    other k t (cell 0 (x .tag) (x .value)) (entryCells es) (no-target 0 k t (x .tag) (x .value) (zero-not k (series-pos i k es e))) ∙ target-cell i k t es pos h e
-target-cell i k t (series w ps ∷ es) pos h e =
+target-value i k t [] pos h e = never 18 0 k e
+target-value i k t (plain x ∷ es) pos h e = past-target k t (itemCell 0 x) (entryCells es) (zero-not k (series-pos i k es e)) ∙ target-value i k t es pos h e
+target-value i k t (series w ps ∷ es) pos h e =
     let l : 0 < k = number-low i 1 ps k e in
-    other k t (cell 0 101 (flatAll flatPack ps)) (packCells 1 ps ++ entryCells es) (no-target 0 k t 101 (flatAll flatPack ps) (zero-not k l))
-    ∙ packs-cell i 1 k t ps (entryCells es) pos e (tail-none k t es l h)
+    past-target k t (cell 0 101 (oidBytes 101) w (flatAll flatPack ps) 0) (packCells 1 ps ++ entryCells es) (zero-not k l)
+    ∙ packs-value i 1 k t ps (entryCells es) pos e (tail-none k t es l h)
 
 target-none : (i m a t : ℕ) (es : List Entry) → askHit isSeries (seriesNumber i) es ≡ refused m a → askHit isSeries (packValue i t) es ≡ refused 18 0
 unfolding askHit seriesNumber packValue
@@ -189,10 +187,10 @@ showable-says : (h : Holder) (t : ℕ) → showable h t ≡ true → (0 < t) × 
 unfolding showable
 showable-says h t e = let (a, b) = and-both (ltb 0 t) (not (isSet (levelOf h) && eqb t 101)) e in (ltb-true 0 t a, not-true _ b)
 
-pub holder-cell : (h : Holder) (k t : ℕ) (es : List Entry) → showable h t ≡ true → OneSeries es → numberOf h es ≡ ok k → cellFor k t (entryCells es) ≡ Of k t (valueIn h t es)
+pub holder-value : (h : Holder) (k t : ℕ) (es : List Entry) → showable h t ≡ true → OneSeries es → numberOf h es ≡ ok k → valueFor k t (entryCells es) ≡ valueIn h t es
 unfolding numberOf valueIn
-holder-cell theSet k t es n o e = rw (← ok-inj 0 k e) (set-cell t es (showable-says theSet t n .1))
-holder-cell (target i) k t es n o e = target-cell i k t es (showable-says (target i) t n .0) o e
+holder-value theSet k t es n o e = rw (← ok-inj 0 k e) (set-value t es (showable-says theSet t n .1))
+holder-value (target i) k t es n o e = target-value i k t es (showable-says (target i) t n .0) o e
 
 pub holder-none : (h : Holder) (m a t : ℕ) (es : List Entry) → numberOf h es ≡ refused m a → valueIn h t es ≡ refused 18 0
 unfolding numberOf valueIn

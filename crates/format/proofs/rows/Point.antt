@@ -1,8 +1,8 @@
--- Each row points at its value: the rows are the packet's values, in order, and no more.
-use mathlib.Core.Path.{_≡_, refl, sym, ap, _∙_}
+-- The rows of a valid packet, in turn: each names its own value, from the set's start to the packet's end.
+use mathlib.Core.Path.{_≡_, refl, sym, ap, _∙_, subst}
 use Prim.Native.Nat.{ℕ, suc, _+_, _*_, _≤_}
 use native.Mathlib.Omega.{arith}
-use mathlib.Core.List.{List, [], _∷_, _++_, append-assoc, append-nil, map, map-append}
+use mathlib.Core.List.{List, [], _∷_, _++_, append-assoc, append-nil, map}
 use lib.ListN.{length, length-append, length-map}
 use lib.Seq.{take-append-seam, drop-at}
 use Rattle.format.specs.Coding.{oidBytes, digits, lenBytes}
@@ -10,9 +10,9 @@ use Rattle.format.specs.Lists.{flatAll}
 use Rattle.format.specs.Table.{Form, embedded, standalone, pack}
 use Rattle.format.specs.Packet.{Item, Pack, Entry, plain, series, Packet, under, flat, framed, theKey, covered, flatItem, packBody, flatPack, flatEntry}
 use Rattle.format.specs.Read.{start}
-use Rattle.format.specs.Rows.{itemRow, itemRows, packRows, entryRows, sealItem, sealed, rowsOf}
-use Rattle.format.specs.Valid.{All, Framed, ItemValid, PackValid, EntryValid, Valid}
-use Rattle.format.specs.demands.Rows.{cellOf, cell, itemCells, packCells, entryCells, cellsOf, part, cellAt}
+use Rattle.format.specs.Rows.{Row, row, itemRow, itemRows, packRows, entryRows, sealItem, sealed, rowsOf}
+use Rattle.format.specs.Valid.{All, Framed, ItemValid, PackValid, EntryValid, Valid, Lies}
+use Rattle.format.specs.demands.Rows.{Cell, cell, itemCell, packCells, entryCells, cellsOf, part, InTurn}
 use Rattle.format.proofs.words.Flats.{flat-snoc}
 use Rattle.format.proofs.coding.Digits.{length-fixed}
 use Rattle.format.proofs.coding.Lengths.{length-len}
@@ -27,84 +27,76 @@ part-at : (s pre v post : List ℕ) (n : ℕ) → s ≡ pre ++ (v ++ post) → n
 part-at s pre v post n e l = rw (e, l, drop-at pre (v ++ post) (length pre) refl) (take-append-seam v post)
 
 module _ (s : List ℕ) where
-  item-point : (k at : ℕ) (pre post : List ℕ) (i : Item) → s ≡ pre ++ (flatItem i ++ post) → at ≡ length pre → cellAt s (itemRow k at i) ≡ cell k (i .tag) (i .value)
-  unfolding cellAt itemRow flatItem
-  item-point k at pre post i e l =
-      let o : List ℕ = oidBytes (i .tag) in
-      let n : List ℕ = lenBytes (i .width) (length (i .value)) in
-      let e′ : s ≡ (pre ++ (o ++ n)) ++ (i .value ++ post) = e ∙ simp append-assoc in
-      let l′ : at + length o + i .width ≡ length (pre ++ (o ++ n)) = simp (length-append, length-len) (omega arith) in
-      ap (cellOf k (i .tag) (length (i .value))) (part-at s (pre ++ (o ++ n)) (i .value) post (at + length o + i .width) e′ l′)
+  -- one cell and its row, and what follows from the place `next` on
+  turn : (c : Cell) (at offset next : ℕ) (pre post : List ℕ) (cs : List Cell) (rs : List Row) → s ≡ pre ++ ((c .head ++ c .value) ++ post) → at ≡ length pre
+      → offset ≡ at + length (c .head) → next ≡ at + length (c .head) + c .inside → InTurn s next cs rs
+      → InTurn s at (c ∷ cs) (row (c .target) (c .tag) offset (length (c .value)) ∷ rs)
+  turn c at offset next pre post cs rs e l o n t =
+      (ap (λ x. row (c .target) (c .tag) x (length (c .value))) o, part-at s pre (c .head ++ c .value) post at e l, subst (λ x. InTurn s x cs rs) n t)
 
-  items-point : (k at : ℕ) (pre post : List ℕ) (is : List Item) → s ≡ pre ++ (flatAll flatItem is ++ post) → at ≡ length pre
-      → map (cellAt s) (itemRows k at is) ≡ itemCells k is
-  unfolding itemRows itemCells flatAll
-  items-point k at pre post [] e l = refl
-  items-point k at pre post (i ∷ is) e l =
-      let e₁ : s ≡ pre ++ (flatItem i ++ (flatAll flatItem is ++ post)) = e ∙ simp append-assoc in
-      let e₂ : s ≡ (pre ++ flatItem i) ++ (flatAll flatItem is ++ post) = e ∙ simp append-assoc in
-      let l₂ : at + length (flatItem i) ≡ length (pre ++ flatItem i) = simp length-append (omega arith) in
-      let a = item-point k at pre (flatAll flatItem is ++ post) i e₁ l in
-      let b = items-point k (at + length (flatItem i)) (pre ++ flatItem i) post is e₂ l₂ in
-      ap (λ c. c ∷ map (cellAt s) (itemRows k (at + length (flatItem i)) is)) a ∙ ap (λ r. cell k (i .tag) (i .value) ∷ r) b
+  item-turn : (k at next : ℕ) (pre post : List ℕ) (i : Item) (cs : List Cell) (rs : List Row) → s ≡ pre ++ (flatItem i ++ post) → at ≡ length pre
+      → next ≡ at + length (flatItem i) → InTurn s next cs rs → InTurn s at (itemCell k i ∷ cs) (itemRow k at i ∷ rs)
+  unfolding itemRow flatItem
+  item-turn k at next pre post i cs rs e l n t =
+      turn (itemCell k i) at (at + length (oidBytes (i .tag)) + i .width) next pre post cs rs (e ∙ simp append-assoc) l
+      (simp (length-append, length-len) (omega arith)) (n ∙ simp (length-append, length-len) (omega arith)) t
 
-  pack-point : (k at : ℕ) (pre post : List ℕ) (p : Pack) → s ≡ pre ++ (flatPack p ++ post) → at ≡ length pre → part s (at + p .width) (length (packBody p)) ≡ packBody p
-  unfolding flatPack
-  pack-point k at pre post p e l =
-      let n : List ℕ = lenBytes (p .width) (length (packBody p)) in
-      part-at s (pre ++ n) (packBody p) post (at + p .width) (e ∙ simp append-assoc) (simp (length-append, length-len) (omega arith))
+  items-turn : (k at next : ℕ) (pre post : List ℕ) (is : List Item) (cs : List Cell) (rs : List Row) → s ≡ pre ++ (flatAll flatItem is ++ post) → at ≡ length pre
+      → next ≡ at + length (flatAll flatItem is) → InTurn s next cs rs → InTurn s at (map (itemCell k) is ++ cs) (itemRows k at is ++ rs)
+  unfolding itemRows flatAll
+  items-turn k at next pre post [] cs rs e l n t = subst (λ x. InTurn s x cs rs) (omega arith) t
+  items-turn k at next pre post (i ∷ is) cs rs e l n t =
+      let m : ℕ = at + length (flatItem i) in
+      item-turn k at m pre (flatAll flatItem is ++ post) i (map (itemCell k) is ++ cs) (itemRows k m is ++ rs) (e ∙ simp append-assoc) l refl
+      (items-turn k m next (pre ++ flatItem i) post is cs rs (e ∙ simp append-assoc) (simp length-append (omega arith)) (n ∙ simp length-append (omega arith)) t)
 
-  pack-items : (k at : ℕ) (pre post : List ℕ) (p : Pack) → s ≡ pre ++ (flatPack p ++ post) → at ≡ length pre
-      → map (cellAt s) (itemRows k (at + p .width + length (oidBytes (p .id))) (p .items)) ≡ itemCells k (p .items)
+  pack-turn : (k at next : ℕ) (pre post : List ℕ) (p : Pack) (cs : List Cell) (rs : List Row) → s ≡ pre ++ (flatPack p ++ post) → at ≡ length pre
+      → next ≡ at + length (flatPack p) → InTurn s next cs rs
+      → InTurn s at (cell k 0 [] (p .width) (packBody p) (length (oidBytes (p .id))) ∷ map (itemCell k) (p .items) ++ cs)
+      (row k 0 (at + p .width) (length (packBody p)) ∷ itemRows k (at + p .width + length (oidBytes (p .id))) (p .items) ++ rs)
   unfolding flatPack packBody
-  pack-items k at pre post p e l =
-      let n : List ℕ = lenBytes (p .width) (length (oidBytes (p .id) ++ flatAll flatItem (p .items))) in
-      items-point k _ (pre ++ (n ++ oidBytes (p .id))) post (p .items) (e ∙ simp append-assoc) (simp (length-append, length-len) (omega arith))
+  pack-turn k at next pre post p cs rs e l n t =
+      let id : List ℕ = oidBytes (p .id) in
+      let v : List ℕ = id ++ flatAll flatItem (p .items) in
+      let o : ℕ = at + p .width + length id in
+      turn (cell k 0 [] (p .width) v (length id)) at (at + p .width) o pre post (map (itemCell k) (p .items) ++ cs) (itemRows k o (p .items) ++ rs) e l (simp length-len) (simp length-len)
+      (items-turn k o next (pre ++ (lenBytes (p .width) (length v) ++ id)) post (p .items) cs rs (e ∙ simp append-assoc)
+      (simp (length-append, length-len) (omega arith)) (n ∙ simp (length-append, length-len) (omega arith)) t)
 
-  packs-point : (k at : ℕ) (pre post : List ℕ) (ps : List Pack) → s ≡ pre ++ (flatAll flatPack ps ++ post) → at ≡ length pre
-      → map (cellAt s) (packRows k at ps) ≡ packCells k ps
-  unfolding packRows packCells flatAll cellAt
-  packs-point k at pre post [] e l = refl
-  packs-point k at pre post (p ∷ ps) e l =
-      let e₁ : s ≡ pre ++ (flatPack p ++ (flatAll flatPack ps ++ post)) = e ∙ simp append-assoc in
-      let e₂ : s ≡ (pre ++ flatPack p) ++ (flatAll flatPack ps ++ post) = e ∙ simp append-assoc in
-      let l₂ : at + length (flatPack p) ≡ length (pre ++ flatPack p) = simp length-append (omega arith) in
-      rw (
-        pack-point k at pre (flatAll flatPack ps ++ post) p e₁ l,
-        map-append (cellAt s) (itemRows k (at + p .width + length (oidBytes (p .id))) (p .items)) (packRows (suc k) (at + length (flatPack p)) ps),
-        pack-items k at pre (flatAll flatPack ps ++ post) p e₁ l,
-        packs-point (suc k) (at + length (flatPack p)) (pre ++ flatPack p) post ps e₂ l₂,
-      )
+  packs-turn : (k at next : ℕ) (pre post : List ℕ) (ps : List Pack) (cs : List Cell) (rs : List Row) → s ≡ pre ++ (flatAll flatPack ps ++ post) → at ≡ length pre
+      → next ≡ at + length (flatAll flatPack ps) → InTurn s next cs rs → InTurn s at (packCells k ps ++ cs) (packRows k at ps ++ rs)
+  unfolding packRows packCells flatAll
+  packs-turn k at next pre post [] cs rs e l n t = subst (λ x. InTurn s x cs rs) (omega arith) t
+  packs-turn k at next pre post (p ∷ ps) cs rs e l n t =
+      let m : ℕ = at + length (flatPack p) in
+      rw (append-assoc (map (itemCell k) (p .items)) (packCells (suc k) ps) cs, append-assoc (itemRows k (at + p .width + length (oidBytes (p .id))) (p .items)) (packRows (suc k) m ps) rs)
+      (pack-turn k at m pre (flatAll flatPack ps ++ post) p (packCells (suc k) ps ++ cs) (packRows (suc k) m ps ++ rs) (e ∙ simp append-assoc) l refl
+      (packs-turn (suc k) m next (pre ++ flatPack p) post ps cs rs (e ∙ simp append-assoc) (simp length-append (omega arith)) (n ∙ simp length-append (omega arith)) t))
 
-  series-point : (at : ℕ) (pre post : List ℕ) (w : ℕ) (ps : List Pack) → s ≡ pre ++ (flatEntry (series w ps) ++ post) → at ≡ length pre
-      → (part s (at + 1 + w) (length (flatAll flatPack ps)) ≡ flatAll flatPack ps) × (map (cellAt s) (packRows 1 (at + 1 + w) ps) ≡ packCells 1 ps)
+  series-turn : (at next : ℕ) (pre post : List ℕ) (w : ℕ) (ps : List Pack) (cs : List Cell) (rs : List Row) → s ≡ pre ++ (flatEntry (series w ps) ++ post) → at ≡ length pre
+      → next ≡ at + length (flatEntry (series w ps)) → InTurn s next cs rs
+      → InTurn s at (cell 0 101 (oidBytes 101) w (flatAll flatPack ps) 0 ∷ packCells 1 ps ++ cs) (row 0 101 (at + 1 + w) (length (flatAll flatPack ps)) ∷ packRows 1 (at + 1 + w) ps ++ rs)
   unfolding flatEntry oidBytes digits
-  series-point at pre post w ps e l =
-      let n : List ℕ = lenBytes w (length (flatAll flatPack ps)) in
-      let e′ : s ≡ (pre ++ (101 ∷ n)) ++ (flatAll flatPack ps ++ post) = e ∙ simp append-assoc in
-      let l′ : at + 1 + w ≡ length (pre ++ (101 ∷ n)) = simp (length-append, length-len) (omega arith) in
-      (part-at s (pre ++ (101 ∷ n)) (flatAll flatPack ps) post (at + 1 + w) e′ l′, packs-point 1 (at + 1 + w) (pre ++ (101 ∷ n)) post ps e′ l′)
+  series-turn at next pre post w ps cs rs e l n t =
+      let v : List ℕ = flatAll flatPack ps in
+      let o : ℕ = at + 1 + w in
+      turn (cell 0 101 (101 ∷ []) w v 0) at o o pre post (packCells 1 ps ++ cs) (packRows 1 o ps ++ rs) (e ∙ simp append-assoc) l (simp length-len (omega arith)) (simp length-len (omega arith))
+      (packs-turn 1 o next (pre ++ (101 ∷ lenBytes w (length v))) post ps cs rs (e ∙ simp append-assoc)
+      (simp (length-append, length-len) (omega arith)) (n ∙ simp (length-append, length-len) (omega arith)) t)
 
-  entries-point : (at : ℕ) (pre post : List ℕ) (es : List Entry) → s ≡ pre ++ (flatAll flatEntry es ++ post) → at ≡ length pre
-      → map (cellAt s) (entryRows at es) ≡ entryCells es
-  unfolding entryRows entryCells flatAll cellAt
-  entries-point at pre post [] e l = refl
-  entries-point at pre post (plain i ∷ es) e l =
-      let e₁ : s ≡ pre ++ (flatItem i ++ (flatAll flatEntry es ++ post)) = (rw plain-flat at e) ∙ simp append-assoc in
-      let e₂ : s ≡ (pre ++ flatItem i) ++ (flatAll flatEntry es ++ post) = e₁ ∙ simp append-assoc in
-      let l₂ : at + length (flatItem i) ≡ length (pre ++ flatItem i) = simp length-append (omega arith) in
-      let a = item-point 0 at pre (flatAll flatEntry es ++ post) i e₁ l in
-      let b = entries-point (at + length (flatItem i)) (pre ++ flatItem i) post es e₂ l₂ in
-      ap (λ c. c ∷ map (cellAt s) (entryRows (at + length (flatItem i)) es)) a ∙ ap (λ r. cell 0 (i .tag) (i .value) ∷ r) b
-  entries-point at pre post (series w ps ∷ es) e l =
+  entries-turn : (at : ℕ) (pre : List ℕ) (es : List Entry) → s ≡ pre ++ flatAll flatEntry es → at ≡ length pre → InTurn s at (entryCells es) (entryRows at es)
+  unfolding entryRows entryCells flatAll
+  entries-turn at pre [] e l = l ∙ ap length (sym (append-nil pre) ∙ sym e)
+  entries-turn at pre (plain i ∷ es) e l =
+      let m : ℕ = at + length (flatItem i) in
+      let e₁ : s ≡ pre ++ (flatItem i ++ flatAll flatEntry es) = rw plain-flat at e in
+      item-turn 0 at m pre (flatAll flatEntry es) i (entryCells es) (entryRows m es) e₁ l refl
+      (entries-turn m (pre ++ flatItem i) es (e₁ ∙ simp append-assoc) (simp length-append (omega arith)))
+  entries-turn at pre (series w ps ∷ es) e l =
       let x : List ℕ = flatEntry (series w ps) in
-      let e₁ : s ≡ pre ++ (x ++ (flatAll flatEntry es ++ post)) = e ∙ simp append-assoc in
-      let e₂ : s ≡ (pre ++ x) ++ (flatAll flatEntry es ++ post) = e ∙ simp append-assoc in
-      let l₂ : at + length x ≡ length (pre ++ x) = simp length-append (omega arith) in
-      let (a, b) = series-point at pre (flatAll flatEntry es ++ post) w ps e₁ l in
-      let d = entries-point (at + length x) (pre ++ x) post es e₂ l₂ in
-      let m = map-append (cellAt s) (packRows 1 (at + 1 + w) ps) (entryRows (at + length x) es) in
-      rw (a, m, b, d)
+      let m : ℕ = at + length x in
+      series-turn at m pre (flatAll flatEntry es) w ps (entryCells es) (entryRows m es) e l refl
+      (entries-turn m (pre ++ x) es (e ∙ simp append-assoc) (simp length-append (omega arith)))
 
 -- a standalone packet's bytes are its key, its length and all its entries, the checksum with them
 alone-bytes : (w : ℕ) (es : List Entry) (c : List ℕ) → length c ≡ 2 → framed standalone w (flatAll flatEntry es) c ≡ theKey ++ under w (flatAll flatEntry (sealed standalone es c))
@@ -114,42 +106,48 @@ alone-bytes w es c l =
     let q : flatAll flatEntry (es ++ (plain (sealItem c) ∷ [])) ≡ b ++ (1 ∷ 2 ∷ c) = flat-snoc flatEntry es (plain (sealItem c)) ∙ ap (λ x. b ++ x) (seal-flat c l) in
     sym (covered-is w b c l) ∙ ap (λ x. theKey ++ under w x) (sym q)
 
-embedded-point : (w : ℕ) (es : List Entry) (c : List ℕ)
-    → map (cellAt (framed embedded w (flatAll flatEntry es) c)) (entryRows 0 (sealed embedded es c)) ≡ entryCells (sealed embedded es c)
+embedded-turn : (w : ℕ) (es : List Entry) (c : List ℕ) → InTurn (framed embedded w (flatAll flatEntry es) c) 0 (entryCells (sealed embedded es c)) (entryRows 0 (sealed embedded es c))
 unfolding framed sealed
-embedded-point w es c = entries-point (flatAll flatEntry es) 0 [] [] es (sym (append-nil (flatAll flatEntry es))) refl
+embedded-turn w es c = entries-turn (flatAll flatEntry es) 0 [] es refl refl
 
-frame-point : (f : Form) (w : ℕ) (es : List Entry) (c : List ℕ) → Framed f w (flatAll flatEntry es) c
-    → map (cellAt (framed f w (flatAll flatEntry es) c)) (entryRows (start f w) (sealed f es c)) ≡ entryCells (sealed f es c)
-frame-point embedded w es c g = embedded-point w es c
-frame-point standalone w es c g =
+frame-turn : (f : Form) (w : ℕ) (es : List Entry) (c : List ℕ) → Framed f w (flatAll flatEntry es) c
+    → InTurn (framed f w (flatAll flatEntry es) c) (start f w) (entryCells (sealed f es c)) (entryRows (start f w) (sealed f es c))
+frame-turn embedded w es c g = embedded-turn w es c
+frame-turn standalone w es c g =
     let all : List Entry = sealed standalone es c in
     let b : List ℕ = flatAll flatEntry all in
-    let pre : List ℕ = theKey ++ lenBytes w (length b) in
     let l : length c ≡ 2 = rw (g .1) (length-fixed 2 _) in
     rw (alone-bytes w es c l)
-    (entries-point (theKey ++ under w b) (16 + w) pre [] all (simp (append-assoc, append-nil)) (simp (length-append, length-len, key-size)))
+    (entries-turn (theKey ++ under w b) (16 + w) (theKey ++ lenBytes w (length b)) all (simp append-assoc) (simp (length-append, length-len, key-size)))
 
--- target by target, tag by tag, the rows are the values
-pub rows-point : (p : Packet) → Valid p → map (cellAt (flat p)) (rowsOf p) ≡ cellsOf p
+rows-turn : (p : Packet) → Valid p → InTurn (flat p) (start (p .form) (p .width)) (cellsOf p) (rowsOf p)
 unfolding flat rowsOf cellsOf
-rows-point p h = frame-point (p .form) (p .width) (p .entries) (p .sum) (h .framed)
+rows-turn p h = frame-turn (p .form) (p .width) (p .entries) (p .sum) (h .framed)
 
-pub rows-count : (p : Packet) → Valid p → length (rowsOf p) ≡ length (cellsOf p)
-rows-count p h = sym (length-map (rowsOf p) (cellAt (flat p))) ∙ ap length (rows-point p h)
+-- of the bytes, and in the form, that the packet has
+pub lies-turn : (f : Form) (s : List ℕ) (p : Packet) → Lies f s p → InTurn s (start f (p .width)) (cellsOf p) (rowsOf p)
+lies-turn f s p h =
+    subst (λ g. InTurn s (start g (p .width)) (cellsOf p) (rowsOf p)) (h .form-is)
+    (subst (λ x. InTurn x (start (p .form) (p .width)) (cellsOf p) (rowsOf p)) (h .lies-flat) (rows-turn p (h .valid)))
 
 -- ---- a row has two bytes at least
 
-items-few : (f : Form) (k : ℕ) (is : List Item) → All (ItemValid pack f) is → 2 * length (itemCells k is) ≤ length (flatAll flatItem is)
-unfolding itemCells flatAll
-items-few f k [] h = omega arith
-items-few f k (i ∷ is) h = simp length-append (omega (arith, item-size pack f i (h .0), items-few f k is (h .1)))
+turn-count : (s : List ℕ) (at : ℕ) (cs : List Cell) (rs : List Row) → InTurn s at cs rs → length rs ≡ length cs
+turn-count s at [] [] h = refl
+turn-count s at [] (r ∷ rs) h = absurd h
+turn-count s at (c ∷ cs) [] h = absurd h
+turn-count s at (c ∷ cs) (r ∷ rs) h = ap suc (turn-count s (at + length (c .head) + c .inside) cs rs (h .2))
+
+items-few : (f : Form) (is : List Item) → All (ItemValid pack f) is → 2 * length is ≤ length (flatAll flatItem is)
+unfolding flatAll
+items-few f [] h = omega arith
+items-few f (i ∷ is) h = simp length-append (omega (arith, item-size pack f i (h .0), items-few f is (h .1)))
 
 packs-few : (f : Form) (k : ℕ) (ps : List Pack) → All (PackValid f) ps → 2 * length (packCells k ps) ≤ length (flatAll flatPack ps)
 unfolding packCells flatAll
 packs-few f k [] h = omega arith
 packs-few f k (p ∷ ps) h =
-    simp length-append (omega (arith, pack-size p (h .0 .coded), items-few f k (p .items) (h .0 .items-valid .each), packs-few f (suc k) ps (h .1)))
+    simp (length-append, length-map) (omega (arith, pack-size p (h .0 .coded), items-few f (p .items) (h .0 .items-valid .each), packs-few f (suc k) ps (h .1)))
 
 entries-few : (f : Form) (es : List Entry) → All (EntryValid f) es → 2 * length (entryCells es) ≤ length (flatAll flatEntry es)
 unfolding entryCells flatAll
@@ -171,4 +169,4 @@ frame-few standalone w es c h = simp length-append (omega (arith, entries-few st
 
 pub rows-few : (p : Packet) → Valid p → 2 * length (rowsOf p) ≤ length (flat p)
 unfolding flat cellsOf
-rows-few p h = omega (arith, rows-count p h, frame-few (p .form) (p .width) (p .entries) (p .sum) (h .entries-valid .each))
+rows-few p h = omega (arith, turn-count (flat p) (start (p .form) (p .width)) (cellsOf p) (rowsOf p) (rows-turn p h), frame-few (p .form) (p .width) (p .entries) (p .sum) (h .entries-valid .each))

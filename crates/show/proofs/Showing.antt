@@ -18,7 +18,7 @@ use Rattle.format.specs.Edit.{Holder}
 use Rattle.format.specs.Show.{reviewer, detector, Shown, shown, nothing, numberOf, findRow, showable, eitherRow, showIn, show}
 use Rattle.format.specs.demands.Rows.{part}
 use Rattle.format.proofs.words.Answers.{no-bool}
-use Rattle.format.proofs.demands.Shows.{shows}
+use Rattle.format.proofs.demands.Shows.{show-refused, show-unnamed}
 use Rattle.format.proofs.rows.Find.{number-snoc}
 use Rattle.coding.proofs.Rooms.{tail-part}
 use Rattle.items.proofs.Tests.{bind-so}
@@ -102,14 +102,14 @@ module _ (f : Form) (r d : List ℕ) (h : Holder) (tag : ℕ) (hr : Bytes r) (hd
 
   module _ {a : Checked} (ea : a ≡ checkedOf (parse f r)) where
     pub reviewer-wrong : {n k : ℕ} → a ≡ Wrong n k → {p : Part} → p ≡ noPart → Names f r d h tag p
-    reviewer-wrong {n = n} {k = k} t e = none-shown e (shows f r d h tag hr hd .on-refused n k (inl (wrong-parsed f r n k (sym t ∙ ea))))
+    reviewer-wrong {n = n} {k = k} t e = none-shown e (show-refused f r d h tag n k (inl (wrong-parsed f r n k (sym t ∙ ea))))
 
   module _ {b : Checked} (eb : b ≡ checkedOf (parse f d)) where
     pub detector-wrong : {n k : ℕ} → b ≡ Wrong n k → {p : Part} → p ≡ noPart → Names f r d h tag p
-    detector-wrong {n = n} {k = k} t e = none-shown e (shows f r d h tag hr hd .on-refused n k (inr (wrong-parsed f d n k (sym t ∙ eb))))
+    detector-wrong {n = n} {k = k} t e = none-shown e (show-refused f r d h tag n k (inr (wrong-parsed f d n k (sym t ∙ eb))))
 
   pub unnamed : {x : Bool} → x ≡ showable h tag → x ≡ false → {p : Part} → p ≡ noPart → Names f r d h tag p
-  unnamed ex z e = none-shown e (shows f r d h tag hr hd .on-unnamed (sym ex ∙ z))
+  unnamed ex z e = none-shown e (show-unnamed f r d h tag (sym ex ∙ z))
 
   module _ {a b : Sizes} (ta : checkedOf (parse f r) ≡ Fine a) (tb : checkedOf (parse f d) ≡ Fine b) (n : showable h tag ≡ true) where
     in-two : show f r d h tag ≡ eitherRow (rowNamed h tag (parse f r)) (rowNamed h tag (parse f d))

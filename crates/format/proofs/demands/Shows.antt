@@ -1,4 +1,4 @@
--- Show hands back the item's value.
+-- Show hands back the item's value, at its own place, and no other answer would do.
 use mathlib.Core.Path.{_≡_, refl, sym, ap, _∙_}
 use Prim.Native.Nat.{ℕ, _+_}
 use mathlib.Core.Bool.{Bool, true, false, _&&_}
@@ -7,30 +7,35 @@ use mathlib.Core.Logic.{_⊎_, inl, inr}
 use lib.ListN.{length, take, drop, take-append-drop}
 use lib.Seq.{take-append-seam, drop-append-seam, drop-drop}
 use lib.Dec.{eqb}
+use borrow.Author.Tests.{eqb-true}
 use Rattle.format.specs.Answer.{Ans, ok, refused, _>>=_}
 use Rattle.format.specs.Coding.{Bytes}
 use Rattle.format.specs.Lists.{askHit}
 use Rattle.format.specs.Table.{Form, embedded, standalone}
 use Rattle.format.specs.Packet.{Entry, Packet}
 use Rattle.format.specs.Read.{start, parse}
-use Rattle.format.specs.Rows.{Row, sealItem, sealed, rowsOf}
+use Rattle.format.specs.Rows.{Row, row, sealItem, sealed, rowsOf}
 use Rattle.format.specs.Edit.{Holder}
-use Rattle.format.specs.Show.{reviewer, detector, nothing, numberOf, findRow, showable, eitherRow, showIn, show}
-use Rattle.format.specs.Valid.{Lies}
+use Rattle.format.specs.Show.{Side, reviewer, detector, Shown, shown, nothing, numberOf, findRow, showable, eitherRow, showIn, show}
+use Rattle.format.specs.Valid.{Valid, Lies}
 use Rattle.format.specs.demands.Rows.{Cell, entryCells, cellsOf, part, InTurn}
-use Rattle.format.specs.demands.Shows.{valueIn, valueOf, ShownValue, Shows}
-use Rattle.format.proofs.words.Answers.{never, ok-inj}
+use Rattle.format.specs.demands.Shows.{valueIn, valueOf, Among, StandsAt, ShownValue, Shows}
+use Rattle.format.proofs.words.Answers.{ok-inj, and-both}
 use Rattle.format.proofs.reading.Packets.{parse-says}
 use Rattle.format.proofs.rows.Point.{lies-turn}
 use Rattle.format.proofs.rows.Find.{hitCell, valueFor, OneSeries, one-series, one-snoc, holder-value, holder-none, number-snoc}
+use Rattle.format.proofs.rows.Fit.{value-fit}
+use Rattle.format.proofs.rows.Own.{one-row}
 
 abbrev hitRow : ℕ → ℕ → Row → Bool
 hitRow k t w = eqb (w .target) k && eqb (w .tag) t
 
--- what a row found says of the value, and none found
-abbrev Points : List ℕ → Ans Row → Ans (List ℕ) → Type 0
-Points s (ok w) v = (v ≡ ok (part s (w .offset) (w .size))) × (w .size ≡ length (part s (w .offset) (w .size)))
-Points s (refused n a) v = v ≡ refused 18 0
+-- a row and a value that are found, of target number k and tag t: the row is among these, and names the value; or neither is found
+abbrev Named : List ℕ → ℕ → ℕ → List Row → Ans Row → Ans (List ℕ) → Type 0
+Named s k t rs (ok w) (ok v) = Among (row k t (w .offset) (length v)) rs × (w .size ≡ length v) × (part s (w .offset) (length v) ≡ v)
+Named s k t rs (ok w) (refused n a) = ⊥
+Named s k t rs (refused n a) (ok v) = ⊥
+Named s k t rs (refused n a) (refused m b) = Unit {0}
 
 -- a value behind its head
 part-behind : (s a b : List ℕ) (at : ℕ) → part s at (length (a ++ b)) ≡ a ++ b → part s (at + length a) (length b) ≡ b
@@ -39,18 +44,29 @@ part-behind s a b at e =
     let q : d ≡ a ++ (b ++ drop (length (a ++ b)) d) = sym (take-append-drop (length (a ++ b)) d) ∙ ap (λ x. x ++ drop (length (a ++ b)) d) e ∙ append-assoc a b _ in
     ap (take (length b)) (sym (drop-drop (length a) at s) ∙ ap (drop (length a)) q ∙ drop-append-seam a _) ∙ take-append-seam b _
 
-turn-points : (s : List ℕ) (k t at : ℕ) (cs : List Cell) (rs : List Row) → InTurn s at cs rs → Points s (askHit (hitRow k t) ok rs) (valueFor k t cs)
+named-more : (s : List ℕ) (k t : ℕ) (r : Row) (rs : List Row) (x : Ans Row) (y : Ans (List ℕ)) → Named s k t rs x y → Named s k t (r ∷ rs) x y
+named-more s k t r rs (ok w) (ok v) h = (inr (h .0), h .1, h .2)
+named-more s k t r rs (ok w) (refused n a) h = h
+named-more s k t r rs (refused n a) (ok v) h = h
+named-more s k t r rs (refused n a) (refused m b) h = tt
+
+turn-named : (s : List ℕ) (k t at : ℕ) (cs : List Cell) (rs : List Row) → InTurn s at cs rs → Named s k t rs (askHit (hitRow k t) ok rs) (valueFor k t cs)
 unfolding valueFor askHit
-turn-points s k t at [] [] h = refl
-turn-points s k t at [] (r ∷ rs) h = absurd h
-turn-points s k t at (c ∷ cs) [] h = absurd h
-turn-points s k t at (c ∷ cs) (r ∷ rs) h = go (turn-points s k t (at + length (c .head) + c .inside) cs rs (h .2)) (hitCell k t c) refl
+turn-named s k t at [] [] h = tt
+turn-named s k t at [] (r ∷ rs) h = absurd h
+turn-named s k t at (c ∷ cs) [] h = absurd h
+turn-named s k t at (c ∷ cs) (r ∷ rs) h = go (turn-named s k t (at + length (c .head) + c .inside) cs rs (h .2)) (hitCell k t c) refl
   where
-    go : Points s (askHit (hitRow k t) ok rs) (valueFor k t cs) → (b : Bool) → hitCell k t c ≡ b → Points s (askHit (hitRow k t) ok (r ∷ rs)) (valueFor k t (c ∷ cs))
+    go : Named s k t rs (askHit (hitRow k t) ok rs) (valueFor k t cs) → (b : Bool) → hitCell k t c ≡ b → Named s k t (r ∷ rs) (askHit (hitRow k t) ok (r ∷ rs)) (valueFor k t (c ∷ cs))
     go ih true z =
-        let v : part s (r .offset) (r .size) ≡ c .value = rw (h .0) (part-behind s (c .head) (c .value) at (h .1)) in
-        rw (ap (hitRow k t) (h .0) ∙ z, z, askHit) (ap ok (sym v), ap (λ (x : Row). x .size) (h .0) ∙ ap length (sym v))
-    go ih false z = rw (ap (hitRow k t) (h .0) ∙ z, z, askHit) ih
+        let (x, y) = and-both (eqb (c .target) k) (eqb (c .tag) t) z in
+        let e : r ≡ row k t (at + length (c .head)) (length (c .value)) = h .0 ∙ rw (eqb-true (c .target) k x, eqb-true (c .tag) t y) in
+        rw (ap (hitRow k t) (h .0) ∙ z, z, askHit) (
+          inl (rw e),
+          ap (λ (w : Row). w .size) e,
+          rw e (part-behind s (c .head) (c .value) at (h .1)),
+        )
+    go ih false z = rw (ap (hitRow k t) (h .0) ∙ z, z, askHit) (named-more s k t r rs (askHit (hitRow k t) ok rs) (valueFor k t cs) ih)
 
 -- ---- in one packet
 
@@ -64,7 +80,14 @@ unfolding sealed
 sealed-number embedded h es c = refl
 sealed-number standalone h es c = number-snoc h es (sealItem c)
 
-found : (f : Form) (s : List ℕ) (p : Packet) (h : Holder) (t : ℕ) → Lies f s p → showable h t ≡ true → Points s (findRow h t p) (valueOf h t p)
+-- the row that is found is the item's own
+abbrev Stands : Packet → List ℕ → Holder → ℕ → Ans Row → Ans (List ℕ) → Type 0
+Stands p s h t (ok w) (ok v) = StandsAt p s h t v (w .offset) × (w .size ≡ length v)
+Stands p s h t (ok w) (refused n a) = ⊥
+Stands p s h t (refused n a) (ok v) = ⊥
+Stands p s h t (refused n a) (refused m b) = Unit {0}
+
+found : (f : Form) (s : List ℕ) (p : Packet) (h : Holder) (t : ℕ) → Lies f s p → showable h t ≡ true → Stands p s h t (findRow h t p) (valueOf h t p)
 unfolding findRow valueOf cellsOf _>>=_
 found f s p h t l n = at-number (numberOf h (p .entries)) refl
   where
@@ -77,14 +100,22 @@ found f s p h t l n = at-number (numberOf h (p .entries)) refl
     value-is : (k : ℕ) → numberOf h (p .entries) ≡ ok k → valueFor k t (entryCells all) ≡ valueIn h t all
     value-is k e = holder-value h k t all n (sealed-one (p .form) (p .entries) (p .sum) (one-series (p .entries) (l .valid .entries-valid .once))) (numbered e)
 
-    at-number : (a : Ans ℕ) → numberOf h (p .entries) ≡ a → Points s (findRow h t p) (valueIn h t all)
-    at-number (ok k) e = rw (e, ← value-is k e) (turn-points s k t (start f (p .width)) (entryCells all) (rowsOf p) (lies-turn f s p l))
-    at-number (refused m a) e = rw e (holder-none h m a t all (numbered e))
+    stands : (k : ℕ) → numberOf h (p .entries) ≡ ok k → (x : Ans Row) (y : Ans (List ℕ)) → Named s k t (rowsOf p) x y → Stands p s h t x y
+    stands k e (ok w) (ok v) g = (record { number = k; numbered = e; own-row = g .0; is-value = g .2 }, g .1)
+    stands k e (ok w) (refused m b) g = g
+    stands k e (refused m a) (ok v) g = g
+    stands k e (refused m a) (refused m′ b) g = tt
+
+    at-number : (a : Ans ℕ) → numberOf h (p .entries) ≡ a → Stands p s h t (findRow h t p) (valueIn h t all)
+    at-number (ok k) e =
+        rw e (stands k e (askHit (hitRow k t) ok (rowsOf p)) (valueIn h t all)
+        (rw (← value-is k e) (turn-named s k t (start f (p .width)) (entryCells all) (rowsOf p) (lies-turn f s p l))))
+    at-number (refused m a) e = rw (e, holder-none h m a t all (numbered e)) tt
 
 -- ---- in two
 
 module _ (f : Form) (r d : List ℕ) (h : Holder) (t : ℕ) where
-  show-refused : (n a : ℕ) → (parse f r ≡ refused n a) ⊎ (parse f d ≡ refused n a) → show f r d h t ≡ nothing
+  pub show-refused : (n a : ℕ) → (parse f r ≡ refused n a) ⊎ (parse f d ≡ refused n a) → show f r d h t ≡ nothing
   unfolding show showIn
   show-refused n a (inl e) = rw e (go (parse f d))
     where
@@ -97,7 +128,7 @@ module _ (f : Form) (r d : List ℕ) (h : Holder) (t : ℕ) where
       go (ok q) = refl
       go (refused m b) = refl
 
-  show-unnamed : showable h t ≡ false → show f r d h t ≡ nothing
+  pub show-unnamed : showable h t ≡ false → show f r d h t ≡ nothing
   unfolding show showIn
   show-unnamed e = go (parse f r) (parse f d)
     where
@@ -112,55 +143,90 @@ module _ (f : Form) (r d : List ℕ) (h : Holder) (t : ℕ) where
     unfolding show showIn
     both n = rw (ep, eq) (rw (n, showIn))
 
-    module _ (hr : Bytes r) (hd : Bytes d) (n : showable h t ≡ true) where
-      in-r : Points r (findRow h t p) (valueOf h t p)
-      in-r = found f r p h t (parse-says f r p hr ep) n
+    module _ (hr : Bytes r) (hd : Bytes d) where
+      in-r : showable h t ≡ true → Stands p r h t (findRow h t p) (valueOf h t p)
+      in-r n = found f r p h t (parse-says f r p hr ep) n
 
-      in-d : Points d (findRow h t q) (valueOf h t q)
-      in-d = found f d q h t (parse-says f d q hd eq) n
+      in-d : showable h t ≡ true → Stands q d h t (findRow h t q) (valueOf h t q)
+      in-d n = found f d q h t (parse-says f d q hd eq) n
 
-      show-reviewer : (v : List ℕ) → valueOf h t p ≡ ok v → ShownValue f r d h t reviewer r v
+      show-reviewer : (v : List ℕ) → valueOf h t p ≡ ok v → ShownValue p r h t v reviewer (show f r d h t)
       unfolding eitherRow
-      show-reviewer v e = go (findRow h t p) refl in-r
+      show-reviewer v e = go (value-fit p h t v (parse-says f r p hr ep .valid) e .0)
         where
-          go : (x : Ans Row) → findRow h t p ≡ x → Points r x (valueOf h t p) → ShownValue f r d h t reviewer r v
-          go (ok w) z k =
-              let y : part r (w .offset) (w .size) ≡ v = ok-inj _ v (sym (k .0) ∙ e) in
-              let l : w .size ≡ length v = k .1 ∙ ap length y in
-              record { offset = w .offset; shows = both n ∙ rw (z, l); is-value = rw l at y }
-          go (refused m a) z k = never 18 0 v (sym k ∙ e)
+          at : showable h t ≡ true → (x : Ans Row) → findRow h t p ≡ x → Stands p r h t x (ok v) → ShownValue p r h t v reviewer (show f r d h t)
+          at n (ok w) z k = record { offset = w .offset; stands = k .0; shows = both n ∙ rw (z, k .1) }
+          at n (refused m a) z k = absurd k
 
-      show-detector : (v : List ℕ) (m a : ℕ) → valueOf h t p ≡ refused m a → valueOf h t q ≡ ok v → ShownValue f r d h t detector d v
+          go : showable h t ≡ true → ShownValue p r h t v reviewer (show f r d h t)
+          go n = at n (findRow h t p) refl (rw e at (in-r n))
+
+      show-detector : (v : List ℕ) (m a : ℕ) → valueOf h t p ≡ refused m a → valueOf h t q ≡ ok v → ShownValue q d h t v detector (show f r d h t)
       unfolding eitherRow
-      show-detector v m a o e = go (findRow h t p) refl in-r (findRow h t q) refl in-d
+      show-detector v m a o e = go (value-fit q h t v (parse-says f d q hd eq .valid) e .0)
         where
-          go : (x : Ans Row) → findRow h t p ≡ x → Points r x (valueOf h t p) → (y : Ans Row) → findRow h t q ≡ y → Points d y (valueOf h t q) → ShownValue f r d h t detector d v
-          go (ok w) z k y z′ k′ = never m a _ (sym o ∙ k .0)
-          go (refused i j) z k (ok w) z′ k′ =
-              let y : part d (w .offset) (w .size) ≡ v = ok-inj _ v (sym (k′ .0) ∙ e) in
-              let l : w .size ≡ length v = k′ .1 ∙ ap length y in
-              record { offset = w .offset; shows = both n ∙ rw (z, z′, l); is-value = rw l at y }
-          go (refused i j) z k (refused i′ j′) z′ k′ = never 18 0 v (sym k′ ∙ e)
+          at : showable h t ≡ true → (x y : Ans Row) → findRow h t p ≡ x → findRow h t q ≡ y → Stands p r h t x (refused m a) → Stands q d h t y (ok v)
+              → ShownValue q d h t v detector (show f r d h t)
+          at n (ok w) y z z′ k k′ = absurd k
+          at n (refused i j) (ok w) z z′ k k′ = record { offset = w .offset; stands = k′ .0; shows = both n ∙ rw (z, z′, k′ .1) }
+          at n (refused i j) (refused i′ j′) z z′ k k′ = absurd k′
+
+          go : showable h t ≡ true → ShownValue q d h t v detector (show f r d h t)
+          go n = at n (findRow h t p) (findRow h t q) refl refl (rw o at (in-r n)) (rw e at (in-d n))
 
       show-neither : (m a m′ a′ : ℕ) → valueOf h t p ≡ refused m a → valueOf h t q ≡ refused m′ a′ → show f r d h t ≡ nothing
       unfolding eitherRow
-      show-neither m a m′ a′ o o′ = go (findRow h t p) refl in-r (findRow h t q) refl in-d
+      show-neither m a m′ a′ o o′ = go (showable h t) refl
         where
-          go : (x : Ans Row) → findRow h t p ≡ x → Points r x (valueOf h t p) → (y : Ans Row) → findRow h t q ≡ y → Points d y (valueOf h t q) → show f r d h t ≡ nothing
-          go (ok w) z k y z′ k′ = never m a _ (sym o ∙ k .0)
-          go (refused i j) z k (ok w) z′ k′ = never m′ a′ _ (sym o′ ∙ k′ .0)
-          go (refused i j) z k (refused i′ j′) z′ k′ = both n ∙ rw (z, z′)
+          at : showable h t ≡ true → (x y : Ans Row) → findRow h t p ≡ x → findRow h t q ≡ y → Stands p r h t x (refused m a) → Stands q d h t y (refused m′ a′) → show f r d h t ≡ nothing
+          at n (ok w) y z z′ k k′ = absurd k
+          at n (refused i j) (ok w) z z′ k k′ = absurd k′
+          at n (refused i j) (refused i′ j′) z z′ k k′ = both n ∙ rw (z, z′)
 
-pub shows : (f : Form) (r d : List ℕ) (h : Holder) (t : ℕ) → Bytes r → Bytes d → Shows f r d h t
-shows f r d h t hr hd = record {
+          go : (b : Bool) → showable h t ≡ b → show f r d h t ≡ nothing
+          go true n = at n (findRow h t p) (findRow h t q) refl refl (rw o at (in-r n)) (rw o′ at (in-d n))
+          go false n = show-unnamed n
+
+pub show-so : (f : Form) (r d : List ℕ) (h : Holder) (t : ℕ) → Bytes r → Bytes d → Shows f r d h t (show f r d h t)
+show-so f r d h t hr hd = record {
   on-refused = show-refused f r d h t;
-  on-unnamed = show-unnamed f r d h t;
-  from-reviewer = λ p q v ep eq n e. show-reviewer f r d h t p q ep eq hr hd n v e;
-  from-detector = λ p q v m a ep eq n o e. show-detector f r d h t p q ep eq hr hd n v m a o e;
-  from-neither = λ p q m a m′ a′ ep eq o o′. neither p q ep eq m a m′ a′ o o′ (showable h t) refl;
+  from-reviewer = λ p q v ep eq e. show-reviewer f r d h t p q ep eq hr hd v e;
+  from-detector = λ p q v m a ep eq o e. show-detector f r d h t p q ep eq hr hd v m a o e;
+  from-neither = λ p q m a m′ a′ ep eq o o′. show-neither f r d h t p q ep eq hr hd m a m′ a′ o o′;
 }
+
+-- ---- no other answer
+
+-- one of these holds
+pub which : {X : Type 0} (f : Form) (r d : List ℕ) (h : Holder) (t : ℕ) → ((n a : ℕ) → (parse f r ≡ refused n a) ⊎ (parse f d ≡ refused n a) → X)
+    → ((p q : Packet) (v : List ℕ) → parse f r ≡ ok p → parse f d ≡ ok q → valueOf h t p ≡ ok v → X)
+    → ((p q : Packet) (v : List ℕ) (n a : ℕ) → parse f r ≡ ok p → parse f d ≡ ok q → valueOf h t p ≡ refused n a → valueOf h t q ≡ ok v → X)
+    → ((p q : Packet) (n a m b : ℕ) → parse f r ≡ ok p → parse f d ≡ ok q → valueOf h t p ≡ refused n a → valueOf h t q ≡ refused m b → X) → X
+which {X} f r d h t none one two neither = go (parse f r) (parse f d) refl refl
   where
-    neither : (p q : Packet) → parse f r ≡ ok p → parse f d ≡ ok q → (m a m′ a′ : ℕ) → valueOf h t p ≡ refused m a → valueOf h t q ≡ refused m′ a′
-        → (b : Bool) → showable h t ≡ b → show f r d h t ≡ nothing
-    neither p q ep eq m a m′ a′ o o′ true n = show-neither f r d h t p q ep eq hr hd n m a m′ a′ o o′
-    neither p q ep eq m a m′ a′ o o′ false n = show-unnamed f r d h t n
+    at : (p q : Packet) → parse f r ≡ ok p → parse f d ≡ ok q → (x y : Ans (List ℕ)) → valueOf h t p ≡ x → valueOf h t q ≡ y → X
+    at p q ep eq (ok v) y e g = one p q v ep eq e
+    at p q ep eq (refused n a) (ok v) e g = two p q v n a ep eq e g
+    at p q ep eq (refused n a) (refused m b) e g = neither p q n a m b ep eq e g
+
+    go : (x y : Ans Packet) → parse f r ≡ x → parse f d ≡ y → X
+    go (ok p) (ok q) e g = at p q e g (valueOf h t p) (valueOf h t q) refl refl
+    go (ok p) (refused n a) e g = none n a (inr g)
+    go (refused n a) y e g = none n a (inl e)
+
+-- a value stands at one place
+pub one-place : (p : Packet) (s : List ℕ) (h : Holder) (t : ℕ) (v : List ℕ) (a b : ℕ) → Valid p → StandsAt p s h t v a → StandsAt p s h t v b → a ≡ b
+one-place p s h t v a b k x y =
+    ap (λ (w : Row). w .offset)
+    (one-row p (row (x .number) t a (length v)) (row (y .number) t b (length v)) k (x .own-row) (y .own-row) (ok-inj _ _ (sym (x .numbered) ∙ y .numbered)) refl)
+
+one-value : (p : Packet) (s : List ℕ) (h : Holder) (t : ℕ) (v : List ℕ) (side : Side) (x y : Shown) → Valid p → ShownValue p s h t v side x → ShownValue p s h t v side y → x ≡ y
+one-value p s h t v side x y k a b = a .shows ∙ ap (λ o. shown side o (length v)) (one-place p s h t v (a .offset) (b .offset) k (a .stands) (b .stands)) ∙ sym (b .shows)
+
+pub one-shown : (f : Form) (r d : List ℕ) (h : Holder) (t : ℕ) (x y : Shown) → Bytes r → Bytes d → Shows f r d h t x → Shows f r d h t y → x ≡ y
+one-shown f r d h t x y hr hd a b =
+    which f r d h t
+    (λ n m e. a .on-refused n m e ∙ sym (b .on-refused n m e))
+    (λ p q v ep eq e. one-value p r h t v reviewer x y (parse-says f r p hr ep .valid) (a .from-reviewer p q v ep eq e) (b .from-reviewer p q v ep eq e))
+    (λ p q v n m ep eq o e. one-value q d h t v detector x y (parse-says f d q hd eq .valid) (a .from-detector p q v n m ep eq o e) (b .from-detector p q v n m ep eq o e))
+    (λ p q n m i j ep eq o e. a .from-neither p q n m i j ep eq o e ∙ sym (b .from-neither p q n m i j ep eq o e))

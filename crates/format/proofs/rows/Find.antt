@@ -135,7 +135,7 @@ series-pos i k (plain x ∷ es) e = series-pos i k es e
 series-pos i k (series w ps ∷ es) e = number-low i 1 ps k e
 
 -- after the series there is no other
-abbrev NoSeries : List Entry → Type 0
+abbrev pub NoSeries : List Entry → Type 0
 NoSeries es = All (λ e. isSeries e ≡ false) es
 
 abbrev pub OneSeries : List Entry → Type 0
@@ -143,7 +143,7 @@ OneSeries [] = Unit {0}
 OneSeries (plain i ∷ es) = OneSeries es
 OneSeries (series w ps ∷ es) = NoSeries es
 
-no-series : (es : List Entry) → has 101 (map tagOfEntry es) ≡ false → NoSeries es
+pub no-series : (es : List Entry) → has 101 (map tagOfEntry es) ≡ false → NoSeries es
 no-series [] h = tt
 no-series (plain i ∷ es) h = (refl, no-series es (has-none (i .tag) 101 (map tagOfEntry es) h .1))
 no-series (series w ps ∷ es) h = no-bool (sym (has-none 101 101 (map tagOfEntry es) h .0))

@@ -84,6 +84,10 @@ pub all-left : {X : Type 0} (P : X → Type 0) (xs ys : List X) → All P (xs ++
 all-left P [] ys h = tt
 all-left P (x ∷ xs) ys h = (h .0, all-left P xs ys (h .1))
 
+pub all-both : {X : Type 0} (P : X → Type 0) (xs ys : List X) → All P xs → All P ys → All P (xs ++ ys)
+all-both P [] ys h g = g
+all-both P (x ∷ xs) ys h g = (h .0, all-both P xs ys (h .1) g)
+
 pub all-map : {X : Type 0} (P Q : X → Type 0) → ((x : X) → P x → Q x) → (xs : List X) → All P xs → All Q xs
 all-map P Q g [] h = tt
 all-map P Q g (x ∷ xs) h = (g x (h .0), all-map P Q g xs (h .1))
@@ -100,3 +104,13 @@ has-left k (x ∷ xs) ys h = let (a, b) = has-none x k (xs ++ ys) h in has-not x
 pub once-left : (xs ys : List ℕ) → Once (xs ++ ys) → Once xs
 once-left [] ys h = tt
 once-left (x ∷ xs) ys h = (has-left x xs ys (h .0), once-left xs ys (h .1))
+
+-- ---- one key more at the end
+
+has-end : (k x : ℕ) (xs : List ℕ) → has x xs ≡ false → eqb k x ≡ false → has x (xs ++ (k ∷ [])) ≡ false
+has-end k x [] h e = has-not k x [] e h
+has-end k x (y ∷ ys) h e = let (a, b) = has-none y x ys h in has-not y x (ys ++ (k ∷ [])) a (has-end k x ys b e)
+
+pub once-snoc : (xs : List ℕ) (k : ℕ) → Once xs → has k xs ≡ false → Once (xs ++ (k ∷ []))
+once-snoc [] k o e = (e, tt)
+once-snoc (x ∷ xs) k o e = let (a, b) = has-none x k xs e in (has-end k x xs (o .0) (flip x k a), once-snoc xs k (o .1) b)

@@ -50,18 +50,21 @@ module _ (s : List ℕ) where
       item-turn k at m pre (flatAll flatItem is ++ post) i (map (itemCell k) is ++ cs) (itemRows k m is ++ rs) (e ∙ simp append-assoc) l refl
       (items-turn k m next (pre ++ flatItem i) post is cs rs (e ∙ simp append-assoc) (simp length-append (omega arith)) (n ∙ simp length-append (omega arith)) t)
 
-  pack-turn : (k at next : ℕ) (pre post : List ℕ) (p : Pack) (cs : List Cell) (rs : List Row) → s ≡ pre ++ (flatPack p ++ post) → at ≡ length pre
-      → next ≡ at + length (flatPack p) → InTurn s next cs rs
-      → InTurn s at (cell k 0 [] (p .width) (packBody p) (length (oidBytes (p .id))) ∷ map (itemCell k) (p .items) ++ cs)
-      (row k 0 (at + p .width) (length (packBody p)) ∷ itemRows k (at + p .width + length (oidBytes (p .id))) (p .items) ++ rs)
+  pack-turn : (k at next : ℕ) (pre post : List ℕ) (p : Pack) (bs cs : List Cell) (qs rs : List Row) → s ≡ pre ++ (flatPack p ++ post) → at ≡ length pre
+      → next ≡ at + length (flatPack p) → InTurn s next (bs ++ cs) (qs ++ rs)
+      → InTurn s at (cell k 0 [] (p .width) (packBody p) (length (oidBytes (p .id))) ∷ (map (itemCell k) (p .items) ++ bs) ++ cs)
+      (row k 0 (at + p .width) (length (packBody p)) ∷ (itemRows k (at + p .width + length (oidBytes (p .id))) (p .items) ++ qs) ++ rs)
   unfolding flatPack packBody
-  pack-turn k at next pre post p cs rs e l n t =
+  pack-turn k at next pre post p bs cs qs rs e l n t =
       let id : List ℕ = oidBytes (p .id) in
       let v : List ℕ = id ++ flatAll flatItem (p .items) in
       let o : ℕ = at + p .width + length id in
-      turn (cell k 0 [] (p .width) v (length id)) at (at + p .width) o pre post (map (itemCell k) (p .items) ++ cs) (itemRows k o (p .items) ++ rs) e l (simp length-len) (simp length-len)
-      (items-turn k o next (pre ++ (lenBytes (p .width) (length v) ++ id)) post (p .items) cs rs (e ∙ simp append-assoc)
-      (simp (length-append, length-len) (omega arith)) (n ∙ simp (length-append, length-len) (omega arith)) t)
+      let is : List Cell = map (itemCell k) (p .items) in
+      let ws : List Row = itemRows k o (p .items) in
+      let t′ = items-turn k o next (pre ++ (lenBytes (p .width) (length v) ++ id)) post (p .items) (bs ++ cs) (qs ++ rs) (e ∙ simp append-assoc)
+          (simp (length-append, length-len) (omega arith)) (n ∙ simp (length-append, length-len) (omega arith)) t in
+      turn (cell k 0 [] (p .width) v (length id)) at (at + p .width) o pre post ((is ++ bs) ++ cs) ((ws ++ qs) ++ rs) e l (simp length-len) (simp length-len)
+      (rw (append-assoc is bs cs, append-assoc ws qs rs) t′)
 
   packs-turn : (k at next : ℕ) (pre post : List ℕ) (ps : List Pack) (cs : List Cell) (rs : List Row) → s ≡ pre ++ (flatAll flatPack ps ++ post) → at ≡ length pre
       → next ≡ at + length (flatAll flatPack ps) → InTurn s next cs rs → InTurn s at (packCells k ps ++ cs) (packRows k at ps ++ rs)
@@ -69,9 +72,8 @@ module _ (s : List ℕ) where
   packs-turn k at next pre post [] cs rs e l n t = subst (λ x. InTurn s x cs rs) (omega arith) t
   packs-turn k at next pre post (p ∷ ps) cs rs e l n t =
       let m : ℕ = at + length (flatPack p) in
-      rw (append-assoc (map (itemCell k) (p .items)) (packCells (suc k) ps) cs, append-assoc (itemRows k (at + p .width + length (oidBytes (p .id))) (p .items)) (packRows (suc k) m ps) rs)
-      (pack-turn k at m pre (flatAll flatPack ps ++ post) p (packCells (suc k) ps ++ cs) (packRows (suc k) m ps ++ rs) (e ∙ simp append-assoc) l refl
-      (packs-turn (suc k) m next (pre ++ flatPack p) post ps cs rs (e ∙ simp append-assoc) (simp length-append (omega arith)) (n ∙ simp length-append (omega arith)) t))
+      pack-turn k at m pre (flatAll flatPack ps ++ post) p (packCells (suc k) ps) cs (packRows (suc k) m ps) rs (e ∙ simp append-assoc) l refl
+      (packs-turn (suc k) m next (pre ++ flatPack p) post ps cs rs (e ∙ simp append-assoc) (simp length-append (omega arith)) (n ∙ simp length-append (omega arith)) t)
 
   series-turn : (at next : ℕ) (pre post : List ℕ) (w : ℕ) (ps : List Pack) (cs : List Cell) (rs : List Row) → s ≡ pre ++ (flatEntry (series w ps) ++ post) → at ≡ length pre
       → next ≡ at + length (flatEntry (series w ps)) → InTurn s next cs rs

@@ -11,22 +11,14 @@ use lib.Dec.{eqb, ltb}
 use borrow.Author.Tests.{lt-ltb, le-ltb}
 use Rattle.format.specs.Answer.{ok}
 use Rattle.format.specs.Lists.{has, flatAll}
-use Rattle.format.specs.Valid.{All}
 use Rattle.format.specs.Edit.{Change, put, remove, applied}
 use Rattle.format.proofs.words.Answers.{never, ok-inj}
+use Rattle.format.proofs.words.Keys.{all-left, all-both}
 use Rattle.spots.specs.Meet.{spotIn, splice}
 use Rattle.spots.proofs.Splices.{Missed, Hit, place, hit-spot, missed-spot, spot-room, ask-hit, ask-absent, splice-put, splice-out, has-hit, has-absent}
 use Rattle.edits.specs.Meet.{part}
 
 -- ---- a list that ends with what does not hit
-
-all-both : {X : Type 0} (P : X → Type 0) (xs ys : List X) → All P xs → All P ys → All P (xs ++ ys)
-all-both P [] ys h g = g
-all-both P (x ∷ xs) ys h g = (h .0, all-both P xs ys (h .1) g)
-
-all-left : {X : Type 0} (P : X → Type 0) (xs ys : List X) → All P (xs ++ ys) → All P xs
-all-left P [] ys h = tt
-all-left P (x ∷ xs) ys h = (h .0, all-left P xs ys (h .1))
 
 module _ {X : Type 0} (hit : X → Bool) {xs : List X} (ys rest : List X) (e : xs ≡ ys ++ rest) where
   pub absent-too : Missed hit xs → Missed hit ys

@@ -13,7 +13,7 @@ use Rattle.format.specs.Answer.{Got}
 use Rattle.format.specs.Lists.{has}
 use Rattle.format.specs.Valid.{Once}
 use Rattle.format.proofs.words.Answers.{no-bool, or-mono, or-right}
-use Rattle.format.proofs.words.Keys.{flip, has-not, has-none}
+use Rattle.format.proofs.words.Keys.{has-not, once-snoc}
 use Rattle.coding.proofs.Rooms.{tail-part}
 use Rattle.heads.specs.Meet.{Peeked, Heads, Clear}
 use Rattle.repeats.specs.Blocks.{FirstOf, Missed}
@@ -81,12 +81,6 @@ unfolding has
 has-take k zero xs e = no-bool e
 has-take k (suc n) [] e = no-bool e
 has-take k (suc n) (x ∷ xs) e = or-mono (eqb x k) (has k (take n xs)) (has k xs) (has-take k n xs) e
-
-once-snoc : (xs : List ℕ) (k : ℕ) → Once xs → has k xs ≡ false → Once (xs ++ k ∷ [])
-once-snoc [] k o e = (e, tt)
-once-snoc (x ∷ xs) k o e =
-    let (a, b) = has-none x k xs e in
-    (has-snoc x k xs ∙ has-not k x xs (flip x k a) (o .0), once-snoc xs k (o .1) b)
 
 pub first-start : (look : List ℕ → Got ℕ) (s : List ℕ) (from : ℕ) (block : List ℕ) → from ≤ length s → length block ≡ 64 → FirstOf look s from block from 0
 first-start look s from block h l = record { on = omega arith; within = h; long = l; heads = omega arith; once = tt }

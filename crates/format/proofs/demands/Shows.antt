@@ -27,15 +27,27 @@ use Rattle.format.proofs.rows.Find.{hitCell, valueFor, OneSeries, one-s
 use Rattle.format.proofs.rows.Fit.{value-fit}
 use Rattle.format.proofs.rows.Own.{one-row}
 
+-- ---- a row and a value that are found
+
+-- both are, and are as P says, or neither is
+abbrev Alike : (Row → List ℕ → Type 0) → Ans Row → Ans (List ℕ) → Type 0
+Alike P (ok w) (ok v) = P w v
+Alike P (ok w) (refused n a) = ⊥
+Alike P (refused n a) (ok v) = ⊥
+Alike P (refused n a) (refused m b) = Unit {0}
+
+alike-map : (P Q : Row → List ℕ → Type 0) → ((w : Row) (v : List ℕ) → P w v → Q w v) → (x : Ans Row) (y : Ans (List ℕ)) → Alike P x y → Alike Q x y
+alike-map P Q g (ok w) (ok v) h = g w v h
+alike-map P Q g (ok w) (refused n a) h = h
+alike-map P Q g (refused n a) (ok v) h = h
+alike-map P Q g (refused n a) (refused m b) h = tt
+
 abbrev hitRow : ℕ → ℕ → Row → Bool
 hitRow k t w = eqb (w .target) k && eqb (w .tag) t
 
--- a row and a value that are found, of target number k and tag t: the row is among these, and names the value; or neither is found
-abbrev Named : List ℕ → ℕ → ℕ → List Row → Ans Row → Ans (List ℕ) → Type 0
-Named s k t rs (ok w) (ok v) = Among (row k t (w .offset) (length v)) rs × (w .size ≡ length v) × (part s (w .offset) (length v) ≡ v)
-Named s k t rs (ok w) (refused n a) = ⊥
-Named s k t rs (refused n a) (ok v) = ⊥
-Named s k t rs (refused n a) (refused m b) = Unit {0}
+-- the row is among these, with target number k and tag t, and names the value
+abbrev Named : List ℕ → ℕ → ℕ → List Row → Row → List ℕ → Type 0
+Named s k t rs w v = Among (row k t (w .offset) (length v)) rs × (w .size ≡ length v) × (part s (w .offset) (length v) ≡ v)
 
 -- a value behind its head
 part-behind : (s a b : List ℕ) (at : ℕ) → part s at (length (a ++ b)) ≡ a ++ b → part s (at + length a) (length b) ≡ b
@@ -44,29 +56,22 @@ part-behind s a b at e =
     let q : d ≡ a ++ (b ++ drop (length (a ++ b)) d) = sym (take-append-drop (length (a ++ b)) d) ∙ ap (λ x. x ++ drop (length (a ++ b)) d) e ∙ append-assoc a b _ in
     ap (take (length b)) (sym (drop-drop (length a) at s) ∙ ap (drop (length a)) q ∙ drop-append-seam a _) ∙ take-append-seam b _
 
-named-more : (s : List ℕ) (k t : ℕ) (r : Row) (rs : List Row) (x : Ans Row) (y : Ans (List ℕ)) → Named s k t rs x y → Named s k t (r ∷ rs) x y
-named-more s k t r rs (ok w) (ok v) h = (inr (h .0), h .1, h .2)
-named-more s k t r rs (ok w) (refused n a) h = h
-named-more s k t r rs (refused n a) (ok v) h = h
-named-more s k t r rs (refused n a) (refused m b) h = tt
-
-turn-named : (s : List ℕ) (k t at : ℕ) (cs : List Cell) (rs : List Row) → InTurn s at cs rs → Named s k t rs (askHit (hitRow k t) ok rs) (valueFor k t cs)
+turn-named : (s : List ℕ) (k t at : ℕ) (cs : List Cell) (rs : List Row) → InTurn s at cs rs → Alike (Named s k t rs) (askHit (hitRow k t) ok rs) (valueFor k t cs)
 unfolding valueFor askHit
 turn-named s k t at [] [] h = tt
 turn-named s k t at [] (r ∷ rs) h = absurd h
 turn-named s k t at (c ∷ cs) [] h = absurd h
 turn-named s k t at (c ∷ cs) (r ∷ rs) h = go (turn-named s k t (at + length (c .head) + c .inside) cs rs (h .2)) (hitCell k t c) refl
   where
-    go : Named s k t rs (askHit (hitRow k t) ok rs) (valueFor k t cs) → (b : Bool) → hitCell k t c ≡ b → Named s k t (r ∷ rs) (askHit (hitRow k t) ok (r ∷ rs)) (valueFor k t (c ∷ cs))
+    go : Alike (Named s k t rs) (askHit (hitRow k t) ok rs) (valueFor k t cs) → (b : Bool) → hitCell k t c ≡ b
+        → Alike (Named s k t (r ∷ rs)) (askHit (hitRow k t) ok (r ∷ rs)) (valueFor k t (c ∷ cs))
     go ih true z =
         let (x, y) = and-both (eqb (c .target) k) (eqb (c .tag) t) z in
         let e : r ≡ row k t (at + length (c .head)) (length (c .value)) = h .0 ∙ rw (eqb-true (c .target) k x, eqb-true (c .tag) t y) in
-        rw (ap (hitRow k t) (h .0) ∙ z, z, askHit) (
-          inl (rw e),
-          ap (λ (w : Row). w .size) e,
-          rw e (part-behind s (c .head) (c .value) at (h .1)),
-        )
-    go ih false z = rw (ap (hitRow k t) (h .0) ∙ z, z, askHit) (named-more s k t r rs (askHit (hitRow k t) ok rs) (valueFor k t cs) ih)
+        rw (ap (hitRow k t) (h .0) ∙ z, z, askHit) (inl (rw e), ap (λ (w : Row). w .size) e, rw e (part-behind s (c .head) (c .value) at (h .1)))
+    go ih false z =
+        rw (ap (hitRow k t) (h .0) ∙ z, z, askHit)
+        (alike-map (Named s k t rs) (Named s k t (r ∷ rs)) (λ w v g. (inr (g .0), g .1, g .2)) (askHit (hitRow k t) ok rs) (valueFor k t cs) ih)
 
 -- ---- in one packet
 
@@ -80,14 +85,11 @@ unfolding sealed
 sealed-number embedded h es c = refl
 sealed-number standalone h es c = number-snoc h es (sealItem c)
 
--- the row that is found is the item's own
-abbrev Stands : Packet → List ℕ → Holder → ℕ → Ans Row → Ans (List ℕ) → Type 0
-Stands p s h t (ok w) (ok v) = StandsAt p s h t v (w .offset) × (w .size ≡ length v)
-Stands p s h t (ok w) (refused n a) = ⊥
-Stands p s h t (refused n a) (ok v) = ⊥
-Stands p s h t (refused n a) (refused m b) = Unit {0}
+-- the row is the item's own
+abbrev Own : Packet → List ℕ → Holder → ℕ → Row → List ℕ → Type 0
+Own p s h t w v = StandsAt p s h t v (w .offset) × (w .size ≡ length v)
 
-found : (f : Form) (s : List ℕ) (p : Packet) (h : Holder) (t : ℕ) → Lies f s p → showable h t ≡ true → Stands p s h t (findRow h t p) (valueOf h t p)
+found : (f : Form) (s : List ℕ) (p : Packet) (h : Holder) (t : ℕ) → Lies f s p → showable h t ≡ true → Alike (Own p s h t) (findRow h t p) (valueOf h t p)
 unfolding findRow valueOf cellsOf _>>=_
 found f s p h t l n = at-number (numberOf h (p .entries)) refl
   where
@@ -100,15 +102,12 @@ found f s p h t l n = at-number (numberOf h (p .entries)) refl
     value-is : (k : ℕ) → numberOf h (p .entries) ≡ ok k → valueFor k t (entryCells all) ≡ valueIn h t all
     value-is k e = holder-value h k t all n (sealed-one (p .form) (p .entries) (p .sum) (one-series (p .entries) (l .valid .entries-valid .once))) (numbered e)
 
-    stands : (k : ℕ) → numberOf h (p .entries) ≡ ok k → (x : Ans Row) (y : Ans (List ℕ)) → Named s k t (rowsOf p) x y → Stands p s h t x y
-    stands k e (ok w) (ok v) g = (record { number = k; numbered = e; own-row = g .0; is-value = g .2 }, g .1)
-    stands k e (ok w) (refused m b) g = g
-    stands k e (refused m a) (ok v) g = g
-    stands k e (refused m a) (refused m′ b) g = tt
+    own : (k : ℕ) → numberOf h (p .entries) ≡ ok k → (w : Row) (v : List ℕ) → Named s k t (rowsOf p) w v → Own p s h t w v
+    own k e w v g = (record { number = k; numbered = e; own-row = g .0; is-value = g .2 }, g .1)
 
-    at-number : (a : Ans ℕ) → numberOf h (p .entries) ≡ a → Stands p s h t (findRow h t p) (valueIn h t all)
+    at-number : (a : Ans ℕ) → numberOf h (p .entries) ≡ a → Alike (Own p s h t) (findRow h t p) (valueIn h t all)
     at-number (ok k) e =
-        rw e (stands k e (askHit (hitRow k t) ok (rowsOf p)) (valueIn h t all)
+        rw e (alike-map (Named s k t (rowsOf p)) (Own p s h t) (own k e) (askHit (hitRow k t) ok (rowsOf p)) (valueIn h t all)
         (rw (← value-is k e) (turn-named s k t (start f (p .width)) (entryCells all) (rowsOf p) (lies-turn f s p l))))
     at-number (refused m a) e = rw (e, holder-none h m a t all (numbered e)) tt
 
@@ -144,48 +143,45 @@ module _ (f : Form) (r d : List ℕ) (h : Holder) (t : ℕ) where
     both n = rw (ep, eq) (rw (n, showIn))
 
     module _ (hr : Bytes r) (hd : Bytes d) where
-      in-r : showable h t ≡ true → Stands p r h t (findRow h t p) (valueOf h t p)
+      in-r : showable h t ≡ true → Alike (Own p r h t) (findRow h t p) (valueOf h t p)
       in-r n = found f r p h t (parse-says f r p hr ep) n
 
-      in-d : showable h t ≡ true → Stands q d h t (findRow h t q) (valueOf h t q)
+      in-d : showable h t ≡ true → Alike (Own q d h t) (findRow h t q) (valueOf h t q)
       in-d n = found f d q h t (parse-says f d q hd eq) n
 
       show-reviewer : (v : List ℕ) → valueOf h t p ≡ ok v → ShownValue p r h t v reviewer (show f r d h t)
       unfolding eitherRow
-      show-reviewer v e = go (value-fit p h t v (parse-says f r p hr ep .valid) e .0)
+      show-reviewer v e = let n = value-fit p h t v (parse-says f r p hr ep .valid) e .0 in go n (findRow h t p) refl (rw e at (in-r n))
         where
-          at : showable h t ≡ true → (x : Ans Row) → findRow h t p ≡ x → Stands p r h t x (ok v) → ShownValue p r h t v reviewer (show f r d h t)
-          at n (ok w) z k = record { offset = w .offset; stands = k .0; shows = both n ∙ rw (z, k .1) }
-          at n (refused m a) z k = absurd k
-
-          go : showable h t ≡ true → ShownValue p r h t v reviewer (show f r d h t)
-          go n = at n (findRow h t p) refl (rw e at (in-r n))
+          go : showable h t ≡ true → (x : Ans Row) → findRow h t p ≡ x → Alike (Own p r h t) x (ok v) → ShownValue p r h t v reviewer (show f r d h t)
+          go n (ok w) z k = record { offset = w .offset; stands = k .0; shows = both n ∙ rw (z, k .1) }
+          go n (refused m a) z k = absurd k
 
       show-detector : (v : List ℕ) (m a : ℕ) → valueOf h t p ≡ refused m a → valueOf h t q ≡ ok v → ShownValue q d h t v detector (show f r d h t)
       unfolding eitherRow
-      show-detector v m a o e = go (value-fit q h t v (parse-says f d q hd eq .valid) e .0)
+      show-detector v m a o e =
+          let n = value-fit q h t v (parse-says f d q hd eq .valid) e .0 in
+          go n (findRow h t p) (findRow h t q) refl refl (rw o at (in-r n)) (rw e at (in-d n))
         where
-          at : showable h t ≡ true → (x y : Ans Row) → findRow h t p ≡ x → findRow h t q ≡ y → Stands p r h t x (refused m a) → Stands q d h t y (ok v)
+          go : showable h t ≡ true → (x y : Ans Row) → findRow h t p ≡ x → findRow h t q ≡ y → Alike (Own p r h t) x (refused m a) → Alike (Own q d h t) y (ok v)
               → ShownValue q d h t v detector (show f r d h t)
-          at n (ok w) y z z′ k k′ = absurd k
-          at n (refused i j) (ok w) z z′ k k′ = record { offset = w .offset; stands = k′ .0; shows = both n ∙ rw (z, z′, k′ .1) }
-          at n (refused i j) (refused i′ j′) z z′ k k′ = absurd k′
-
-          go : showable h t ≡ true → ShownValue q d h t v detector (show f r d h t)
-          go n = at n (findRow h t p) (findRow h t q) refl refl (rw o at (in-r n)) (rw e at (in-d n))
+          go n (ok w) y z z′ k k′ = absurd k
+          go n (refused i j) (ok w) z z′ k k′ = record { offset = w .offset; stands = k′ .0; shows = both n ∙ rw (z, z′, k′ .1) }
+          go n (refused i j) (refused i′ j′) z z′ k k′ = absurd k′
 
       show-neither : (m a m′ a′ : ℕ) → valueOf h t p ≡ refused m a → valueOf h t q ≡ refused m′ a′ → show f r d h t ≡ nothing
       unfolding eitherRow
-      show-neither m a m′ a′ o o′ = go (showable h t) refl
+      show-neither m a m′ a′ o o′ = named (showable h t) refl
         where
-          at : showable h t ≡ true → (x y : Ans Row) → findRow h t p ≡ x → findRow h t q ≡ y → Stands p r h t x (refused m a) → Stands q d h t y (refused m′ a′) → show f r d h t ≡ nothing
-          at n (ok w) y z z′ k k′ = absurd k
-          at n (refused i j) (ok w) z z′ k k′ = absurd k′
-          at n (refused i j) (refused i′ j′) z z′ k k′ = both n ∙ rw (z, z′)
+          go : showable h t ≡ true → (x y : Ans Row) → findRow h t p ≡ x → findRow h t q ≡ y → Alike (Own p r h t) x (refused m a) → Alike (Own q d h t) y (refused m′ a′)
+              → show f r d h t ≡ nothing
+          go n (ok w) y z z′ k k′ = absurd k
+          go n (refused i j) (ok w) z z′ k k′ = absurd k′
+          go n (refused i j) (refused i′ j′) z z′ k k′ = both n ∙ rw (z, z′)
 
-          go : (b : Bool) → showable h t ≡ b → show f r d h t ≡ nothing
-          go true n = at n (findRow h t p) (findRow h t q) refl refl (rw o at (in-r n)) (rw o′ at (in-d n))
-          go false n = show-unnamed n
+          named : (b : Bool) → showable h t ≡ b → show f r d h t ≡ nothing
+          named true n = go n (findRow h t p) (findRow h t q) refl refl (rw o at (in-r n)) (rw o′ at (in-d n))
+          named false n = show-unnamed n
 
 pub show-so : (f : Form) (r d : List ℕ) (h : Holder) (t : ℕ) → Bytes r → Bytes d → Shows f r d h t (show f r d h t)
 show-so f r d h t hr hd = record {

@@ -21,7 +21,7 @@ abbrev leftIs : {A : Type 0} → ℕ → ℕ → List A → Left A
 leftIs n p l = record { number = n; place = p; lent = l }
 
 -- by whether there is room
-by-room : (P : Type 0) (m n : ℕ) → (m ≤ n → P) → (n < m → P) → P
+pub by-room : (P : Type 0) (m n : ℕ) → (m ≤ n → P) → (n < m → P) → P
 by-room P m n there short = go (leb m n) refl
   where
     go : (b : Bool) → leb m n ≡ b → P

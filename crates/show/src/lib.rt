@@ -11,7 +11,8 @@ ghost use Rattle.checks.specs.declared.Checked.the-variants.{Fine};
 ghost use Rattle.checks.specs.Meet.{checkedOf};
 ghost use Rattle.edits.specs.Meet.{holderOf};
 ghost use Rattle.shows.specs.Meet.{valueOf};
-ghost use Rattle.show.specs.Meet.{rowNamed, partShown, ofTwo, noPart, bytesShown, placeShown};
+ghost use Rattle.show.specs.Meet.{rowNamed, noPart};
+ghost use Rattle.show.specs.Shows.{Names, Shows};
 use checks::Checked;
 use shows::Value;
 
@@ -57,8 +58,7 @@ fn value_in(packet: &[u8], alone: bool, set: bool, id: u64, tag: u64) -> Value
 
 // Which part is shown: the value's of the reviewer's packet if that has the item, else of the detector's.
 pub fn shown(reviewer: &[u8], detector: &[u8], alone: bool, set: bool, id: u64, tag: u64) -> Part
-    ensures { λ r. ⌜ (partShown r ≡ Show.show (formOf alone) (now (reviewer .entry)) (now (detector .entry)) (holderOf set id) tag)
-        × (r .offset + r .size ≤ length (ofTwo (r .detectors) (now (reviewer .entry)) (now (detector .entry)))) ⌝ }
+    ensures { λ r. ⌜ Names (formOf alone) (now (reviewer .entry)) (now (detector .entry)) (holderOf set id) tag r ⌝ }
 {
     let glances = items::quick::glances();
     let a = checks::check(&glances, reviewer, alone);
@@ -100,8 +100,8 @@ pub fn show<'a>(
     id: u64,
     tag: u64,
 ) -> &'a [u8]
-    ensures { λ v. ⌜ (now v ≡ bytesShown (now (reviewer .entry)) (now (detector .entry)) (Show.show (formOf alone) (now (reviewer .entry)) (now (detector .entry)) (holderOf set id) tag))
-        × (v .ptr ≡ placeShown (reviewer .entry .ptr) (detector .entry .ptr) (Show.show (formOf alone) (now (reviewer .entry)) (now (detector .entry)) (holderOf set id) tag)) ⌝ }
+    ensures { λ v. ⌜ Shows (formOf alone) (now (reviewer .entry)) (now (detector .entry)) (reviewer .entry .ptr) (detector .entry .ptr)
+        (holderOf set id) tag (now v) (v .ptr) ⌝ }
 {
     let p = shown(reviewer, detector, alone, set, id, tag);
     let from = p.offset;

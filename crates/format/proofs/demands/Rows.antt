@@ -11,7 +11,7 @@ use Rattle.format.specs.Packet.{Packet}
 use Rattle.format.specs.Read.{start, parse}
 use Rattle.format.specs.Calls.{read}
 use Rattle.format.specs.Rows.{Row, rowsOf, locate}
-use Rattle.format.specs.demands.Rows.{Cell, cellsOf, InTurn, RowsPoint, Locates}
+use Rattle.format.specs.demands.Rows.{Cell, cellsOf, InTurn, RowsPoint, LocateAnswers}
 use Rattle.format.proofs.words.Answers.{never, bind-then, ok-inj}
 use Rattle.format.proofs.reading.Packets.{parse-says}
 use Rattle.format.proofs.rows.Point.{lies-turn}
@@ -39,7 +39,7 @@ locate-refuses f s n a = go (parse f s) refl
     go (ok p) e = (λ z. never n a _ (sym z ∙ locate-is f s p e), λ z. never n a _ (sym z ∙ read-is f s p e))
     go (refused m q) e = rw e ((λ z. cc), (λ z. cc))
 
-pub locates : (f : Form) (s : List ℕ) → Bytes s → Locates f s (locate f s)
+pub locates : (f : Form) (s : List ℕ) → Bytes s → LocateAnswers f s (locate f s)
 locates f s h = record {
   accepts = (
     λ r. locate-then f s (r .0) (r .1) λ p e _. (_, read-is f s p e),
@@ -67,7 +67,7 @@ one-rows f s rows rows′ h g =
     let e : h .packet ≡ g .packet = one-tree f s (h .packet) (g .packet) (h .lies) (g .lies) in
     one-turn s (start f (g .packet .width)) (cellsOf (g .packet)) rows rows′ (subst (λ p. InTurn s (start f (p .width)) (cellsOf p) rows) e (h .in-turn)) (g .in-turn)
 
-pub one-locate : (f : Form) (s : List ℕ) (x y : Ans (List Row)) → Locates f s x → Locates f s y → x ≡ y
+pub one-locate : (f : Form) (s : List ℕ) (x y : Ans (List Row)) → LocateAnswers f s x → LocateAnswers f s y → x ≡ y
 one-locate f s (ok rows) (ok rows′) h g = ap ok (one-rows f s rows rows′ (h .points rows refl) (g .points rows′ refl))
 one-locate f s (ok rows) (refused n a) h g = h .refuses n a .1 (g .refuses n a .0 refl)
 one-locate f s (refused n a) y h g = sym (g .refuses n a .1 (h .refuses n a .0 refl))

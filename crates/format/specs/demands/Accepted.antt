@@ -17,6 +17,7 @@ pub record AcceptedWhenValid (f : Form) (s : List ℕ) : Type 0 where
   pub accepted : ((sheet : List ℕ) × (read f s ≡ ok sheet)) ↔ ((p : Packet) × Lies f s p)
   -- and what is read is that tree
   pub tree : (p : Packet) → parse f s ≡ ok p ↔ Lies f s p
+  -- two trees that lie so are one: it follows, and is here for the reader
   pub only-one : (p q : Packet) → Lies f s p → Lies f s q → p ≡ q
 
 -- the same of a sheet's bytes

@@ -21,7 +21,7 @@ pub record Normal (f : Form) (s : List ℕ) : Type 0 where
   -- normalise is read, then write; it refuses just what reading refuses
   pub is-both : (sheet : List ℕ) → read f s ≡ ok sheet → normalise f s ≡ write sheet
   pub refuses : (n a : ℕ) → normalise f s ≡ refused n a ↔ read f s ≡ refused n a
-  -- the normal form is accepted, has the same sheet, and is its own normal form
+  -- the normal form is accepted, has the same sheet, and so is its own normal form, which is here for the reader
   pub same-sheet : (b : List ℕ) → normalise f s ≡ ok b → read f b ≡ read f s
   pub own-normal : (b : List ℕ) → normalise f s ≡ ok b → normalise f b ≡ ok b
 

@@ -66,7 +66,7 @@ pub record RowsPoint (f : Form) (s : List ℕ) (rows : List Row) : Type 0 where
   pub in-turn : InTurn s (start f (packet .width)) (cellsOf packet) rows
 
 -- what locate answers
-pub record Locates (f : Form) (s : List ℕ) (x : Ans (List Row)) : Type 0 where
+pub record LocateAnswers (f : Form) (s : List ℕ) (x : Ans (List Row)) : Type 0 where
   -- it accepts what read accepts, and refuses with read's number and place
   pub accepts : ((rows : List Row) × (x ≡ ok rows)) ↔ ((sheet : List ℕ) × (read f s ≡ ok sheet))
   pub refuses : (n a : ℕ) → x ≡ refused n a ↔ read f s ≡ refused n a

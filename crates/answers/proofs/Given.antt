@@ -89,13 +89,15 @@ module _ {A : Type 0} (lent left : List A) (a : Answer) where
   pub wrote : (size : ℕ) (x : Ans (List A)) → Answers size x → leftOf a left ≡ leaves lent x → a .number ≡ 0 → (b : List A) × (x ≡ ok b) × (written a left ≡ b)
   wrote size x h e z =
       let (b, q) = accepted-only size x h e (inl z) in
-      let g = given b (e ∙ ap (leaves lent) q) in
-      (b, q,
+      let g = given b (e ∙ ap (leaves lent) q) in (
+        b,
+        q,
         by-room (written a left ≡ b) (length b) (length lent)
-        (λ l.
-        let (k, s) = g .with-room l in
-        ap (λ n. take n left) (ap (λ x. x .place) k) ∙ ap (take (length b)) s ∙ take-append-seam b (drop (length b) lent))
-        (λ l. absurd (omega (arith, ap (λ x. x .number) (g .without l .0), z))))
+            (λ l.
+            let (k, s) = g .with-room l in
+            ap (λ n. take n left) (ap (λ x. x .place) k) ∙ ap (take (length b)) s ∙ take-append-seam b (drop (length b) lent))
+            (λ l. absurd (omega (arith, ap (λ x. x .number) (g .without l .0), z))),
+      )
 
 -- ---- one solution
 

@@ -27,9 +27,6 @@ use Rattle.answers.proofs.Given.{given, one-given, by-room}
 use Rattle.locate.specs.Meet.{leavesRows, leavesTable}
 use Rattle.locate.specs.Promise.{GivenNumbers, Locating, LocatePromise}
 
-abbrev leftIs : {A : Type 0} → ℕ → ℕ → List A → Left A
-leftIs n p l = record { number = n; place = p; lent = l }
-
 -- ---- the rows that are written
 
 given-numbers : (rs : List Row) (lent : List ℕ) (a : Answer) (left : List ℕ) → leftOf a left ≡ leavesRows lent (ok rs) → GivenNumbers rs lent a left
@@ -73,9 +70,9 @@ module _ {A : Type 0} (f : Form) (packet : List ℕ) (bytes : Bytes packet) (len
             absurd (⊎-elim (λ z. omega (arith, k, en, z)) (λ z. s (sym en ∙ z)) y)
 
   -- and nothing else is so answered
-  one-locating : (c : Answer) (then : List A) (W V : List Row → Type 0) → ((rs : List Row) → W rs → V rs → (a ≡ c) × (left ≡ then))
-      → Locating W f packet lent a left → Locating V f packet lent c then → (a ≡ c) × (left ≡ then)
-  one-locating c then W V one g k = go (locate f packet) refl
+  one-locating : (c : Answer) (then : List A) (W X : List Row → Type 0) → ((rs : List Row) → W rs → X rs → (a ≡ c) × (left ≡ then))
+      → Locating W f packet lent a left → Locating X f packet lent c then → (a ≡ c) × (left ≡ then)
+  one-locating c then W X one g k = go (locate f packet) refl
     where
       go : (x : Ans (List Row)) → locate f packet ≡ x → (a ≡ c) × (left ≡ then)
       go (ok rs) e = let h = locate-points f packet rs bytes e in one rs (g .points rs h) (k .points rs h)

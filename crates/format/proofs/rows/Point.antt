@@ -62,7 +62,7 @@ module _ (s : List ℕ) where
       let is : List Cell = map (itemCell k) (p .items) in
       let ws : List Row = itemRows k o (p .items) in
       let t′ = items-turn k o next (pre ++ (lenBytes (p .width) (length v) ++ id)) post (p .items) (bs ++ cs) (qs ++ rs) (e ∙ simp append-assoc)
-          (simp (length-append, length-len) (omega arith)) (n ∙ simp (length-append, length-len) (omega arith)) t in
+      (simp (length-append, length-len) (omega arith)) (n ∙ simp (length-append, length-len) (omega arith)) t in
       turn (cell k 0 [] (p .width) v (length id)) at (at + p .width) o pre post ((is ++ bs) ++ cs) ((ws ++ qs) ++ rs) e l (simp length-len) (simp length-len)
       (rw (append-assoc is bs cs, append-assoc ws qs rs) t′)
 

@@ -2,8 +2,8 @@
 use Prim.Native.Nat.{ℕ}
 use mathlib.Core.List.{List}
 use Rattle.format.specs.Room.{Left}
-use Rattle.checks.specs.declared.Checked.{Checked}
-use Rattle.checks.specs.declared.Checked.the-variants.{Fine, Wrong}
+use Rattle.check_packet.specs.declared.Checked.{Checked}
+use Rattle.check_packet.specs.declared.Checked.the-variants.{Fine, Wrong}
 use Rattle.answers.specs.declared.Answer.{Answer}
 
 -- an answer, with what was lent as it is then

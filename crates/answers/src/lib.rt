@@ -1,7 +1,7 @@
 // What the calls answer. Each ends with an answer for every input and every room lent, and a refusal changes nothing that was lent.
 ghost use mathlib.Core.Path.{_≡_};
 ghost use Rattle.answers.specs.Meet.{answerOf, refusalOf};
-use checks::Checked;
+use check_packet::Checked;
 
 // A refusal's number and place; or 0, and how many bytes or rows were written.
 pub struct Answer {

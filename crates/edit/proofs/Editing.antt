@@ -17,16 +17,16 @@ use Rattle.format.specs.Edit.{Holder, Change, editRules, editEntries, edit}
 use Rattle.format.proofs.words.Answers.{no-bool}
 use Rattle.format.proofs.sheets.Normal.{entries-less}
 use Rattle.items.proofs.Tests.{bind-so, bind-not}
-use Rattle.checks.specs.declared.Checked.{Checked}
-use Rattle.checks.specs.declared.Checked.the-variants.{Wrong}
-use Rattle.checks.specs.Meet.{checkedOf}
-use Rattle.checks.proofs.Parsing.{wrong-parsed}
+use Rattle.check_packet.specs.declared.Checked.{Checked}
+use Rattle.check_packet.specs.declared.Checked.the-variants.{Wrong}
+use Rattle.check_packet.specs.Meet.{checkedOf}
+use Rattle.check_packet.proofs.Parsing.{wrong-parsed}
 use Rattle.frames.specs.Meet.{frameSize}
-use Rattle.edits.specs.declared.Place.{Place}
-use Rattle.edits.specs.declared.Found.{Found}
-use Rattle.edits.specs.declared.Found.the-variants.{There, Not}
-use Rattle.edits.specs.Meet.{changeOf, keptOf, sheetOf, editedOf, setEdited, Placed, verdictOf, PlacedIf, Judged, Brief}
-use Rattle.edits.proofs.Callers.{judged-no, long-edit}
+use Rattle.edit_rules.specs.declared.Place.{Place}
+use Rattle.edit_rules.specs.declared.Found.{Found}
+use Rattle.edit_rules.specs.declared.Found.the-variants.{There, Not}
+use Rattle.edit_rules.specs.Meet.{changeOf, keptOf, sheetOf, editedOf, setEdited, Placed, verdictOf, PlacedIf, Judged, Brief}
+use Rattle.edit_rules.proofs.Callers.{judged-no, long-edit}
 use Rattle.answers.specs.declared.Answer.{Answer}
 use Rattle.answers.specs.Meet.{leftOf, answerOf, refusalOf}
 use Rattle.answers.proofs.Leaving.{left-refused}

@@ -1,6 +1,6 @@
 -- Where `edit` meets document 01: an edit's refusal as an answer.
-use Rattle.edits.specs.declared.Found.{Found}
-use Rattle.edits.specs.declared.Found.the-variants as found
+use Rattle.edit_rules.specs.declared.Found.{Found}
+use Rattle.edit_rules.specs.declared.Found.the-variants as found
 use Rattle.answers.specs.declared.Answer.{Answer}
 use Rattle.answers.specs.Meet.{answerOf}
 

@@ -8,16 +8,16 @@ ghost use Rattle.format.specs.Calls.{packed};
 ghost use Rattle.format.specs.Edit.{editEntries};
 ghost use Rattle.format.specs.Room.{leaves};
 ghost use Rattle.items.specs.Meet.{formOf, levelOf, glanceTable};
-ghost use Rattle.edits.specs.Meet.{holderOf, changeOf, keptOf, setEdited, shortOf, SetOf, Editing};
+ghost use Rattle.edit_rules.specs.Meet.{holderOf, changeOf, keptOf, setEdited, shortOf, SetOf, Editing};
 ghost use Rattle.answers.specs.Meet.{leftOf};
 ghost use Rattle.answers.specs.Calls.{Edits};
 ghost use Rattle.edit.specs.Meet.{foundRefusal};
 use answers::Answer;
 use answers::answer_of;
 use answers::refusal;
-use checks::Checked;
-use edits::Found;
-use edits::Place;
+use check_packet::Checked;
+use edit_rules::Found;
+use edit_rules::Place;
 
 // A refusal of an edit passed up.
 fn edit_refusal(f: Found) -> Answer
@@ -52,8 +52,8 @@ fn edit_at(
     requires { ⌜ Editing (formOf alone) (holderOf set id) tag (changeOf removal (now value)) (now s) p × (m ≡ shortOf (levelOf set) tag (changeOf removal (now value))) ⌝ }
     ensures { λ r. ⌜ leftOf r (now (out .exit)) ≡ leaves (now (out .entry)) (packed (closed (formOf alone) (editEntries (holderOf set id) tag (changeOf removal (now (value .entry))) (keptOf (formOf alone) (now (s .entry)))))) ⌝ }
 {
-    let size = puts::item_size(set, tag, removal, value, m);
-    let n = puts::edited_size(s, alone, set, id, tag, removal, value, p, size);
+    let size = edit_bytes::item_size(set, tag, removal, value, m);
+    let n = edit_bytes::edited_size(s, alone, set, id, tag, removal, value, p, size);
     let total = frames::frame_size(alone, n);
     if 8192 < total {
         return answer_of(1, 0);
@@ -62,7 +62,7 @@ fn edit_at(
         return answer_of(16, total);
     }
     let a = frames::open(out, alone, n);
-    let k = puts::put_edited(
+    let k = edit_bytes::put_edited(
         s,
         alone,
         set,
@@ -94,14 +94,14 @@ fn edit_set(
     requires { ⌜ (now glances ≡ glanceTable) × SetOf (formOf alone) (now s) ⌝ }
     ensures { λ r. ⌜ leftOf r (now (out .exit)) ≡ leaves (now (out .entry)) (setEdited (formOf alone) (holderOf set id) tag (changeOf removal (now (value .entry))) (now (s .entry))) ⌝ }
 {
-    let f = edits::judge(glances, s, alone, set, id, tag, removal, value);
+    let f = edit_rules::judge(glances, s, alone, set, id, tag, removal, value);
     let Found::There(p) = f else {
         return edit_refusal(f);
     };
     if over_long(removal, value) {
         return answer_of(1, 0);
     }
-    let m = puts::short_size(glances, alone, set, tag, removal, value);
+    let m = edit_bytes::short_size(glances, alone, set, tag, removal, value);
     edit_at(s, alone, set, id, tag, removal, value, p, m, out)
 }
 
@@ -119,11 +119,11 @@ pub fn edit(
     ensures { λ r. ⌜ Edits (formOf alone) (holderOf set id) tag (changeOf removal (now (value .entry))) (now (packet .entry)) (now (out .entry)) r (now (out .exit)) ⌝ }
 {
     let glances = items::quick::glances();
-    let c = checks::check(&glances, packet, alone);
+    let c = check_packet::check(&glances, packet, alone);
     let Checked::Fine(_) = c else {
         return refusal(c);
     };
-    let from = checks::set_start(packet, alone);
+    let from = check_packet::set_start(packet, alone);
     let s = &packet[from..];
     edit_set(&glances, s, alone, set, id, tag, removal, value, out)
 }

@@ -26,7 +26,7 @@ pub fn open(out: &mut [u8], alone: bool, n: usize) -> usize
     if alone {
         let key = coding::key();
         let at = stores::copy(out, 0, &key);
-        return coded::put_len(out, at, n + 4);
+        return store_coded::put_len(out, at, n + 4);
     }
     0
 }

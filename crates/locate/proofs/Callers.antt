@@ -9,8 +9,8 @@ use lib.Dec.{leb}
 use Rattle.format.specs.Answer.{Ans, ok, refused}
 use Rattle.format.specs.Table.{Form}
 use Rattle.format.specs.Rows.{Row, rowsOf, locate}
-use Rattle.rows.specs.Meet.{numbers}
-use Rattle.rows.proofs.Numbers.{numbers-long}
+use Rattle.write_rows.specs.Meet.{numbers}
+use Rattle.write_rows.proofs.Numbers.{numbers-long}
 use Rattle.answers.specs.declared.Answer.{Answer}
 use Rattle.answers.specs.Meet.{leftOf}
 use Rattle.answers.proofs.Results.{call-refused}

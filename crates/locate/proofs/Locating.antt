@@ -13,16 +13,16 @@ use Rattle.format.specs.Read.{opening, start, parse}
 use Rattle.format.specs.Rows.{Row, rowsOf, locate}
 use Rattle.format.proofs.demands.Sizes.{sizes as size-law}
 use Rattle.items.proofs.Tests.{bind-so, bind-not}
-use Rattle.levels.specs.declared.Sizes.{Sizes}
-use Rattle.checks.specs.declared.Checked.{Checked}
-use Rattle.checks.specs.declared.Checked.the-variants.{Fine, Wrong}
-use Rattle.checks.specs.Meet.{checkedOf}
-use Rattle.checks.proofs.Parsing.{wrong-parsed}
-use Rattle.checks.proofs.Opened.{fine, opened, start-is, lentSet, lent-is}
+use Rattle.tally.specs.declared.Sizes.{Sizes}
+use Rattle.check_packet.specs.declared.Checked.{Checked}
+use Rattle.check_packet.specs.declared.Checked.the-variants.{Fine, Wrong}
+use Rattle.check_packet.specs.Meet.{checkedOf}
+use Rattle.check_packet.proofs.Parsing.{wrong-parsed}
+use Rattle.check_packet.proofs.Opened.{fine, opened, start-is, lentSet, lent-is}
 use Rattle.stores.proofs.Stores.{sets-start}
-use Rattle.rows.specs.Meet.{numbers, levelNumbers}
-use Rattle.rows.proofs.Numbers.{numbers-long, level-set}
-use Rattle.rows.proofs.Packet.{rows-whole}
+use Rattle.write_rows.specs.Meet.{numbers, levelNumbers}
+use Rattle.write_rows.proofs.Numbers.{numbers-long, level-set}
+use Rattle.write_rows.proofs.Packet.{rows-whole}
 use Rattle.answers.specs.declared.Answer.{Answer}
 use Rattle.answers.specs.Meet.{leftOf, answerOf, refusalOf}
 use Rattle.locate.specs.Meet.{leavesRows}

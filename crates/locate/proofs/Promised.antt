@@ -17,8 +17,8 @@ use Rattle.format.proofs.demands.Demand1.{numbered}
 use Rattle.format.proofs.reading.Packets.{lies-parses}
 use Rattle.format.proofs.demands.Accepted.{read-is}
 use Rattle.format.proofs.demands.Rows.{locates, one-rows, locate-points}
-use Rattle.rows.specs.declared.table.Row as table
-use Rattle.rows.specs.Meet.{rowOf}
+use Rattle.write_rows.specs.declared.table.Row as table
+use Rattle.write_rows.specs.Meet.{rowOf}
 use Rattle.answers.specs.declared.Answer.{Answer}
 use Rattle.answers.specs.Meet.{leftOf, answerOf}
 use Rattle.answers.specs.Given.{Given, Refusing, Accepted}

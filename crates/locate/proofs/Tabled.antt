@@ -13,10 +13,10 @@ use Rattle.format.specs.Table.{Form}
 use Rattle.format.specs.Room.{leaves}
 use Rattle.format.specs.Rows.{Row, rowsOf, locate}
 use Rattle.format.proofs.demands.Sizes.{sizes as size-law}
-use Rattle.rows.specs.declared.table.Row as table
-use Rattle.rows.specs.Meet.{numbers, rowOf, tableOf}
-use Rattle.rows.proofs.Numbers.{numbers-long}
-use Rattle.rows.proofs.Filling.{table-back}
+use Rattle.write_rows.specs.declared.table.Row as table
+use Rattle.write_rows.specs.Meet.{numbers, rowOf, tableOf}
+use Rattle.write_rows.proofs.Numbers.{numbers-long}
+use Rattle.write_rows.proofs.Filling.{table-back}
 use Rattle.answers.specs.declared.Answer.{Answer}
 use Rattle.answers.specs.Meet.{leftOf, answerOf}
 use Rattle.answers.proofs.Results.{call-refused}

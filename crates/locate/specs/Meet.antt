@@ -9,8 +9,8 @@ use Rattle.format.specs.Answer.{Ans, ok, refused}
 use Rattle.format.specs.Table.{Form}
 use Rattle.format.specs.Rows.{Row, locate}
 use Rattle.format.specs.Room.{Left, leaves}
-use Rattle.rows.specs.declared.table.Row as table
-use Rattle.rows.specs.Meet.{numbers, rowOf, tableOf}
+use Rattle.write_rows.specs.declared.table.Row as table
+use Rattle.write_rows.specs.Meet.{numbers, rowOf, tableOf}
 use Rattle.answers.specs.declared.Answer.{Answer}
 use Rattle.answers.specs.Meet.{leftOf}
 

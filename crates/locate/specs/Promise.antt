@@ -9,8 +9,8 @@ use Rattle.format.specs.Table.{Form}
 use Rattle.format.specs.Calls.{read}
 use Rattle.format.specs.Rows.{Row}
 use Rattle.format.specs.demands.Rows.{RowsPoint}
-use Rattle.rows.specs.declared.table.Row as table
-use Rattle.rows.specs.Meet.{numbers, rowOf}
+use Rattle.write_rows.specs.declared.table.Row as table
+use Rattle.write_rows.specs.Meet.{numbers, rowOf}
 use Rattle.answers.specs.declared.Answer.{Answer}
 use Rattle.answers.specs.Meet.{answerOf}
 use Rattle.answers.specs.Given.{Given, Refusing, Accepted}

@@ -5,22 +5,22 @@ ghost use Rattle.locate.specs.Meet.{Locates};
 use answers::Answer;
 use answers::answer_of;
 use answers::refusal;
-use checks::Checked;
+use check_packet::Checked;
 
 // A packet's rows, as numbers, four to a row.
 pub fn locate_numbers(packet: &[u8], alone: bool, rows: &mut [u64]) -> Answer
     ensures { λ r. ⌜ Locates (formOf alone) (now (packet .entry)) (now (rows .entry)) r (now (rows .exit)) ⌝ }
 {
     let glances = items::quick::glances();
-    let c = checks::check(&glances, packet, alone);
+    let c = check_packet::check(&glances, packet, alone);
     let Checked::Fine(sizes) = c else {
         return refusal(c);
     };
     if rows.len() < 4 * sizes.rows {
         return answer_of(16, sizes.rows);
     }
-    let from = checks::set_start(packet, alone);
-    rows::item_rows(&packet[from..], from, 0, true, alone, rows);
+    let from = check_packet::set_start(packet, alone);
+    write_rows::item_rows(&packet[from..], from, 0, true, alone, rows);
     answer_of(0, sizes.rows)
 }
 

@@ -6,7 +6,7 @@ ghost use Rattle.format.specs.Rows as Rows;
 ghost use Rattle.items.specs.Meet.{formOf};
 ghost use Rattle.locate.specs.Meet.{Tables, countOf, Filled};
 use answers::Answer;
-use rows::table::Row;
+use write_rows::table::Row;
 
 // How many rows an answer says to be written: none, if it is a refusal.
 fn count_of(a: Answer) -> usize
@@ -34,6 +34,6 @@ pub fn locate(packet: &[u8], alone: bool, rows: &mut [Row]) -> Answer
 {
     let mut numbers = [0u64; 16384];
     let a = numbered(packet, alone, rows.len(), &mut numbers);
-    rows::table::fill_rows(&numbers, count_of(a), rows);
+    write_rows::table::fill_rows(&numbers, count_of(a), rows);
     a
 }

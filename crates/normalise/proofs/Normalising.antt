@@ -21,18 +21,18 @@ use Rattle.format.proofs.sheets.Normal.{entries-less}
 use Rattle.format.proofs.sheets.Same.{normal-less, normal-same}
 use Rattle.format.specs.Valid.{All}
 use Rattle.items.proofs.Tests.{bind-so, bind-not}
-use Rattle.levels.specs.declared.Sizes.{Sizes}
-use Rattle.levels.specs.Meet.{total, weightOfEntry}
-use Rattle.levels.specs.Runs.{levelRun}
-use Rattle.checks.specs.declared.Checked.{Checked}
-use Rattle.checks.specs.declared.Checked.the-variants.{Fine, Wrong}
-use Rattle.checks.specs.Meet.{checkedOf}
-use Rattle.checks.proofs.Closings.{inner-less}
-use Rattle.checks.proofs.Parsing.{wrong-parsed}
-use Rattle.checks.proofs.Opened.{fine, opened, lentSet, lent-is}
+use Rattle.tally.specs.declared.Sizes.{Sizes}
+use Rattle.tally.specs.Meet.{total, weightOfEntry}
+use Rattle.tally.specs.Runs.{levelRun}
+use Rattle.check_packet.specs.declared.Checked.{Checked}
+use Rattle.check_packet.specs.declared.Checked.the-variants.{Fine, Wrong}
+use Rattle.check_packet.specs.Meet.{checkedOf}
+use Rattle.check_packet.proofs.Closings.{inner-less}
+use Rattle.check_packet.proofs.Parsing.{wrong-parsed}
+use Rattle.check_packet.proofs.Opened.{fine, opened, lentSet, lent-is}
 use Rattle.frames.specs.Meet.{frameSize}
-use Rattle.normals.specs.Meet.{levelNormal, InnerRun}
-use Rattle.normals.proofs.Packet.{normal-whole, inner-run}
+use Rattle.write_normal.specs.Meet.{levelNormal, InnerRun}
+use Rattle.write_normal.proofs.Packet.{normal-whole, inner-run}
 use Rattle.answers.specs.declared.Answer.{Answer}
 use Rattle.answers.specs.Meet.{leftOf, refusalOf}
 use Rattle.answers.proofs.Leaving.{left-refused}

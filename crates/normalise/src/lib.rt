@@ -5,14 +5,14 @@ ghost use Rattle.answers.specs.Calls.{Normalises};
 use answers::Answer;
 use answers::answer_of;
 use answers::refusal;
-use checks::Checked;
+use check_packet::Checked;
 
 // A packet to its normal form: what `write` makes of its sheet, with no sheet between.
 pub fn normalise(packet: &[u8], alone: bool, out: &mut [u8]) -> Answer
     ensures { λ r. ⌜ Normalises (formOf alone) (now (packet .entry)) (now (out .entry)) r (now (out .exit)) ⌝ }
 {
     let glances = items::quick::glances();
-    let c = checks::check(&glances, packet, alone);
+    let c = check_packet::check(&glances, packet, alone);
     let Checked::Fine(sizes) = c else {
         return refusal(c);
     };
@@ -25,11 +25,11 @@ pub fn normalise(packet: &[u8], alone: bool, out: &mut [u8]) -> Answer
         stores::copy_run(out, 0, packet);
         return answer_of(0, size);
     }
-    let from = checks::set_start(packet, alone);
+    let from = check_packet::set_start(packet, alone);
     let a = frames::open(out, alone, sizes.normal);
     let table = items::table();
     let mut bits = [0u64; 64];
-    let n = normals::item_normal(
+    let n = write_normal::item_normal(
         &table,
         &glances,
         &packet[from..],

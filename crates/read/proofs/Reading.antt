@@ -17,15 +17,15 @@ use Rattle.format.specs.Room.{leaves}
 use Rattle.format.proofs.coding.Digits.{length-fixed}
 use Rattle.items.specs.Meet.{formOf}
 use Rattle.items.proofs.Tests.{bind-so, bind-not}
-use Rattle.levels.specs.declared.Sizes.{Sizes}
-use Rattle.checks.specs.declared.Checked.{Checked}
-use Rattle.checks.specs.declared.Checked.the-variants.{Fine, Wrong}
-use Rattle.checks.specs.Meet.{checkedOf}
-use Rattle.checks.proofs.Parsing.{wrong-parsed}
-use Rattle.checks.proofs.Opened.{fine, opened, lentSet, lent-is}
+use Rattle.tally.specs.declared.Sizes.{Sizes}
+use Rattle.check_packet.specs.declared.Checked.{Checked}
+use Rattle.check_packet.specs.declared.Checked.the-variants.{Fine, Wrong}
+use Rattle.check_packet.specs.Meet.{checkedOf}
+use Rattle.check_packet.proofs.Parsing.{wrong-parsed}
+use Rattle.check_packet.proofs.Opened.{fine, opened, lentSet, lent-is}
 use Rattle.stores.proofs.Stores.{sets-append, tail-length, tail-stored}
-use Rattle.sheets.specs.Meet.{levelSheet}
-use Rattle.sheets.proofs.Packet.{sheet-whole}
+use Rattle.write_sheet.specs.Meet.{levelSheet}
+use Rattle.write_sheet.proofs.Packet.{sheet-whole}
 use Rattle.answers.specs.declared.Answer.{Answer}
 use Rattle.answers.specs.Meet.{leftOf, answerOf, refusalOf}
 use Rattle.answers.proofs.Leaving.{left-refused, left-short, left-whole}

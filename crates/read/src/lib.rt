@@ -7,7 +7,7 @@ ghost use Rattle.answers.specs.Calls.{Reads};
 use answers::Answer;
 use answers::answer_of;
 use answers::refusal;
-use checks::Checked;
+use check_packet::Checked;
 
 // `PK` and the form, as one number.
 fn head_of(alone: bool) -> u64
@@ -21,16 +21,16 @@ pub fn read(packet: &[u8], alone: bool, sheet: &mut [u8]) -> Answer
     ensures { λ r. ⌜ Reads (formOf alone) (now (packet .entry)) (now (sheet .entry)) r (now (sheet .exit)) ⌝ }
 {
     let glances = items::quick::glances();
-    let c = checks::check(&glances, packet, alone);
+    let c = check_packet::check(&glances, packet, alone);
     let Checked::Fine(sizes) = c else {
         return refusal(c);
     };
     if sheet.len() < sizes.sheet {
         return answer_of(16, sizes.sheet);
     }
-    let from = checks::set_start(packet, alone);
+    let from = check_packet::set_start(packet, alone);
     stores::put_number(sheet, 0, head_of(alone), 3);
     let table = items::table();
-    sheets::item_sheet(&table, &packet[from..], true, alone, &mut sheet[3..]);
+    write_sheet::item_sheet(&table, &packet[from..], true, alone, &mut sheet[3..]);
     answer_of(0, sizes.sheet)
 }

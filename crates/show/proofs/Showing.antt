@@ -23,17 +23,17 @@ use Rattle.format.proofs.rows.Find.{number-snoc}
 use Rattle.coding.proofs.Rooms.{tail-part}
 use Rattle.items.proofs.Tests.{bind-so}
 use Rattle.heads.proofs.Heads.{mid-part}
-use Rattle.levels.specs.declared.Sizes.{Sizes}
-use Rattle.levels.proofs.Parsed.{Sealing, Parsed}
-use Rattle.checks.specs.declared.Checked.{Checked}
-use Rattle.checks.specs.declared.Checked.the-variants.{Fine, Wrong}
-use Rattle.checks.specs.Meet.{checkedOf}
-use Rattle.checks.proofs.Parsing.{wrong-parsed}
-use Rattle.checks.proofs.Opened.{fine, opened, start-is, set-room, lentSet, lent-is}
+use Rattle.tally.specs.declared.Sizes.{Sizes}
+use Rattle.tally.proofs.Parsed.{Sealing, Parsed}
+use Rattle.check_packet.specs.declared.Checked.{Checked}
+use Rattle.check_packet.specs.declared.Checked.the-variants.{Fine, Wrong}
+use Rattle.check_packet.specs.Meet.{checkedOf}
+use Rattle.check_packet.proofs.Parsing.{wrong-parsed}
+use Rattle.check_packet.proofs.Opened.{fine, opened, start-is, set-room, lentSet, lent-is}
 use Rattle.spots.specs.Meet.{thingsOf, entriesOf}
-use Rattle.rows.proofs.Packet.{rows-whole}
-use Rattle.edits.specs.Meet.{holderOf}
-use Rattle.edits.proofs.Finds.{some-of}
+use Rattle.write_rows.proofs.Packet.{rows-whole}
+use Rattle.edit_rules.specs.Meet.{holderOf}
+use Rattle.edit_rules.proofs.Finds.{some-of}
 use Rattle.shows.specs.declared.Value.{Value}
 use Rattle.shows.specs.Meet.{valueOf, rowFor, rowIn}
 use Rattle.show.specs.declared.Part.{Part}

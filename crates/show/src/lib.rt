@@ -6,14 +6,14 @@ ghost use lib.ListN.{length};
 ghost use Rattle.format.specs.Read.{parse};
 ghost use Rattle.format.specs.Show as Show;
 ghost use Rattle.items.specs.Meet.{formOf};
-ghost use Rattle.levels.specs.declared.Sizes.{Sizes};
-ghost use Rattle.checks.specs.declared.Checked.the-variants.{Fine};
-ghost use Rattle.checks.specs.Meet.{checkedOf};
-ghost use Rattle.edits.specs.Meet.{holderOf};
+ghost use Rattle.tally.specs.declared.Sizes.{Sizes};
+ghost use Rattle.check_packet.specs.declared.Checked.the-variants.{Fine};
+ghost use Rattle.check_packet.specs.Meet.{checkedOf};
+ghost use Rattle.edit_rules.specs.Meet.{holderOf};
 ghost use Rattle.shows.specs.Meet.{valueOf};
 ghost use Rattle.show.specs.Meet.{rowNamed, noPart};
 ghost use Rattle.show.specs.Shows.{Names, Shows};
-use checks::Checked;
+use check_packet::Checked;
 use shows::Value;
 
 // Which part of which of the two packets is shown.
@@ -52,7 +52,7 @@ fn value_in(packet: &[u8], alone: bool, set: bool, id: u64, tag: u64) -> Value
     requires { ⌜ (Show.showable (holderOf set id) tag ≡ true) × ((a : Sizes) × (checkedOf (parse (formOf alone) (now packet)) ≡ Fine a)) ⌝ }
     ensures { λ r. ⌜ (r ≡ valueOf (rowNamed (holderOf set id) tag (parse (formOf alone) (now (packet .entry))))) × (r .offset + r .size ≤ length (now (packet .entry))) ⌝ }
 {
-    let from = checks::set_start(packet, alone);
+    let from = check_packet::set_start(packet, alone);
     shows::value_at(&packet[from..], from, alone, set, id, tag)
 }
 
@@ -61,11 +61,11 @@ pub fn shown(reviewer: &[u8], detector: &[u8], alone: bool, set: bool, id: u64, 
     ensures { λ r. ⌜ Names (formOf alone) (now (reviewer .entry)) (now (detector .entry)) (holderOf set id) tag r ⌝ }
 {
     let glances = items::quick::glances();
-    let a = checks::check(&glances, reviewer, alone);
+    let a = check_packet::check(&glances, reviewer, alone);
     let Checked::Fine(_) = a else {
         return nothing();
     };
-    let b = checks::check(&glances, detector, alone);
+    let b = check_packet::check(&glances, detector, alone);
     let Checked::Fine(_) = b else {
         return nothing();
     };

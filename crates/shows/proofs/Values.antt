@@ -21,15 +21,15 @@ use Rattle.format.proofs.words.Keys.{all-map}
 use Rattle.format.proofs.reading.Packets.{set-says, set-once}
 use Rattle.format.proofs.rows.Find.{OneSeries, one-series}
 use Rattle.items.proofs.Tests.{bind-not}
-use Rattle.levels.specs.Meet.{stepAt, deepenAt}
-use Rattle.levels.specs.Runs.{Ran, levelRun}
+use Rattle.tally.specs.Meet.{stepAt, deepenAt}
+use Rattle.tally.specs.Runs.{Ran, levelRun}
 use Rattle.spots.specs.declared.Spot.{Spot}
 use Rattle.spots.specs.Meet.{thingsOf, hasTag, entriesOf, packsOf, entryLead}
 use Rattle.spots.proofs.Splices.{Missed, ask-absent}
 use Rattle.spots.proofs.Seeks.{inside, inside-long}
 use Rattle.spots.proofs.Entries.{TagFound, tag-hit, tag-at, tag-from, tag-room, tag-one, tag-series, series-hit}
 use Rattle.spots.proofs.Packs.{IdFound, id-hit, id-at, id-pack}
-use Rattle.edits.specs.Meet.{holderOf}
+use Rattle.edit_rules.specs.Meet.{holderOf}
 use Rattle.shows.specs.declared.Value.{Value}
 use Rattle.shows.specs.Meet.{valueOf, rowFor, rowIn, packRowIn}
 use Rattle.shows.proofs.Passing.{Passed, past-entries, pack-row, target-row}

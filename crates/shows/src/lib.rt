@@ -11,9 +11,9 @@ ghost use Rattle.format.specs.Rows.{entryRows};
 ghost use Rattle.format.specs.Edit.{target};
 ghost use Rattle.format.specs.Show.{showable};
 ghost use Rattle.items.specs.Meet.{formOf, levelOf};
-ghost use Rattle.levels.specs.Runs.{Ran, levelRun, seriesRun};
+ghost use Rattle.tally.specs.Runs.{Ran, levelRun, seriesRun};
 ghost use Rattle.spots.specs.Meet.{entriesOf, packsOf};
-ghost use Rattle.edits.specs.Meet.{holderOf, SetOf};
+ghost use Rattle.edit_rules.specs.Meet.{holderOf, SetOf};
 ghost use Rattle.shows.specs.Meet.{valueOf, rowFor, rowIn, packRowIn};
 
 // Where a value stands: whether it is there, its offset from the packet's start, and its length.

@@ -26,9 +26,9 @@ use Rattle.coding.proofs.Rooms.{tail-part}
 use Rattle.heads.specs.declared.Head.{Head}
 use Rattle.heads.specs.declared.Head.the-variants as heads
 use Rattle.heads.specs.Meet.{itemHeadOf}
-use Rattle.levels.specs.Meet.{deepenAt, stepAt}
-use Rattle.levels.specs.Runs.{Ran, levelRun, seriesRun}
-use Rattle.levels.proofs.Steps.{EntryHere, entry-here, no-head-entry}
+use Rattle.tally.specs.Meet.{deepenAt, stepAt}
+use Rattle.tally.specs.Runs.{Ran, levelRun, seriesRun}
+use Rattle.tally.proofs.Steps.{EntryHere, entry-here, no-head-entry}
 use Rattle.spots.specs.declared.Spot.{Spot}
 use Rattle.spots.specs.Meet.{spot, noSpot, spotIn, thingsOf, hasItem, hasTag, entriesOf, itemLead, entryLead, itemSpot, entrySpot}
 use Rattle.spots.proofs.Splices.{Missed, Hit, spot-present, spot-absent, spot-room}

@@ -21,9 +21,9 @@ use Rattle.coding.proofs.Rooms.{tail-part}
 use Rattle.heads.specs.declared.Head.{Head}
 use Rattle.heads.specs.declared.Head.the-variants as heads
 use Rattle.heads.specs.Meet.{packHeadOf}
-use Rattle.levels.specs.Runs.{Ran, levelRun, seriesRun}
-use Rattle.levels.proofs.PackTurns.{drop-take}
-use Rattle.levels.proofs.Steps.{PackHere, pack-here, no-head-pack}
+use Rattle.tally.specs.Runs.{Ran, levelRun, seriesRun}
+use Rattle.tally.proofs.PackTurns.{drop-take}
+use Rattle.tally.proofs.Steps.{PackHere, pack-here, no-head-pack}
 use Rattle.spots.specs.declared.Spot.{Spot}
 use Rattle.spots.specs.Meet.{spot, noSpot, hasId, packsOf, packLead, packSpot}
 use Rattle.spots.proofs.Splices.{Missed, Hit, spot-present, spot-absent}

@@ -13,7 +13,7 @@ use Rattle.format.specs.Run.{Step, always, run}
 use Rattle.format.proofs.words.Bytes.{bytes-take, bytes-drop}
 use Rattle.format.proofs.words.Flats.{flat-append, flat-snoc}
 use Rattle.format.proofs.reading.Runs.{Along, Faithful, ReadsAt, RanAll, all-says}
-use Rattle.levels.specs.Runs.{Ran}
+use Rattle.tally.specs.Runs.{Ran}
 use Rattle.spots.specs.declared.Spot.{Spot}
 use Rattle.spots.specs.Meet.{spot, noSpot, spotIn, thingsOf}
 use Rattle.spots.proofs.Splices.{all-snoc, Missed, Hit, spot-past, spot-hit, hit-spot}

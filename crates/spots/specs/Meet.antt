@@ -8,7 +8,7 @@ use Rattle.format.specs.Answer.{Ans, ok, refused, Got}
 use Rattle.format.specs.Coding.{oidBytes}
 use Rattle.format.specs.Table.{Form, Level}
 use Rattle.format.specs.Packet.{Item, Pack, Entry, plain, series, tagOfEntry, flatItem, flatPack, flatEntry}
-use Rattle.levels.specs.Runs.{levelRun, seriesRun}
+use Rattle.tally.specs.Runs.{levelRun, seriesRun}
 use Rattle.spots.specs.declared.Spot.{Spot}
 
 abbrev pub spot : ℕ → ℕ → ℕ → ℕ → Spot

@@ -3,7 +3,7 @@ ghost use mathlib.Core.Path.{_≡_};
 ghost use Prim.Native.Nat.{_≤_};
 ghost use lib.ListN.{length};
 ghost use Rattle.items.specs.Meet.{formOf, levelOf};
-ghost use Rattle.levels.specs.Runs.{Ran, levelRun, seriesRun};
+ghost use Rattle.tally.specs.Runs.{Ran, levelRun, seriesRun};
 ghost use Rattle.spots.specs.Meet.{noSpot, entrySpot, packSpot};
 use heads::Head;
 

@@ -17,15 +17,15 @@ use Rattle.format.specs.Room.{leaves}
 use Rattle.items.specs.Meet.{formOf}
 use Rattle.items.proofs.Tests.{bind-so, bind-not}
 use Rattle.coding.proofs.Rooms.{tail-part}
-use Rattle.levels.specs.Meet.{total, weightOfPart}
-use Rattle.levels.specs.Runs.{Ran}
-use Rattle.sheet_checks.specs.declared.Sheeted.{Sheeted}
-use Rattle.sheet_checks.specs.declared.Sheeted.the-variants.{Fine, Wrong}
-use Rattle.sheet_checks.specs.Meet.{sheetedOf}
-use Rattle.sheet_checks.proofs.Sizings.{packet-large, inner-less}
+use Rattle.tally.specs.Meet.{total, weightOfPart}
+use Rattle.tally.specs.Runs.{Ran}
+use Rattle.check_sheet.specs.declared.Sheeted.{Sheeted}
+use Rattle.check_sheet.specs.declared.Sheeted.the-variants.{Fine, Wrong}
+use Rattle.check_sheet.specs.Meet.{sheetedOf}
+use Rattle.check_sheet.proofs.Sizings.{packet-large, inner-less}
 use Rattle.frames.specs.Meet.{frameSize}
-use Rattle.packets.specs.Meet.{recordsRun, recordsNormal, InnerParts}
-use Rattle.packets.proofs.Sheet.{SheetRead, sheet-read, packet-whole, parts-ran, inner-parts}
+use Rattle.write_packet.specs.Meet.{recordsRun, recordsNormal, InnerParts}
+use Rattle.write_packet.proofs.Sheet.{SheetRead, sheet-read, packet-whole, parts-ran, inner-parts}
 use Rattle.answers.specs.declared.Answer.{Answer}
 use Rattle.answers.specs.Meet.{leftOf}
 use Rattle.answers.proofs.Leaving.{left-refused}

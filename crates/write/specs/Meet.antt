@@ -1,6 +1,6 @@
 -- Where `write` meets document 01: a sheet's refusal as an answer.
-use Rattle.sheet_checks.specs.declared.Sheeted.{Sheeted}
-use Rattle.sheet_checks.specs.declared.Sheeted.the-variants as sheeted
+use Rattle.check_sheet.specs.declared.Sheeted.{Sheeted}
+use Rattle.check_sheet.specs.declared.Sheeted.the-variants as sheeted
 use Rattle.answers.specs.declared.Answer.{Answer}
 use Rattle.answers.specs.Meet.{answerOf}
 

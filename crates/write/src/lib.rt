@@ -4,7 +4,7 @@ ghost use Rattle.answers.specs.Calls.{Writes};
 ghost use Rattle.write.specs.Meet.{sheetRefusal};
 use answers::Answer;
 use answers::answer_of;
-use sheet_checks::Sheeted;
+use check_sheet::Sheeted;
 
 // A refusal of a sheet passed up.
 fn sheet_refusal(c: Sheeted) -> Answer
@@ -24,7 +24,7 @@ fn sheet_refusal(c: Sheeted) -> Answer
 pub fn write(sheet: &[u8], packet: &mut [u8]) -> Answer
     ensures { λ r. ⌜ Writes (now (sheet .entry)) (now (packet .entry)) r (now (packet .exit)) ⌝ }
 {
-    let c = sheet_checks::check(sheet);
+    let c = check_sheet::check(sheet);
     let Sheeted::Fine {
         alone,
         normal,
@@ -41,7 +41,7 @@ pub fn write(sheet: &[u8], packet: &mut [u8]) -> Answer
         return answer_of(16, size);
     }
     let a = frames::open(packet, alone, normal);
-    let n = packets::item_packet(&sheet[3..], true, alone, inner, &mut packet[a..]);
+    let n = write_packet::item_packet(&sheet[3..], true, alone, inner, &mut packet[a..]);
     frames::close(packet, alone, a + n);
     answer_of(0, size)
 }

@@ -2,8 +2,8 @@
 use mathlib.Core.Path.{sym, ap, _∙_}
 use borrow.Author.Needs.{needs}
 use Rattle.format.specs.Room.{leaves}
-use Rattle.checks.proofs.Opened.{opened, set-room}
-use Rattle.edits.proofs.Callers.{set-is, edit-is}
+use Rattle.check_packet.proofs.Opened.{opened, set-room}
+use Rattle.edit_rules.proofs.Callers.{set-is, edit-is}
 use Rattle.edit.proofs.Editing.{edit-unread}
 use Rattle.edit.proofs.edit.Statement.{statement}
 use Rattle.edit.proofs.edit.Tie as tie

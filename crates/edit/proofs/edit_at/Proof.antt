@@ -3,8 +3,8 @@
 use mathlib.Core.Path.{refl}
 use native.Mathlib.Omega.{arith}
 use borrow.Author.Needs.{needs}
-use Rattle.edits.proofs.Storing.{tag-high, puttable}
-use Rattle.edits.proofs.Callers.{edited-small}
+use Rattle.edit_rules.proofs.Storing.{tag-high, puttable}
+use Rattle.edit_rules.proofs.Callers.{edited-small}
 use Rattle.answers.proofs.Framed.{open-asked, rest-from, rest-room, entries-end, close-asked, all-written}
 use Rattle.answers.proofs.Packing.{packs-long, packs-short, packs-fit, packs-done}
 use Rattle.edit.proofs.Editing.{edit-packs}

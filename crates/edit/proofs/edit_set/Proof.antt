@@ -2,8 +2,8 @@
 use mathlib.Core.Path.{refl, sym, ap, _∙_}
 use borrow.Author.Needs.{needs}
 use Rattle.format.specs.Room.{leaves}
-use Rattle.edits.proofs.Storing.{puttable}
-use Rattle.edits.proofs.Callers.{judged-yes}
+use Rattle.edit_rules.proofs.Storing.{puttable}
+use Rattle.edit_rules.proofs.Callers.{judged-yes}
 use Rattle.edit.proofs.Editing.{not-long, set-refused, set-over, set-packed}
 use Rattle.edit.proofs.edit_set.Statement.{statement}
 use Rattle.edit.proofs.edit_set.Tie as tie

@@ -2,7 +2,7 @@
 -- In each answer a is where the check was found fine, and k where the set begins.
 use native.Mathlib.Omega.{arith}
 use borrow.Author.Needs.{needs}
-use Rattle.checks.proofs.Opened.{opened, set-room, set-ran, set-long}
+use Rattle.check_packet.proofs.Opened.{opened, set-room, set-ran, set-long}
 use Rattle.locate.proofs.Locating.{locate-refused, found-few, locate-short, found-size, locate-done}
 use Rattle.locate.proofs.locate_numbers.Statement.{statement}
 use Rattle.locate.proofs.locate_numbers.Tie as tie

@@ -3,7 +3,7 @@
 -- copied; and else k where the set begins, o where the packet was opened, and n where its entries were written.
 use native.Mathlib.Omega.{arith}
 use borrow.Author.Needs.{needs}
-use Rattle.checks.proofs.Opened.{opened, set-room, set-ran, set-long}
+use Rattle.check_packet.proofs.Opened.{opened, set-room, set-ran, set-long}
 use Rattle.answers.proofs.Framed.{open-asked, rest-from, rest-room, entries-end, close-asked, all-written}
 use Rattle.answers.proofs.Packing.{packs-short, packs-fit, packs-done}
 use Rattle.normalise.proofs.Normalising.{normal-refused, normal-small, normal-packs, normal-within, normal-copied, written-is, inner-asked}

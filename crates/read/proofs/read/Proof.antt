@@ -2,7 +2,7 @@
 -- In each answer a is where the check was found fine, k where the set begins, and h where the sheet's head is known.
 use native.Mathlib.Omega.{arith}
 use borrow.Author.Needs.{needs}
-use Rattle.checks.proofs.Opened.{opened, set-room, set-ran, set-long}
+use Rattle.check_packet.proofs.Opened.{opened, set-room, set-ran, set-long}
 use Rattle.read.proofs.Reading.{head-bytes, read-refused, read-short, set-size, rest-from, rest-room, read-done}
 use Rattle.read.proofs.read.Statement.{statement}
 use Rattle.read.proofs.read.Tie as tie

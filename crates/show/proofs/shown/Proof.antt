@@ -3,7 +3,7 @@
 use mathlib.Core.Path.{sym, _∙_}
 use borrow.Author.Tests.{not-true, not-false}
 use Rattle.items.specs.Meet.{formOf}
-use Rattle.edits.specs.Meet.{holderOf}
+use Rattle.edit_rules.specs.Meet.{holderOf}
 use Rattle.show.proofs.Showing.{reviewer-wrong, detector-wrong, unnamed, reviewers, detectors, neithers}
 use borrow.Author.Needs.{needs}
 use Rattle.show.proofs.shown.Statement.{statement}

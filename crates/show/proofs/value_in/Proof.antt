@@ -2,9 +2,9 @@
 use mathlib.Core.Path.{refl}
 use native.Mathlib.Omega.{arith}
 use Rattle.items.specs.Meet.{formOf}
-use Rattle.checks.proofs.Opened.{opened, set-room, set-long}
-use Rattle.edits.specs.Meet.{holderOf}
-use Rattle.edits.proofs.Callers.{set-is}
+use Rattle.check_packet.proofs.Opened.{opened, set-room, set-long}
+use Rattle.edit_rules.specs.Meet.{holderOf}
+use Rattle.edit_rules.proofs.Callers.{set-is}
 use Rattle.show.proofs.Showing.{value-found}
 use borrow.Author.Needs.{needs}
 use Rattle.show.proofs.value_in.Statement.{statement}

@@ -5,7 +5,7 @@ use borrow.Author.Needs.{needs}
 use Rattle.items.specs.Meet.{formOf}
 use Rattle.spots.proofs.pack_spot.Reads as pack-spot-reads
 use Rattle.spots.proofs.Packs.{id-absent, IdFound, id-pack}
-use Rattle.edits.proofs.Finds.{items-asked}
+use Rattle.edit_rules.proofs.Finds.{items-asked}
 use Rattle.shows.proofs.Passing.{pack-none}
 use Rattle.shows.proofs.Values.{not-there, items-lent, pack-there}
 use Rattle.shows.proofs.absent.Reads as absent-reads

@@ -5,7 +5,7 @@ use Rattle.format.specs.Table.{set}
 use Rattle.items.specs.Meet.{formOf}
 use Rattle.spots.proofs.item_spot.Reads as item-spot-reads
 use Rattle.spots.proofs.Entries.{TagFound, tag-room, no-series}
-use Rattle.edits.proofs.Finds.{packs-asked}
+use Rattle.edit_rules.proofs.Finds.{packs-asked}
 use Rattle.shows.proofs.Values.{not-there, series-none, packs-lent, target-there}
 use Rattle.shows.proofs.absent.Reads as absent-reads
 use Rattle.shows.proofs.pack_value.Reads as pack-value-reads

@@ -1,5 +1,5 @@
 -- `shows::value_at` meets its contract.
-use Rattle.edits.specs.Meet.{holderOf}
+use Rattle.edit_rules.specs.Meet.{holderOf}
 use Rattle.shows.proofs.Values.{showable-some, set-showable, of-set, of-target}
 use Rattle.shows.proofs.value_at.Statement.{statement}
 use Rattle.shows.proofs.value_at.Tie as tie

@@ -14,18 +14,18 @@ const ADDRESS: usize = 8;
 
 /// The walks that call themselves or each other, and how often each can stand
 /// on one path: their measures fall from the set's items to its series, and
-/// from there to a pack's items, 2, 1, 0 (`depth` in `levels`, `records` and
+/// from there to a pack's items, 2, 1, 0 (`depth` in `tally`, `check_records` and
 /// the writers).
 const LEVELS: [(&str, usize); 9] = [
-    ("walks::item_rest", 2),
-    ("walks::pack_walk", 1),
-    ("records::item_records", 2),
-    ("records::target_records", 1),
-    ("sheets::item_sheet", 2),
-    ("sheets::rest_sheet", 2),
-    ("sheets::pack_sheet", 1),
-    ("normals::item_normal", 2),
-    ("normals::pack_normal", 1),
+    ("check_items::item_rest", 2),
+    ("check_items::pack_walk", 1),
+    ("check_records::item_records", 2),
+    ("check_records::target_records", 1),
+    ("write_sheet::item_sheet", 2),
+    ("write_sheet::rest_sheet", 2),
+    ("write_sheet::pack_sheet", 1),
+    ("write_normal::item_normal", 2),
+    ("write_normal::pack_normal", 1),
 ];
 
 /// What the C library gives. Its own frame is not the archive's.

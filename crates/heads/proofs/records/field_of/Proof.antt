@@ -1,4 +1,4 @@
--- `records::field_of` meets its contract: the record as it was seen, if it may be named.
+-- `check_records::field_of` meets its contract: the record as it was seen, if it may be named.
 use mathlib.Core.Path.{sym, _∙_}
 use native.Mathlib.Omega.{arith}
 use borrow.Author.Needs.{needs}

@@ -1,4 +1,4 @@
--- `records::is_mark` meets its contract: the two bytes, one after the other.
+-- `check_records::is_mark` meets its contract: the two bytes, one after the other.
 use native.Mathlib.Omega.{arith}
 use borrow.Author.Needs.{needs}
 use Rattle.heads.proofs.Spans.{mark-cut, mark-first, mark-second}

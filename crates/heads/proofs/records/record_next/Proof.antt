@@ -1,4 +1,4 @@
--- `records::record_next` meets its contract, by its flags.
+-- `check_records::record_next` meets its contract, by its flags.
 use borrow.Author.Needs.{needs}
 use Rattle.heads.specs.Records.{peekRecord}
 use Rattle.heads.proofs.records.record_next.Statement.{statement}

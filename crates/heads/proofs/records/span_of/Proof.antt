@@ -1,4 +1,4 @@
--- `records::span_of` meets its contract: the loop passes one record after the other.
+-- `check_records::span_of` meets its contract: the loop passes one record after the other.
 use Prim.Native.Nat.{_-_}
 use lib.ListN.{length}
 use native.Mathlib.Omega.{arith}

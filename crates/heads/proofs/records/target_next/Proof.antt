@@ -1,4 +1,4 @@
--- `records::target_next` meets its contract, by the bytes that are there.
+-- `check_records::target_next` meets its contract, by the bytes that are there.
 use mathlib.Core.Path.{sym, _∙_}
 use mathlib.Core.Bool.{false}
 use native.Mathlib.Omega.{arith}

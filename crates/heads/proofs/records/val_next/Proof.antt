@@ -1,4 +1,4 @@
--- `records::val_next` meets its contract, by the bytes that are there.
+-- `check_records::val_next` meets its contract, by the bytes that are there.
 use native.Mathlib.Omega.{arith}
 use borrow.Author.Needs.{needs}
 use Rattle.heads.proofs.Spans.{val-cut, val-over, val-whole}

@@ -46,13 +46,13 @@ use denote.Exit.{yes}
 use borrow.Table.OneValue.{part-out}
 use Rattle.format.specs.Rows as Rows
 use Rattle.items.specs.Meet.{formOf}
-use Rattle.rows.specs.declared.table.Row.{Row}
-use Rattle.rows.specs.Meet.{tableOf}
-use Rattle.rows.proofs.table.Row as T
-use Rattle.rows.proofs.table.fill_rows as fill
-use Rattle.rows.proofs.table.fill_rows.Symbol as fill-def
-use Rattle.rows.proofs.table.fill_rows.Symbol.{name as #fill}
-use Rattle.rows.proofs.table.fill_rows.Met as fill-thm
+use Rattle.write_rows.specs.declared.table.Row.{Row}
+use Rattle.write_rows.specs.Meet.{tableOf}
+use Rattle.write_rows.proofs.table.Row as T
+use Rattle.write_rows.proofs.table.fill_rows as fill
+use Rattle.write_rows.proofs.table.fill_rows.Symbol as fill-def
+use Rattle.write_rows.proofs.table.fill_rows.Symbol.{name as #fill}
+use Rattle.write_rows.proofs.table.fill_rows.Met as fill-thm
 use Rattle.answers.specs.declared.Answer.{Answer}
 use Rattle.answers.specs.Meet.{leftOf}
 use Rattle.answers.proofs.Answer as R

@@ -1,0 +1,15 @@
+-- `check_items::item_walk` meets its contract.
+use Rattle.check_items.proofs.item_walk.Statement.{statement}
+use Rattle.check_items.proofs.item_walk.Tie as tie
+
+run-requires : tie.Need-run-requires
+run-requires c κs = (c .before .before .before .pre .2, c .before .before .before .pre .1)
+
+item-rest-requires : tie.Need-item-rest-requires
+item-rest-requires c κs = (c .before .before .before .before .before .pre .0, c .before .before .before .before .before .pre .1, c .before .run .ensures .0, c .before .before .before .before .before .pre .2)
+
+returns : tie.Need-returns
+returns c = c .item-rest .ensures
+
+pub item-walk-spec : {M : Type 1} → statement M
+item-walk-spec = tie.close (tie.spec run-requires item-rest-requires returns)

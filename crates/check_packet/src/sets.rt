@@ -1,0 +1,168 @@
+// The set of a packet: the quick ways over its items, its series and its checksum, and the walks over what is left.
+ghost use mathlib.Core.Path.{_≡_};
+ghost use Prim.Native.Nat.{_≤_, _<_};
+ghost use mathlib.Core.Bool.{true};
+ghost use lib.ListN.{length};
+ghost use Rattle.format.specs.Table.{set};
+ghost use Rattle.items.specs.Meet.{formOf, glanceTable};
+ghost use Rattle.tally.specs.Meet.{levelWalk, seriesWalk, Within};
+ghost use Rattle.tally.specs.Going.{LevelGoing, SeriesGoing};
+ghost use Rattle.check_packet.specs.Meet.{HeadIf};
+use heads::Head;
+use tally::Walked;
+use tally::quick;
+use tally::quick::Quick;
+
+// The head of the item at p, if that begins with this byte: then most of it is known. Else 0 as a fault.
+fn head_at(s: &[u8], p: usize, byte: u8) -> Head
+    ensures { λ r. ⌜ HeadIf (now (s .entry)) p r ⌝ }
+{
+    if s.len() <= p {
+        return Head::Fault(0);
+    }
+    if s[p] != byte {
+        return Head::Fault(0);
+    }
+    heads::item_head(&s[p..], true)
+}
+
+// Whether a tag is the series', with a value, and told to be new: items stand before it, and none has a tag so high.
+fn is_series_next(p: usize, top: u64, tag: u64, size: usize) -> bool
+    ensures { λ r. ⌜ (r ≡ true → (0 < p) × (top < 101) × (0 < size) × (tag ≡ 101)) ⌝ }
+{
+    if p == 0 {
+        return false;
+    }
+    if 100 < top {
+        return false;
+    }
+    if size == 0 {
+        return false;
+    }
+    tag == 101
+}
+
+// The packs of a series one by one, from where the quick way over them ended.
+fn packs_rest(glances: &[u32], s: &[u8], alone: bool, q: Quick) -> Walked
+    requires { ⌜ (now glances ≡ glanceTable) × (length (now s) ≤ 8192) × SeriesGoing (formOf alone) (now s) (q .at) (q .sizes) (q .top) (q .low) ⌝ }
+    ensures { λ r. ⌜ (r ≡ seriesWalk (formOf alone) (now (s .entry))) × Within r (length (now (s .entry))) ⌝ }
+{
+    let table = items::table();
+    // lent on as a part, so that the compiler keeps the slice itself in registers
+    let mut bits = [0u64; 64];
+    check_items::pack_walk(&table, glances, &s[0..], alone, q, &mut bits)
+}
+
+// On over the series, if it stands next. A refusal in it is left to the item walk, and so is a lone pack that is not told at a glance.
+fn series(glances: &[u32], s: &[u8], alone: bool, q: Quick) -> Quick
+    requires { ⌜ (now glances ≡ glanceTable) × (length (now s) ≤ 8192) × LevelGoing true (formOf alone) (now s) (q .at) (q .sizes) (q .mark) (q .top) (q .low) ⌝ }
+    ensures { λ r. ⌜ LevelGoing true (formOf alone) (now (s .entry)) (r .at) (r .sizes) (r .mark) (r .top) (r .low) ⌝ }
+{
+    let p = q.at;
+    let h = head_at(s, p, 101);
+    let Head::Whole {
+        key,
+        used,
+        width,
+        size,
+    } = h
+    else {
+        return q;
+    };
+    if !is_series_next(p, q.top, key, size) {
+        return q;
+    }
+    let from = p + used + width;
+    let next = from + size;
+    let packs = &s[from..next];
+    if quick_packs::is_lone(packs) {
+        let one = quick_packs::lone(glances, packs, alone);
+        if one.at == packs.len() {
+            return quick::after_series(q, next, one.sizes);
+        }
+        return q;
+    }
+    let d = quick_packs::packs(glances, packs, alone);
+    // no enum goes through memory where all are told at a glance
+    if d.at == packs.len() {
+        return quick::after_series(q, next, d.sizes);
+    }
+    let w = packs_rest(glances, packs, alone, d);
+    let Walked::Good { sizes, mark: _ } = w else {
+        return q;
+    };
+    quick::after_series(q, next, sizes)
+}
+
+// Whether a tag and a length are the checksum's, where it may stand, and the tag is told to be new.
+fn is_seal_next(alone: bool, p: usize, low: u64, tag: u64, size: usize, last: bool) -> bool
+    ensures { λ r. ⌜ (r ≡ true → (alone ≡ true) × (0 < p) × (1 < low) × (tag ≡ 1) × (size ≡ 2) × (last ≡ true)) ⌝ }
+{
+    if !alone {
+        return false;
+    }
+    if p == 0 {
+        return false;
+    }
+    if low <= 1 {
+        return false;
+    }
+    if tag != 1 {
+        return false;
+    }
+    if size != 2 {
+        return false;
+    }
+    last
+}
+
+// On over the checksum, if it stands next.
+fn seal(s: &[u8], alone: bool, q: Quick) -> Quick
+    requires { ⌜ (length (now s) ≤ 8192) × LevelGoing true (formOf alone) (now s) (q .at) (q .sizes) (q .mark) (q .top) (q .low) ⌝ }
+    ensures { λ r. ⌜ LevelGoing true (formOf alone) (now (s .entry)) (r .at) (r .sizes) (r .mark) (r .top) (r .low) ⌝ }
+{
+    let p = q.at;
+    let h = head_at(s, p, 1);
+    let Head::Whole {
+        key,
+        used,
+        width,
+        size,
+    } = h
+    else {
+        return q;
+    };
+    let next = p + used + width + size;
+    if !is_seal_next(alone, p, q.low, key, size, next == s.len()) {
+        return q;
+    }
+    let sum = tally::weights::plus(q.sizes, tally::weights::plain_sizes(true, 1, 2));
+    quick::stands(next, sum, true, tally::larger(q.top, 1), 1)
+}
+
+// The rest of the set, from where the quick way ended: its checksum, or whatever is left, one by one.
+fn set_rest(glances: &[u32], s: &[u8], alone: bool, from: Quick) -> Walked
+    requires { ⌜ (now glances ≡ glanceTable) × (length (now s) ≤ 8192) × LevelGoing true (formOf alone) (now s) (from .at) (from .sizes) (from .mark) (from .top) (from .low) ⌝ }
+    ensures { λ r. ⌜ (r ≡ levelWalk set (formOf alone) (now (s .entry))) × Within r (length (now (s .entry))) ⌝ }
+{
+    let q = seal(s, alone, from);
+    if q.at == s.len() {
+        return quick::walked(q);
+    }
+    let table = items::table();
+    let mut bits = [0u64; 64];
+    check_items::item_rest(&table, glances, s, true, alone, q, &mut bits)
+}
+
+// The items of the set. An embedded one often ends with its series.
+pub fn set_walk(glances: &[u32], s: &[u8], alone: bool) -> Walked
+    requires { ⌜ (now glances ≡ glanceTable) × (length (now s) ≤ 8192) ⌝ }
+    ensures { λ r. ⌜ (r ≡ levelWalk set (formOf alone) (now (s .entry))) × Within r (length (now (s .entry))) ⌝ }
+{
+    let q = series(glances, s, alone, quick::run(glances, s, true, alone));
+    if q.at == s.len() {
+        return quick::walked(q);
+    }
+    // as a part here too
+    set_rest(glances, &s[0..], alone, q)
+}

@@ -1,0 +1,19 @@
+-- `edit_rules::stop_of` meets its contract.
+use mathlib.Core.Path.{ap}
+use native.Mathlib.Omega.{arith}
+use Rattle.items.specs.Meet.{formOf}
+use Rattle.edit_rules.specs.Meet.{sealSize}
+use Rattle.edit_rules.proofs.stop_of.Statement.{statement}
+use Rattle.edit_rules.proofs.stop_of.Tie as tie
+
+sub-result : tie.Need-sub-result
+sub-result c = omega (arith, c .before .pre, ap (λ x. sealSize (formOf x)) (c .if1 .taken))
+
+returns : tie.Need-returns
+returns c = omega (arith, c .before .pre, ap (λ x. sealSize (formOf x)) (c .if1 .taken))
+
+returns-2 : tie.Need-returns-2
+returns-2 c = omega (arith, ap (λ x. sealSize (formOf x)) (c .if1 .left))
+
+pub stop-of-spec : {M : Type 1} → statement M
+stop-of-spec = tie.close (tie.spec sub-result returns returns-2)

@@ -1,0 +1,90 @@
+-- A pack's items as a model: what is laid out as they are is told as they are, and a pack whose items are told is walked.
+use mathlib.Core.Path.{_≡_, refl, sym, subst, _∙_}
+use Prim.Native.Nat.{ℕ, _+_, _-_, _≤_, _<_}
+use native.Mathlib.Omega.{arith}
+use mathlib.Core.Bool.{Bool, true, false, not, _||_}
+use mathlib.Core.List.{List}
+use lib.ListN.{length, take, drop, length-drop}
+use lib.Seq.{getD-take, length-take-le}
+use Rattle.format.specs.Coding.{Bytes}
+use Rattle.format.proofs.words.Bytes.{bytes-drop, bytes-take}
+use Rattle.coding.specs.Alike.{AlikeTo}
+use Rattle.coding.proofs.Alikes.{alike-same, alike-as}
+use Rattle.items.specs.Meet.{formOf}
+use Rattle.heads.specs.Meet.{peek}
+use Rattle.tally.specs.declared.quick.Quick.{Quick}
+use Rattle.quick_packs.specs.declared.Model.{Model}
+use Rattle.tally.specs.Going.{LevelGoing, SeriesGoing, Reached}
+use Rattle.quick_packs.specs.Packs.{Laid, Told, As, Modelled}
+use Rattle.tally.proofs.Glances.{quickSizes, packedSizes, packed-plus}
+use Rattle.tally.proofs.Turns.{turn-done, Fresh, reached-fresh}
+use Rattle.tally.proofs.PackTurns.{PackAt, either-is, head-stood, lent-long, pack-more}
+
+module _ (alone : Bool) {m a : List ℕ} {q : Quick} (l : Laid (formOf alone) m a q) (all : q .at ≡ length a) (located : not alone || q .mark ≡ true) where
+  pub laid-told : (b : List ℕ) → Bytes b → length b ≡ length a → AlikeTo m a b (length a) → Told alone b (1 + q .sizes .rows)
+  laid-told b bytes e h = record {
+    count = q .sizes .rows;
+    mark = q .mark;
+    top = q .top;
+    low = q .low;
+    going =
+        let z : length b ≡ q .at = e ∙ sym all in
+        rw (z, ← l .sizes-are) (l .walked b bytes e (rw (← all) at h));
+    rows-are = refl;
+    located = located;
+  }
+
+-- the items from one place of s to another
+pub part-long : (s : List ℕ) (from next : ℕ) → from ≤ next → next ≤ length s → length (take (next - from) (drop from s)) ≡ next - from
+part-long s from next ordered room = length-take-le (next - from) (drop from s) (rw length-drop (omega arith))
+
+module _ (alone : Bool) (s : List ℕ) (from next : ℕ) {marks : List ℕ} {q : Quick} (l : Laid (formOf alone) marks (take (next - from) (drop from s)) q) (ordered : from ≤ next) (room : next ≤ length s) (all : q .at ≡ next - from)
+    (located : not alone || q .mark ≡ true) where
+  abbrev part : List ℕ
+  part = take (next - from) (drop from s)
+
+  long : length part ≡ next - from
+  long = part-long s from next ordered room
+
+  pub items-told : Bytes s → Told alone part (1 + q .sizes .rows)
+  items-told bytes = laid-told alone l (all ∙ sym long) located part (bytes-take (next - from) (drop from s) (bytes-drop from s bytes)) refl (alike-same _ _ _)
+
+  pub items-model : length marks ≡ 160 → Modelled alone marks s (record { from = from; size = q .at; rows = 1 + q .sizes .rows })
+  items-model marked = record {
+    long = marked;
+    within = omega arith;
+    told = λ _ b bytes e h. laid-told alone l (all ∙ sym long) located b bytes (e ∙ all ∙ sym long) (subst (AlikeTo marks part b) (all ∙ sym long) (alike-as part b (λ i g. sym (getD-take (next - from) (drop from s) i 0 (omega (arith, g, all)))) (λ i g. refl) h));
+  }
+
+-- items laid out as the model's are
+pub as-model : {alone : Bool} {marks s : List ℕ} {m : Model} → Modelled alone marks s m → (from next : ℕ) → from ≤ next → next ≤ length s → Bytes s → (m .size ≡ next - from) × As marks s m from
+    → Told alone (take (next - from) (drop from s)) (m .rows)
+as-model {marks = marks} {s = s} {m = m} l from next ordered room bytes (e, a) =
+    l .told (a .small) (take (next - from) (drop from s)) (bytes-take (next - from) (drop from s) (bytes-drop from s bytes)) (part-long s from next ordered room ∙ sym e)
+    (alike-as (drop (m .from) s) (take (next - from) (drop from s)) (λ i g. refl) (λ i g. sym (getD-take (next - from) (drop from s) i 0 (omega (arith, g, e)))) (a .alike))
+
+-- none, as the code says it
+pub no-items : {alone : Bool} {marks s : List ℕ} {m : Model} → m .from ≡ 0 → m .size ≡ 128 → length marks ≡ 160 → Modelled alone marks s m
+no-items e n long = record { long = long; within = omega (arith, e); told = λ h. absurd (omega (arith, h, n)) }
+
+-- items that the quick way goes over to their end
+pub run-told : (alone : Bool) {b : List ℕ} {q : Quick} → LevelGoing false (formOf alone) b (q .at) (q .sizes) (q .mark) (q .top) (q .low) × (q .sizes ≡ quickSizes (q .sizes .rows) (q .at)) → length b ≡ q .at → not alone || q .mark ≡ true
+    → Told alone b (1 + q .sizes .rows)
+run-told alone {q = q} g all located = record { count = q .sizes .rows; mark = q .mark; top = q .top; low = q .low; going = rw (all, ← g .1) (g .0); rows-are = refl; located = located }
+
+-- a pack whose items are told, in the series
+pub told-more : {alone : Bool} {s : List ℕ} {p rows : ℕ} (more : ℕ) {top low k u w n : ℕ} → PackAt (formOf alone) s p (packedSizes p rows more) top low k u w n → (w ≡ 1) × (n < 128) × (u ≤ 2) → {top′ low′ : ℕ}
+    → Fresh (peek false true false) s p top low k top′ low′ → {r : ℕ} → Told alone (take (p + w + n - (p + w + u)) (drop (p + w + u) s)) r
+    → SeriesGoing (formOf alone) s (p + w + n) (packedSizes (p + w + n) (rows + r) (more + 5 - u)) top′ low′
+told-more {alone = alone} {p = p} {rows = rows} more {w = w} {n = n} i short b {r = r} t =
+    let e : rows + r ≡ rows + 1 + t .count = omega (arith, t .rows-are) in
+    rw e (pack-more i (b .new) refl (turn-done (t .going) (omega arith)) refl (either-is alone (t .mark) (sym (t .located))) refl (packed-plus p rows more w n short (head-stood i .body) (lent-long i (b .new) refl) refl) (b .over) (b .under))
+
+-- the first, as the code has its sizes
+pub told-first : {alone : Bool} {s : List ℕ} {top low k u w n : ℕ} → PackAt (formOf alone) s 0 (packedSizes 0 0 0) top low k u w n → (w ≡ 1) × (n < 128) × (u ≤ 2) → {top′ low′ : ℕ}
+    → Reached 0 top low k top′ low′ → {r : ℕ} → Told alone (take (0 + w + n - (0 + w + u)) (drop (0 + w + u) s)) r
+    → SeriesGoing (formOf alone) s (0 + w + n) (packedSizes (0 + w + n) r (5 - u)) top′ low′
+told-first {u = u} i short b {r = r} t =
+    let z : 0 + r ≡ r = omega arith in
+    let y : 0 + 5 - u ≡ 5 - u = omega arith in
+    rw (← z, ← y) (told-more 0 i short (reached-fresh b) t)

@@ -1,0 +1,70 @@
+-- `quick_packs::model_of` meets its contract.
+use mathlib.Core.Path.{sym, _∙_}
+use native.Mathlib.Omega.{arith}
+use borrow.Author.Tests.{not-false}
+use Rattle.quick_packs.proofs.Models.{no-items, items-told, items-model}
+use borrow.Author.Needs.{needs}
+use Rattle.quick_packs.proofs.model_of.Statement.{statement}
+use Rattle.quick_packs.proofs.model_of.Tie as tie
+
+sub-lay : tie.Need-sub-lay
+sub-lay c = search needs
+
+part-lay-start : tie.Need-part-lay-start
+part-lay-start c = search needs
+
+part-lay-end : tie.Need-part-lay-end
+part-lay-end c = search needs
+
+lay-requires : tie.Need-lay-requires
+lay-requires c κs = search needs
+
+sub-if1 : tie.Need-sub-if1
+sub-if1 c = search needs
+
+no-model-requires : tie.Need-no-model-requires
+no-model-requires c κs = search needs
+
+returns : tie.Need-returns
+returns c = let n = c .no-model .ensures in (no-items (n .0) (n .1) (c .before .before .before .lay .ensures .1), omega (arith, n .0), λ h. absurd (omega (arith, h, n .2)))
+
+either-requires : tie.Need-either-requires
+either-requires c κs = search needs
+
+no-model-requires-2 : tie.Need-no-model-requires-2
+no-model-requires-2 c κs = search needs
+
+returns-2 : tie.Need-returns-2
+returns-2 c = let n = c .no-model2 .ensures in (no-items (n .0) (n .1) (c .before .before .before .before .before .lay .ensures .1), omega (arith, n .0), λ h. absurd (omega (arith, h, n .2)))
+
+add-t9 : tie.Need-add-t9
+add-t9 c =
+    let a = c .before .before .before .before .before .before .before .before .before .before .before in
+    let l = c .before .before .before .before .before .lay .ensures in
+    let located = sym (c .before .before .either .ensures) ∙ not-false _ (c .before .if2 .left) in
+    let t = items-told (a .args .alone) (a .args .s .now) (a .args .from) (a .args .next) (l .0) (a .pre .1) (a .pre .2) (omega (arith, c .before .before .before .if1 .left)) located (a .pre .5) in
+    omega (arith, t .rows-are, t .going .few .rows, a .pre .2, a .good)
+
+returns-3 : tie.Need-returns-3
+returns-3 c =
+    let a = c .before .before .before .before .before .before .before .before .before .before .before in
+    let l = c .before .before .before .before .before .lay .ensures in
+    let located = sym (c .before .before .either .ensures) ∙ not-false _ (c .before .if2 .left) in
+    (items-model (a .args .alone) (a .args .s .now) (a .args .from) (a .args .next) (l .0) (a .pre .1) (a .pre .2) (omega (arith, c .before .before .before .if1 .left)) located (l .1), omega arith, λ _. items-told (a .args .alone) (a .args .s .now) (a .args .from) (a .args .next) (l .0) (a .pre .1) (a .pre .2) (omega (arith, c .before .before .before .if1 .left)) located (a .pre .5))
+
+pub model-of-spec : {M : Type 1} → statement M
+model-of-spec =
+    tie.close
+    (tie.spec
+    sub-lay
+    part-lay-start
+    part-lay-end
+    lay-requires
+    sub-if1
+    no-model-requires
+    returns
+    either-requires
+    no-model-requires-2
+    returns-2
+    add-t9
+    returns-3)

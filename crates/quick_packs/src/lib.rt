@@ -1,0 +1,288 @@
+// The quick way over a series, from its start: packs of items told at a glance. Most packs of a series are laid out alike, with the same heads
+// at the same places, and such a one is told by one comparison with the last that was walked, its model.
+ghost use mathlib.Core.Path.{_≡_};
+ghost use mathlib.Core.Bool.{true, false};
+ghost use Prim.Native.Nat.{_+_, _*_, _-_, _≤_, _<_};
+ghost use lib.ListN.{length, take, drop};
+ghost use Rattle.format.specs.Coding.{Bytes};
+ghost use Rattle.items.specs.Meet.{formOf, glanceTable};
+ghost use Rattle.tally.specs.Meet.{sizes};
+ghost use Rattle.tally.specs.Going.{SeriesGoing, quickAt};
+ghost use Rattle.quick_packs.specs.Packs.{Laid, As, Modelled, Told};
+use heads::Head;
+use tally::Sizes;
+use tally::quick;
+use tally::quick::Quick;
+
+// Where a pack's items begin, how many bytes they have, and the pack's rows.
+pub struct Model {
+    pub from: usize,
+    pub size: usize,
+    pub rows: usize,
+}
+
+// No pack has so many bytes of items, or so few rows.
+pub fn no_model() -> Model
+    ensures { λ r. ⌜ (r .from ≡ 0) × (r .size ≡ 128) × (r .rows ≡ 0) ⌝ }
+{
+    Model {
+        from: 0,
+        size: 128,
+        rows: 0,
+    }
+}
+
+// A pack's items told at a glance, as `quick::run` goes over them, and marked: whatever is laid out so is walked so.
+fn lay(glances: &[u32], s: &[u8], alone: bool, marks: &mut [u8; 160]) -> Quick
+    requires { ⌜ (now glances ≡ glanceTable) × (length (now s) < 128) × (length (now marks) ≡ 160) ⌝ }
+    ensures { λ r. ⌜ Laid (formOf alone) (now (marks .exit)) (now (s .entry)) r × (length (now (marks .exit)) ≡ 160) ⌝ }
+{
+    let most = quick::span(s, false, alone);
+    let low = quick::first_tag(s);
+    let mut p: usize = 0;
+    let mut count: usize = 0;
+    let mut mark = false;
+    let mut top: u64 = 0;
+    loop {
+        let next = quick::glance(glances, s, p, most, false, alone, top);
+        if next == 0 {
+            if s.len() < p {
+                return quick::stands(0, quick::nothing(), false, 0, low);
+            }
+            return quick::stands(p, quick::told_sizes(count, p), mark, top, low);
+        }
+        let tag = coding::wide(s[p]);
+        let first = items::quick::first_mark(glances, false, alone, tag, coding::wide(s[p + 1]));
+        coding::alike::mark_item(marks, p, 2, first);
+        mark = coding::either(mark, tally::is_mark(false, tag));
+        top = tag;
+        count += 1;
+        p = next;
+    }
+}
+
+// Whether what stands from there on is laid out as the model's items, if there is a model.
+pub fn is_as(m: Model, marks: &[u8], s: &[u8], from: usize) -> bool
+    requires { ⌜ (length (now marks) ≡ 160) × (from ≤ length (now s)) × (m .from ≤ from) ⌝ }
+    ensures { λ r. ⌜ (r ≡ true → As (now (marks .entry)) (now (s .entry)) m from) ⌝ }
+{
+    let size = m.size;
+    if 127 < size {
+        return false;
+    }
+    let model = m.from;
+    coding::alike::are_alike(marks, &s[model..], &s[from..], size)
+}
+
+// The same of a pack's items, from one place to another.
+fn is_pack_as(m: Model, marks: &[u8], s: &[u8], from: usize, next: usize) -> bool
+    requires { ⌜ (length (now marks) ≡ 160) × (from ≤ next) × (next ≤ length (now s)) × (m .from ≤ from) ⌝ }
+    ensures { λ r. ⌜ (r ≡ true → (m .size ≡ next - from) × As (now (marks .entry)) (now (s .entry)) m from) ⌝ }
+{
+    if next - from != m.size {
+        return false;
+    }
+    is_as(m, marks, s, from)
+}
+
+// These items as the model, if they are all told at a glance and hold what a pack must.
+fn model_of(
+    glances: &[u32],
+    s: &[u8],
+    from: usize,
+    next: usize,
+    alone: bool,
+    marks: &mut [u8; 160],
+) -> Model
+    requires { ⌜ (now glances ≡ glanceTable) × (from ≤ next) × (next ≤ length (now s)) × (next - from < 128) × (length (now marks) ≡ 160) × Bytes (now s) ⌝ }
+    ensures { λ r. ⌜ Modelled alone (now (marks .exit)) (now (s .entry)) r × (r .from ≤ from) × (0 < r .rows → Told alone (take (next - from) (drop from (now (s .entry)))) (r .rows)) ⌝ }
+{
+    *marks = [0; 160];
+    let q = lay(glances, &s[from..next], alone, marks);
+    if q.at != next - from {
+        return no_model();
+    }
+    if !coding::either(!alone, q.mark) {
+        return no_model();
+    }
+    Model {
+        from,
+        size: q.at,
+        rows: 1 + q.sizes.rows,
+    }
+}
+
+// Such items where no model is worth its marks; no rows where they are not such.
+fn unmodelled(glances: &[u32], s: &[u8], from: usize, next: usize, alone: bool) -> Model
+    requires { ⌜ (now glances ≡ glanceTable) × (from ≤ next) × (next ≤ length (now s)) × (next - from < 128) ⌝ }
+    ensures { λ r. ⌜ (r .from ≡ 0) × (r .size ≡ 128) × (0 < r .rows → Told alone (take (next - from) (drop from (now (s .entry)))) (r .rows)) ⌝ }
+{
+    let q = quick::run(glances, &s[from..next], false, alone);
+    if q.at != next - from {
+        return no_model();
+    }
+    if !coding::either(!alone, q.mark) {
+        return no_model();
+    }
+    Model {
+        from: 0,
+        size: 128,
+        rows: 1 + q.sizes.rows,
+    }
+}
+
+// ---- packs
+
+// Where the pack walk goes on after packs of p bytes and so many rows, each with a byte for its length.
+fn passed(p: usize, rows: usize, more: usize, top: u64, low: u64) -> Quick
+    requires { ⌜ p + 4 * rows + more ≤ 65536 ⌝ }
+    ensures { λ r. ⌜ r ≡ quickAt p (sizes (p + 4 * rows + more) rows p 0) false top low ⌝ }
+{
+    let sizes = Sizes {
+        sheet: p + 4 * rows + more,
+        rows,
+        normal: p,
+        inner: 0,
+    };
+    quick::stands(p, sizes, false, top, low)
+}
+
+// The packs whose length has one byte and whose id has one or two, and whose items are all told at a glance, one after another, from a series'
+// start: ids rising or falling, or noted in the bits lent. Beside as many bytes as such a pack has, its sheet has four for each row, and five less
+// those of its id.
+fn many(glances: &[u32], s: &[u8], alone: bool, bits: &mut [u64]) -> Quick
+    requires { ⌜ (now glances ≡ glanceTable) × (length (now s) ≤ 8192) ⌝ }
+    ensures { λ r. ⌜ SeriesGoing (formOf alone) (now (s .entry)) (r .at) (r .sizes) (r .top) (r .low) ⌝ }
+{
+    let mut p: usize = 0;
+    let mut rows: usize = 0;
+    let mut more: usize = 0;
+    let mut top: u64 = 0;
+    let mut low: u64 = 18446744073709551615;
+    let mut marks: [u8; 160] = [0; 160];
+    let mut m = no_model();
+    // packs that were not laid out as their model: where they are many, none is laid out
+    let mut misses: usize = 0;
+    while p < s.len() {
+        let h = heads::short_pack_head(&s[p..]);
+        let Head::Whole {
+            key,
+            used,
+            width,
+            size,
+        } = h
+        else {
+            return passed(p, rows, more, top, low);
+        };
+        // an id above or below all before moves one bound, but for the first
+        if top < key {
+            top = key;
+            if p == 0 {
+                low = key;
+            }
+        } else {
+            if key < low {
+                low = key;
+            } else {
+                if !repeats::notes::is_unnoted(bits, key) {
+                    return passed(p, rows, more, top, low);
+                }
+            }
+        }
+        repeats::notes::note(bits, key);
+        let from = p + width + used;
+        let next = p + width + size;
+        if !is_pack_as(m, &marks, s, from, next) {
+            if 64 * misses <= 512 + p {
+                m = model_of(glances, s, from, next, alone, &mut marks);
+            } else {
+                m = unmodelled(glances, s, from, next, alone);
+            }
+            if m.rows == 0 {
+                return passed(p, rows, more, top, low);
+            }
+            misses += 1;
+        }
+        rows = rows + m.rows;
+        more = more + 5 - used;
+        p = next;
+    }
+    passed(p, rows, more, top, low)
+}
+
+// Whether it was an id neither above nor below all before that ended it.
+fn is_between(s: &[u8], q: Quick) -> bool
+    requires { ⌜ q .at ≤ length (now s) ⌝ }
+{
+    let at = q.at;
+    let h = heads::short_pack_head(&s[at..]);
+    let Head::Whole {
+        key,
+        used: _,
+        width: _,
+        size: _,
+    } = h
+    else {
+        return false;
+    };
+    if key < q.low {
+        return false;
+    }
+    key <= q.top
+}
+
+// Packs told at a glance from a series' start, ids rising or falling. Most series have ids that rise, and nothing is noted for them.
+pub fn packs(glances: &[u32], s: &[u8], alone: bool) -> Quick
+    requires { ⌜ (now glances ≡ glanceTable) × (length (now s) ≤ 8192) ⌝ }
+    ensures { λ r. ⌜ SeriesGoing (formOf alone) (now (s .entry)) (r .at) (r .sizes) (r .top) (r .low) ⌝ }
+{
+    let mut none = [0u64; 1];
+    many(glances, s, alone, &mut none[0..0])
+}
+
+// The same from where that ended: if it was at an id that neither rises nor falls, anew, the first 4,096 noted in the bits lent, whatever these were.
+pub fn noted(glances: &[u32], s: &[u8], alone: bool, q: Quick, bits: &mut [u64; 64]) -> Quick
+    requires { ⌜ (now glances ≡ glanceTable) × (length (now s) ≤ 8192) × SeriesGoing (formOf alone) (now s) (q .at) (q .sizes) (q .top) (q .low) ⌝ }
+    ensures { λ r. ⌜ SeriesGoing (formOf alone) (now (s .entry)) (r .at) (r .sizes) (r .top) (r .low) ⌝ }
+{
+    if is_between(s, q) {
+        *bits = [0; 64];
+        return many(glances, s, alone, bits);
+    }
+    q
+}
+
+// The same of a series of one pack, for which no model is laid out: apart, so that it stands where it is called.
+pub fn lone(glances: &[u32], s: &[u8], alone: bool) -> Quick
+    requires { ⌜ (now glances ≡ glanceTable) × (length (now s) ≤ 8192) × (0 < length (now s)) ⌝ }
+    ensures { λ r. ⌜ SeriesGoing (formOf alone) (now (s .entry)) (r .at) (r .sizes) (r .top) (r .low) ⌝ }
+{
+    let p: usize = 0;
+    let h = heads::short_pack_head(&s[p..]);
+    let Head::Whole {
+        key,
+        used,
+        width,
+        size,
+    } = h
+    else {
+        return passed(0, 0, 0, 0, 18446744073709551615);
+    };
+    let from = p + width + used;
+    let next = p + width + size;
+    let m = unmodelled(glances, s, from, next, alone);
+    if m.rows == 0 {
+        return passed(0, 0, 0, 0, 18446744073709551615);
+    }
+    passed(next, m.rows, 5 - used, key, key)
+}
+
+// Whether the first pack, with a byte for its length, is all of the series.
+pub fn is_lone(s: &[u8]) -> bool
+    ensures { λ r. ⌜ (r ≡ true → 0 < length (now (s .entry))) ⌝ }
+{
+    if s.len() == 0 {
+        return false;
+    }
+    s.len() - 1 == coding::wide(s[0]) as usize
+}

@@ -1,0 +1,208 @@
+-- The turns over a level's records: what the code's answers on one part say.
+use mathlib.Core.Path.{_≡_, refl, sym, ap, _∙_, subst}
+use Prim.Native.Nat.{ℕ, _+_, _-_, _≤_, _<_}
+use native.Mathlib.Omega.{arith}
+use native.Mathlib.Nat.{add-zero}
+use mathlib.Core.Bool.{Bool, true, false, _&&_, _||_}
+use mathlib.Core.List.{List}
+use lib.ListN.{length, take, drop, length-drop}
+use lib.Seq.{drop-drop}
+use lib.Dec.{eqb}
+use Rattle.format.specs.Answer.{ok, refused, got}
+use Rattle.format.specs.Coding.{Bytes, oidBytes}
+use Rattle.format.specs.Table.{Form, Level, isSet}
+use Rattle.format.specs.Run.{run}
+use Rattle.format.specs.Sheet.{one, targets, tagOfPart, idOfTarget, TS, TG, is, targetAt}
+use Rattle.format.proofs.words.Answers.{after-ok}
+use Rattle.format.proofs.words.Bytes.{bytes-drop}
+use Rattle.coding.proofs.Rooms.{tail-part}
+use Rattle.coding.proofs.Counts.{len-most, oid-most}
+use Rattle.items.specs.Meet.{levelOf}
+use Rattle.items.proofs.Tests.{bind-so, bind-not}
+use Rattle.heads.specs.Meet.{peek, Past}
+use Rattle.heads.proofs.Spans.{is-room}
+use Rattle.heads.proofs.SheetRuns.{series-peek}
+use Rattle.tally.specs.declared.Piece.{Piece}
+use Rattle.tally.specs.declared.Piece.the-variants as piece
+use Rattle.tally.specs.declared.Sizes.{Sizes}
+use Rattle.tally.specs.declared.Walked.{Walked}
+use Rattle.tally.specs.declared.Walked.the-variants.{Good, Bad}
+use Rattle.tally.specs.Meet.{sizes, noSizes, lengthened, itemSizes, seriesSizes, plusSizes, weightOfTarget, markTag, seriesFrom, stopAt, laterBy, Few, Small, Within}
+use Rattle.tally.proofs.Walks.{few-more, going-start}
+use Rattle.tally.proofs.Series.{after-not}
+use Rattle.tally.proofs.ItemTurns.{level-is}
+use Rattle.tally.proofs.Turns.{Reads, within-of, turn-bad, turn-more}
+use Rattle.quick_records.specs.Meet.{partPiece, moreAt, partStep, weightAt, recordsWalk, targetsWalk}
+use Rattle.quick_records.specs.Going.{RecordsGoing}
+use Rattle.quick_records.proofs.Parts.{part-fault, ValueStood, value-stood, SeriesStood, series-stood}
+use Rattle.tally.proofs.Maps.{walked-good, walked-bad}
+use Rattle.quick_records.proofs.Runs.{targets-used, slim-targets, slim-series}
+
+pub records-start : (b : Bool) (f : Form) (s : List ℕ) {low : ℕ} → RecordsGoing b f s 0 noSizes false 0 low
+unfolding recordsWalk
+records-start b f s = going-start _ _ _ _ _ _ _ s refl
+
+-- ---- what one part says
+
+-- it was read at u, and takes as many bytes as it adds to the sheet
+pub record PartReads (b : Bool) (f : Form) (seen u : List ℕ) (tag : ℕ) (a : Sizes) (m : Bool) : Type 0 where
+  pub reads : Reads (weightAt (levelOf b)) (λ x. eqb (tagOfPart x) (markTag (levelOf b))) tagOfPart (partStep (levelOf b) f seen u) tag (a .sheet) a m
+  pub peeks : peek true false b u ≡ got tag (a .sheet)
+  pub some : 0 < a .sheet
+  pub room : a .sheet ≤ length u
+
+-- w is the code's answer on it
+pub record Told (b : Bool) (f : Form) (seen u : List ℕ) (tag : ℕ) (w : Walked) : Type 0 where
+  pub bad : (k q : ℕ) → w ≡ Bad k q → (partStep (levelOf b) f seen u ≡ refused k q) × (q ≤ length u)
+  pub good : (a : Sizes) (m : Bool) → w ≡ Good a m → PartReads b f seen u tag a m
+
+told-good : {b : Bool} {f : Form} {seen u : List ℕ} {tag : ℕ} {a : Sizes} {m : Bool} → PartReads b f seen u tag a m → Told b f seen u tag (Good a m)
+told-good {b} {f} {seen} {u} {tag} {a} {m} r = record {
+  bad = λ n q e. absurd (let y : _≡_ {A = ℕ} 0 1 = cc in omega arith);
+  good = λ c n e. let ea : a ≡ c = cc in let em : m ≡ n = cc in subst (λ x. PartReads b f seen u tag x n) ea (subst (PartReads b f seen u tag a) em r);
+}
+
+told-bad : {b : Bool} {f : Form} {seen u : List ℕ} {tag n q : ℕ} → partStep (levelOf b) f seen u ≡ refused n q → q ≤ length u → Told b f seen u tag (Bad n q)
+told-bad {n = n} {q = q} e l = record {
+  bad = λ j r z. let en : n ≡ j = cc in let eq : q ≡ r = cc in (e ∙ rw (en, eq), omega (arith, l, eq));
+  good = λ a m e. absurd (let y : _≡_ {A = ℕ} 0 1 = cc in omega arith);
+}
+
+-- an item: no sheet has a checksum
+pub item-is : (l : Level) (tag n : ℕ) → isSet l && eqb tag 1 ≡ false → itemSizes l tag n ≡ sizes (6 + n) 1 (length (oidBytes tag) + lengthened n) 0
+unfolding itemSizes
+item-is l tag n z = rw (z, itemSizes)
+
+told-item : (b : Bool) (f : Form) (seen u : List ℕ) (tag size : ℕ) → ValueStood b f seen u tag size → Told b f seen u tag (Good (itemSizes (levelOf b) tag size) (eqb tag (markTag (levelOf b))))
+told-item b f seen u tag size k =
+    let e = item-is (levelOf b) tag size (rw (level-is b) (k .no-seal)) in
+    subst (λ a. Told b f seen u tag (Good a (eqb tag (markTag (levelOf b))))) (sym e)
+    (told-good (record {
+      reads = record {
+        it = one (k .it);
+        reads = k .step;
+        key-is = k .tag-is;
+        weighs = ap (λ t. itemSizes (levelOf b) t (length (k .it .value))) (k .tag-is) ∙ ap (itemSizes (levelOf b) tag) (k .size-is) ∙ e;
+        marks = ap (λ t. eqb t (markTag (levelOf b))) (k .tag-is);
+        few = record { sheet = omega arith; rows = omega arith; normal = omega (arith, oid-most tag, len-most size); inner = omega arith };
+      };
+      peeks = k .peeks;
+      some = omega arith;
+      room = k .room;
+    }))
+
+-- the series, by the answer on its targets
+told-series : (f : Form) (seen u : List ℕ) → SeriesStood f seen u → Bytes u → (x : Walked) → x ≡ targetsWalk f (drop 2 u) → Within x (length (drop 2 u)) → Told true f seen u 101 (seriesFrom 2 x)
+unfolding targetsWalk peek
+told-series f seen u k b (Bad n q) e h =
+    let r = walked-bad weightOfTarget (λ t. false) (run (is TG) idOfTarget (targetAt f) (drop 2 u)) n q e in
+    told-bad (k .step ∙ k .rest ∙ bind-not _ _ n (2 + q) (after-not 2 _ n q r)) (omega (arith, h, length-drop 2 u, is-room _ u (k .mark)))
+told-series f seen u k b (Good a c) e h =
+    let w = walked-good weightOfTarget (λ t. false) (run (is TG) idOfTarget (targetAt f) (drop 2 u)) a c e in
+    let (used, within) = targets-used f (drop 2 u) (w .rs) (bytes-drop 2 u b) (w .ran) in
+    let took : w .rs .used ≡ a .sheet = used ∙ ap (λ (z : Sizes). z .sheet) (w .weighs) in
+    let at = k .rest ∙ bind-so _ _ (w .rs) (after-ok 2 _ (w .rs) (w .ran)) ∙ ap (λ n. ok (got (targets (w .rs .val)) (2 + n))) took in
+    told-good (record {
+      reads = record {
+        it = targets (w .rs .val);
+        reads = k .step ∙ at;
+        key-is = refl;
+        weighs = ap seriesSizes (w .weighs);
+        marks = refl;
+        few = slim-series a (subst (λ z. Few z (z .sheet)) (w .weighs) (slim-targets (w .rs .val)));
+      };
+      peeks = series-peek f seen u _ (k .mark) at;
+      some = omega arith;
+      room = omega (arith, within, took, length-drop 2 u, is-room _ u (k .mark));
+    })
+
+-- ---- the turn
+
+module _ (b : Bool) (f : Form) {s : List ℕ} {p : ℕ} {sum : Sizes} {mark : Bool} {top low : ℕ} (g : RecordsGoing b f s p sum mark top low) (h : p < length s) (o : moreAt (levelOf b) (drop p s) ≡ true)
+    {a : Piece} (ea : (seen : List ℕ) → Past (peek true false b) s p top low seen → a ≡ partPiece (levelOf b) f seen (drop p s)) where
+  pub piece-fault : {n : ℕ} {r : Walked} → a ≡ piece.Fault n → r ≡ stopAt p a → (r ≡ recordsWalk (levelOf b) f s) × Within r (length s)
+  piece-fault {n = n} t e =
+      turn-bad g h o n 0 (e ∙ ap (stopAt p) t ∙ ap (Bad n) (sym (add-zero p))) (part-fault f (g .seen) (drop p s) n b (sym t ∙ ea (g .seen) (g .past))) (omega arith)
+
+-- a `TS` at p, and its targets as the code lends them
+pub ts-room : (s : List ℕ) (p : ℕ) → is TS (drop p s) ≡ true → p + 2 ≤ length s
+ts-room s p m = omega (arith, is-room _ (drop p s) m, length-drop p s)
+
+abbrev pub targetsAt : List ℕ → ℕ → List ℕ
+targetsAt s p = take (length s - (p + 2)) (drop (p + 2) s)
+
+-- a record that the code has read at p, in a level of no more bytes than a sheet's
+pub record PartAt (b : Bool) (f : Form) (s : List ℕ) (p : ℕ) (sum : Sizes) (mark : Bool) (top low tag from size small : ℕ) : Type 0 where
+  pub going : RecordsGoing b f s p sum mark top low
+  pub here : p < length s
+  pub more : moreAt (levelOf b) (drop p s) ≡ true
+  pub it : Piece
+  pub told : (seen : List ℕ) → Past (peek true false b) s p top low seen → it ≡ partPiece (levelOf b) f seen (drop p s)
+  pub whole : it ≡ piece.Whole tag from size small
+  pub bytes : Bytes s
+  pub most : length s ≤ 65536
+
+module _ {b : Bool} {f : Form} {s : List ℕ} {p : ℕ} {sum : Sizes} {mark : Bool} {top low tag from size small : ℕ} (i : PartAt b f s p sum mark top low tag from size small) where
+  is-piece : piece.Whole tag from size small ≡ partPiece (levelOf b) f (i .going .seen) (drop p s)
+  is-piece = sym (i .whole) ∙ i .told (i .going .seen) (i .going .past)
+
+  -- w is the code's answer on the part
+  abbrev pub PartTold : Walked → Type 0
+  PartTold w = Told b f (i .going .seen) (drop p s) tag w
+
+  -- x: it is the series
+  module _ {x : Bool} (ex : x ≡ (b && eqb tag 101)) where
+    module _ (tx : x ≡ false) where
+      item-stood : ValueStood b f (i .going .seen) (drop p s) tag size
+      item-stood = value-stood b f (i .going .seen) (drop p s) tag from size small (i .more) is-piece (sym ex ∙ tx)
+
+      pub item-small : (tag ≤ 16383) × (size ≤ 65536)
+      item-small = (item-stood .tag-small, omega (arith, item-stood .room, length-drop p s, i .most))
+
+      pub item-told : {w : Walked} → w ≡ Good (itemSizes (levelOf b) tag size) (eqb tag (markTag (levelOf b))) → PartTold w
+      item-told ew = subst PartTold (sym ew) (told-item b f (i .going .seen) (drop p s) tag size item-stood)
+
+    module _ (tx : x ≡ true) where
+      ts-stood : (b ≡ true) × (tag ≡ 101) × SeriesStood f (i .going .seen) (drop p s)
+      ts-stood = series-stood b f (i .going .seen) (drop p s) tag from size small is-piece (sym ex ∙ tx)
+
+      pub series-room : p + 2 ≤ length s
+      series-room = ts-room s p (ts-stood .2 .mark)
+
+      -- its targets, as document 01 has them
+      lent-is : targetsAt s p ≡ drop 2 (drop p s)
+      lent-is = tail-part (p + 2) s ∙ sym (drop-drop 2 p s)
+
+      pub lent-small : length (targetsAt s p) ≤ 65536
+      lent-small = omega (arith, ap length lent-is, length-drop 2 (drop p s), length-drop p s, i .most)
+
+      pub series-told : {y : Walked} → (y ≡ targetsWalk f (targetsAt s p)) × Within y (length (targetsAt s p)) → {w : Walked} → w ≡ seriesFrom 2 y → PartTold w
+      series-told {y = y} ey ew =
+          let told = told-series f (i .going .seen) (drop p s) (ts-stood .2) (bytes-drop p s (i .bytes)) y (rw lent-is at (ey .0)) (rw lent-is at (ey .1)) in
+          subst PartTold (sym ew)
+          (subst (λ c. Told c f (i .going .seen) (drop p s) tag (seriesFrom 2 y)) (sym (ts-stood .0))
+          (subst (λ t. Told true f (i .going .seen) (drop p s) t (seriesFrom 2 y)) (sym (ts-stood .1)) told))
+
+  module _ {w : Walked} (k : PartTold w) where
+    pub part-bad : {n q : ℕ} {r : Walked} → w ≡ Bad n q → r ≡ laterBy p w → (r ≡ recordsWalk (levelOf b) f s) × Within r (length s)
+    part-bad {n = n} {q = q} t e =
+        let (j, l) = k .bad n q t in
+        turn-bad (i .going) (i .here) (i .more) n q (e ∙ ap (laterBy p) t) j (omega (arith, l, length-drop p s, i .here))
+
+    pub bad-within : {n q : ℕ} → w ≡ Bad n q → Within w 65536 × (p ≤ 65536)
+    bad-within {n = n} {q = q} t = (within-of 65536 t (omega (arith, k .bad n q t .1, length-drop p s, i .most)), omega (arith, i .here, i .most))
+
+    module _ {z : Sizes} {m : Bool} (t : w ≡ Good z m) where
+      read : PartReads b f (i .going .seen) (drop p s) tag z m
+      read = k .good z m t
+
+      pub part-room : (p + z .sheet ≤ length s) × (0 < z .sheet)
+      part-room = (omega (arith, read .room, length-drop p s, i .here), read .some)
+
+      pub good-small : Small sum × Small z
+      good-small = (few-more sum p 65536 (omega (arith, i .here, i .most)) (i .going .few), few-more z (z .sheet) 65536 (omega (arith, part-room .0, i .most)) (read .reads .few))
+
+      pub part-more : {sum′ : Sizes} → sum′ ≡ plusSizes sum z → {mark′ : Bool} → mark′ ≡ (mark || m)
+          → {top′ : ℕ} → (top ≤ top′) × (tag ≤ top′) → {low′ : ℕ} → (low′ ≤ low) × (low′ ≤ tag)
+          → RecordsGoing b f s (p + z .sheet) sum′ mark′ top′ low′
+      part-more ea em et el = turn-more (i .going) (i .here) (i .more) (read .reads) (read .peeks) (read .some) (p + z .sheet) refl (part-room .0) ea em et el

@@ -1,0 +1,105 @@
+-- `quick_records::targets::lay` meets its contract: each turn is one of `quick::run`, for whatever is laid out so far as the records are.
+use mathlib.Core.Path.{_≡_, refl, _∙_}
+use mathlib.Core.Logic.{⊎-elim}
+use mathlib.Core.Bool.{false}
+use Prim.Native.Nat.{_+_, _-_, _<_}
+use native.Mathlib.Omega.{arith}
+use lib.ListN.{length}
+use borrow.Author.Needs.{needs}
+use Rattle.items.specs.Meet.{formOf}
+use Rattle.quick_records.specs.Going.{Glanced}
+use Rattle.quick_records.proofs.PartTurns.{records-start}
+use Rattle.quick_records.proofs.Glances.{glance-next}
+use Rattle.quick_records.proofs.Alikes.{Laying, Remarked, laying-more}
+use Rattle.quick_records.proofs.targets.lay.Statement.{statement}
+use Rattle.quick_records.proofs.targets.lay.Tie as tie
+use Rattle.quick_records.proofs.targets.lay.Reads as reads
+use Rattle.quick_records.proofs.targets.lay.Lts as lts
+use Rattle.coding.proofs.alike.mark_item.Reads as mark-item-reads
+use Rattle.coding.proofs.either.Reads as either-reads
+use Rattle.items.proofs.quick.first_mark.Reads as first-mark-reads
+use Rattle.quick_records.proofs.quick.glance.Reads as glance-reads
+use Rattle.quick_records.proofs.quick.told_sizes.Reads as told-sizes-reads
+use Rattle.tally.proofs.is_mark.Reads as is-mark-reads
+use Rattle.tally.proofs.quick.stands.Reads as stands-reads
+
+abbrev Inv-loop : tie.InvT-loop
+Inv-loop glances s alone marks₀ p₀ count₀ mark₀ top₀ marks p count mark top = Laying (formOf alone) marks s p count mark top
+
+abbrev μ-loop : tie.MeasureT-loop
+μ-loop glances s alone marks₀ p₀ count₀ mark₀ top₀ marks p count mark top = length s - p
+
+-- its tag, and its length, as the code found them
+told : (j : lts.Joined2 (glance-reads.Asked, glance-reads.Learnt, told-sizes-reads.Asked, told-sizes-reads.Learnt, stands-reads.Asked, stands-reads.Learnt, first-mark-reads.Asked, first-mark-reads.Learnt, mark-item-reads.Asked, mark-item-reads.Learnt, is-mark-reads.Asked, is-mark-reads.Learnt, either-reads.Asked, either-reads.Learnt) reads.Pre reads.Post Inv-loop μ-loop) → Glanced false (formOf (j .before .before .before .before .before .before .before .args .alone)) (j .before .before .before .before .before .before .before .args .s .now) (j .before .before .before .before .loop .p) (j .before .before .before .before .loop .top) (j .before .before .before .glance .result .tag) (j .before .before .before .glance .result .next - (j .before .before .before .before .loop .p + 6))
+told j = j .before .before .before .glance .ensures (omega (arith, j .before .if1 .left))
+
+-- it was marked, if there is room
+marked : (j : lts.Joined2 (glance-reads.Asked, glance-reads.Learnt, told-sizes-reads.Asked, told-sizes-reads.Learnt, stands-reads.Asked, stands-reads.Learnt, first-mark-reads.Asked, first-mark-reads.Learnt, mark-item-reads.Asked, mark-item-reads.Learnt, is-mark-reads.Asked, is-mark-reads.Learnt, either-reads.Asked, either-reads.Learnt) reads.Pre reads.Post Inv-loop μ-loop) → (length (j .if2 .marks) ≡ 160) × (j .before .before .before .before .loop .p < 128 → Remarked (formOf (j .before .before .before .before .before .before .before .args .alone)) (j .before .before .before .before .loop .marks) (j .if2 .marks) (j .before .before .before .before .loop .p) (j .before .before .before .glance .result .tag) (j .before .before .before .glance .result .next - (j .before .before .before .before .loop .p + 6)))
+marked j =
+    ⊎-elim
+    (λ x. rw (x .5) (x .4 .ensures .long ∙ j .before .before .before .before .loop .inv .long, λ _. record { first = _; item = x .4 .ensures; any = x .2 .ensures }))
+    (λ y. rw (y .1) (j .before .before .before .before .loop .inv .long, λ h. absurd (omega (arith, h, y .0 .left))))
+    (j .if2 .came)
+
+loop-holds : tie.Need-loop-holds Inv-loop μ-loop
+loop-holds c = record { long = c .before .before .pre .2; own = records-start _ _ _; few = omega arith; walked = λ _ b _ _ _ _. records-start _ _ _ }
+
+glance-requires : tie.Need-glance-requires Inv-loop μ-loop
+glance-requires c κs = (c .before .before .before .pre .0, c .before .before .before .pre .1, c .loop .inv .own .to)
+
+told-sizes-requires : tie.Need-told-sizes-requires Inv-loop μ-loop
+told-sizes-requires c κs = let l = c .before .before .before .loop in (l .inv .few, omega (arith, l .inv .own .to, c .before .before .before .before .before .before .pre .1))
+
+stands-requires : tie.Need-stands-requires Inv-loop μ-loop
+stands-requires c κs = search needs
+
+returns : tie.Need-returns Inv-loop μ-loop
+returns c = let l = c .before .before .before .before .before .loop .inv in rw (c .stands .ensures, c .before .told-sizes .ensures) (record { own = l .own; walked = l .walked; sizes-are = refl; few = l .few }, l .long)
+
+add-n : tie.Need-add-n Inv-loop μ-loop
+add-n c = omega (arith, c .if2 .taken)
+
+sub-n : tie.Need-sub-n Inv-loop μ-loop
+sub-n c = omega (arith, glance-next (c .before .before .before .before .glance .ensures (omega (arith, c .before .before .if1 .left))))
+
+first-mark-requires : tie.Need-first-mark-requires Inv-loop μ-loop
+first-mark-requires c κs = c .before .before .before .before .before .before .before .before .pre .0
+
+mark-item-requires : tie.Need-mark-item-requires Inv-loop μ-loop
+mark-item-requires c κs = (omega (arith, c .before .before .before .if2 .taken), c .before .before .before .before .before .before .before .loop .inv .long)
+
+is-mark-requires : tie.Need-is-mark-requires Inv-loop μ-loop
+is-mark-requires c κs = search needs
+
+either-requires : tie.Need-either-requires Inv-loop μ-loop
+either-requires c κs = search needs
+
+add-count : tie.Need-add-count Inv-loop μ-loop
+add-count c = omega (arith, c .before .before .before .before .before .before .loop .inv .few, glance-next (told (c .before .before)), c .before .before .before .before .before .before .before .before .before .pre .1)
+
+loop-less : tie.Need-loop-less Inv-loop μ-loop
+loop-less c = omega (arith, glance-next (told (c .before .before)))
+
+loop-again : tie.Need-loop-again Inv-loop μ-loop
+loop-again c = laying-more (c .before .before .before .before .before .before .loop .inv) (told (c .before .before)) (λ i. c .before .before .before .before .before .before .before .shared-slice-known2 .given i .fits) (c .before .before .before .before .before .before .before .before .before .pre .1) (marked (c .before .before) .0) (marked (c .before .before) .1) (c .before .is-mark .ensures) (c .either .ensures)
+
+pub lay-spec : {M : Type 1} → statement M
+lay-spec =
+    tie.close
+    (tie.spec
+    Inv-loop
+    μ-loop
+    loop-holds
+    glance-requires
+    told-sizes-requires
+    stands-requires
+    returns
+    add-n
+    sub-n
+    first-mark-requires
+    mark-item-requires
+    is-mark-requires
+    either-requires
+    add-count
+    loop-less
+    loop-again)

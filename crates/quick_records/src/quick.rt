@@ -1,0 +1,107 @@
+// The quick way over a level's records: told at a glance, tags rising, from its start. What stops it is left to the walks.
+ghost use mathlib.Core.Path.{_≡_};
+ghost use Prim.Native.Nat.{_+_, _*_, _-_, _≤_, _<_};
+ghost use lib.ListN.{length, take, drop};
+ghost use Rattle.format.specs.Coding.{bytesNumber};
+ghost use Rattle.items.specs.Meet.{formOf, glanceTable};
+ghost use Rattle.tally.specs.Meet.{sizes};
+ghost use Rattle.tally.specs.Going.{Begun};
+ghost use Rattle.quick_records.specs.Going.{RecordsGoing, Glanced, wordOf};
+use tally::Sizes;
+use tally::quick::Quick;
+
+// A tag, and where its record ends, which is a sum and so never 0 to the compiler; 0 where no such record stands.
+pub struct Told {
+    pub tag: u64,
+    pub next: usize,
+}
+
+fn nothing() -> Told
+    ensures { λ r. ⌜ r .next ≡ 0 ⌝ }
+{
+    Told { tag: 0, next: 0 }
+}
+
+// `IT` or `TI`, before a tag of 0, as one number.
+fn word_of(set: bool) -> u32
+    ensures { λ r. ⌜ r ≡ wordOf set ⌝ }
+{
+    if set { 0x49540000 } else { 0x54490000 }
+}
+
+// A level's record at p that is told at a glance, its tag above top.
+pub fn glance(glances: &[u32], s: &[u8], p: usize, set: bool, alone: bool, top: u64) -> Told
+    requires { ⌜ (now glances ≡ glanceTable) × (length (now s) ≤ 65536) × (p ≤ length (now s)) ⌝ }
+    ensures { λ r. ⌜ (0 < r .next → Glanced set (formOf alone) (now (s .entry)) p top (r .tag) (r .next - (p + 6))) ⌝ }
+{
+    let from = p + 6;
+    if s.len() <= from {
+        return nothing();
+    }
+    // mark and tag are read as one number; after another mark the tag is none of the table's
+    let head = coding::number_of(&s[p..], 4);
+    let tag = std::num::wrapping_sub_u32(head as u32, word_of(set)) as u64;
+    if tag <= top {
+        return nothing();
+    }
+    // no such value has 256 bytes; where the next record begins waits for one byte alone
+    if s[p + 4] != 0 {
+        return nothing();
+    }
+    let n = coding::wide(s[p + 5]);
+    if items::quick::is_quick(glances, set, alone, tag, n, s[from]) {
+        let next = from + (n as usize);
+        if s.len() < next {
+            return nothing();
+        }
+        return Told { tag, next };
+    }
+    nothing()
+}
+
+// Such a record, if it may begin its level where it does.
+pub fn glance_begun(glances: &[u32], s: &[u8], p: usize, set: bool, alone: bool, top: u64) -> Told
+    requires { ⌜ (now glances ≡ glanceTable) × (length (now s) ≤ 65536) × (p ≤ length (now s)) ⌝ }
+    ensures { λ r. ⌜ (0 < r .next → Glanced set (formOf alone) (now (s .entry)) p top (r .tag) (r .next - (p + 6)) × Begun set (formOf alone) p (r .tag)) ⌝ }
+{
+    let g = glance(glances, s, p, set, alone, top);
+    if items::begins(set, alone, g.tag, p == 0) {
+        return g;
+    }
+    nothing()
+}
+
+// Of so many records told at a glance, in p bytes.
+pub fn told_sizes(count: usize, p: usize) -> Sizes
+    requires { ⌜ (4 * count ≤ p) × (p ≤ 65536) ⌝ }
+    ensures { λ r. ⌜ r ≡ sizes p count (p - 4 * count) 0 ⌝ }
+{
+    Sizes {
+        sheet: p,
+        rows: count,
+        normal: p - 4 * count,
+        inner: 0,
+    }
+}
+
+// The records of a level told at a glance, one after another; the first may begin it. That is asked once, by the caller, as the compiler would
+// split the loop by it.
+pub fn run(glances: &[u32], s: &[u8], set: bool, alone: bool) -> Quick
+    requires { ⌜ (now glances ≡ glanceTable) × (length (now s) ≤ 65536) × Begun set (formOf alone) 0 (bytesNumber (take 2 (drop 2 (now s)))) ⌝ }
+    ensures { λ r. ⌜ RecordsGoing set (formOf alone) (now (s .entry)) (r .at) (r .sizes) (r .mark) (r .top) (r .low) × (r .at ≡ r .sizes .sheet) ⌝ }
+{
+    let mut p: usize = 0;
+    let mut count: usize = 0;
+    let mut mark = false;
+    let mut top: u64 = 0;
+    loop {
+        let g = glance(glances, s, p, set, alone, top);
+        if g.next == 0 {
+            return tally::quick::stands(p, told_sizes(count, p), mark, top, 0);
+        }
+        mark = coding::either(mark, tally::is_mark(set, g.tag));
+        top = g.tag;
+        count += 1;
+        p = g.next;
+    }
+}

@@ -1,0 +1,79 @@
+-- The turns over items whose tags are not listed: each is read as the item walk reads it.
+use mathlib.Core.Path.{_≡_, refl, sym, ap, _∙_}
+use Prim.Native.Nat.{ℕ, _+_, _-_, _≤_, _<_}
+use native.Mathlib.Omega.{arith}
+use mathlib.Core.Bool.{Bool, true, false, not, _&&_, _||_}
+use mathlib.Core.List.{List}
+use lib.ListN.{length, drop, take, getD}
+use lib.Dec.{ltb, eqb}
+use borrow.Author.Tests.{ltb-true, ne-eqb}
+use Rattle.format.specs.Coding.{Bytes}
+use Rattle.format.specs.Table.{Form}
+use Rattle.format.specs.Read.{headOf}
+use Rattle.format.proofs.words.Answers.{and-both}
+use Rattle.coding.proofs.Rooms.{tail-part}
+use Rattle.items.specs.Meet.{levelOf}
+use Rattle.items.specs.Quick as items
+use Rattle.items.proofs.Glances.{quick-beyond}
+use Rattle.heads.specs.declared.Head.{Head}
+use Rattle.heads.specs.declared.Head.the-variants as heads
+use Rattle.heads.specs.Meet.{itemHeadOf}
+use Rattle.tally.specs.declared.Sizes.{Sizes}
+use Rattle.tally.specs.declared.Walked.the-variants.{Good}
+use Rattle.tally.specs.Meet.{itemSizes, plusSizes, markTag, Small}
+use Rattle.tally.specs.Going.{LevelGoing, Plain}
+use Rattle.tally.proofs.ItemTurns.{ItemAt, EntryTold, level-is, piece-stood, piece-room, item-told, good-small, entry-more}
+use Rattle.tally.proofs.Glances.{quick-meets, met-item}
+
+-- no such tag marks a level
+pub no-mark : (b : Bool) (tag : ℕ) → items.beyond b tag ≡ true → eqb tag (markTag (levelOf b)) ≡ false
+no-mark true tag h = let l = ltb-true 12 tag (and-both (ltb 12 tag) (not (eqb tag 101)) h .0) in ne-eqb tag 1 λ e. omega (arith, l, e)
+no-mark false tag h = let l = ltb-true 23 tag h in ne-eqb tag 17 λ e. omega (arith, l, e)
+
+pub or-false : (m : Bool) {c : Bool} → c ≡ false → m ≡ (m || c)
+or-false true e = refl
+or-false false e = sym e
+
+-- an item at p whose head the code has read, and that may stand there whatever its value
+pub record PlainAt (b : Bool) (f : Form) (s : List ℕ) (p : ℕ) (sum : Sizes) (mark : Bool) (top low tag u w n : ℕ) : Type 0 where
+  pub going : LevelGoing b f s p sum mark top low
+  pub here : p < length s
+  pub it : Head
+  pub told : itemHeadOf it ≡ headOf (levelOf b) (take (length s - p) (drop p s))
+  pub is : it ≡ heads.Whole tag u w n
+  pub plain : Plain b f p top low tag n
+  pub bytes : Bytes s
+  pub most : length s ≤ 8192
+
+module _ {b : Bool} {f : Form} {s : List ℕ} {p : ℕ} {sum : Sizes} {mark : Bool} {top low tag u w n : ℕ} (i : PlainAt b f s p sum mark top low tag u w n) where
+  quick : items.Quick (levelOf b) f tag n (getD s (p + (u + w)) 0)
+  quick = quick-beyond b f tag n _ (i .plain .beyond) (i .plain .some)
+
+  pub plain-item : ItemAt b f s p sum mark top low tag (u + w) n n
+  plain-item = met-item (record {
+    going = i .going;
+    here = i .here;
+    meets = quick-meets (rw tail-part at (i .told)) (i .is) quick (i .plain .begins);
+    new = i .plain .new;
+    bytes = i .bytes;
+    most = i .most;
+  })
+
+  told-so : EntryTold plain-item (Good (itemSizes (levelOf b) tag n) (eqb tag (markTag (levelOf b))))
+  told-so = item-told plain-item {x = b && eqb tag 101} refl (rw level-is at (quick .no-series)) refl
+
+  pub plain-small : (tag ≤ 16383) × (n ≤ 65536)
+  plain-small = (piece-stood plain-item .tag-small, omega (arith, piece-room plain-item, i .most))
+
+  pub plain-next : (p < p + u + w + n) × (p + u + w + n ≤ length s)
+  plain-next = (omega (arith, i .plain .some), omega (arith, piece-room plain-item))
+
+  -- z is what the code says of its sizes
+  module _ {z : Sizes} (ez : z ≡ itemSizes (levelOf b) tag n) where
+    pub plain-sums : Small sum × Small z
+    plain-sums = rw ez (good-small plain-item told-so refl)
+
+    pub plain-more : {sum′ : Sizes} → sum′ ≡ plusSizes sum z → {top′ : ℕ} → (top ≤ top′) × (tag ≤ top′) → {low′ : ℕ} → (low′ ≤ low) × (low′ ≤ tag) → LevelGoing b f s (p + u + w + n) sum′ mark top′ low′
+    plain-more es et el =
+        let e : p + u + w + n ≡ p + (u + w) + n = omega arith in
+        rw e (entry-more plain-item told-so refl (es ∙ ap (plusSizes sum) ez) (or-false mark (no-mark b tag (i .plain .beyond))) et el)

@@ -1,0 +1,205 @@
+-- The quick way's turns: an item told at a glance is read as the item walk reads it.
+use mathlib.Core.Path.{_≡_, refl, sym, ap, _∙_}
+use Prim.Native.Nat.{ℕ, zero, suc, _+_, _-_, _*_, _≤_, _<_}
+use native.Mathlib.Omega.{arith}
+use mathlib.Core.Bool.{Bool, true, false, not, _&&_, _||_}
+use mathlib.Core.List.{List}
+use lib.ListN.{length, take, drop, getD, length-drop}
+use lib.Seq.{getD-drop, getD-take, length-take-le}
+use lib.Dec.{eqb}
+use borrow.Author.Tests.{ne-eqb}
+use Rattle.format.specs.Coding.{Bytes, oidBytes, lenWidth}
+use Rattle.format.specs.Answer.{ok}
+use Rattle.format.specs.Table.{Form, Level, isSet, isAlone, ruleOf, mayStand, valued, short}
+use Rattle.coding.proofs.Counts.{len-one, count-start, count-done}
+use Rattle.items.specs.Meet.{levelOf}
+use Rattle.items.specs.Quick as items
+use Rattle.items.proofs.Tests.{standing-0}
+use Rattle.items.proofs.Glances.{as-same}
+use Rattle.format.specs.Lists.{has}
+use Rattle.heads.specs.declared.Head.{Head}
+use Rattle.heads.specs.Meet.{itemHeadOf, peek, Past}
+use Rattle.heads.specs.declared.Head.the-variants as heads
+use Rattle.heads.proofs.Heads.{mid-part, item-head-short}
+use Rattle.tally.specs.declared.Piece.the-variants as piece
+use Rattle.tally.specs.declared.Sizes.{Sizes}
+use Rattle.tally.specs.Meet.{pieceOf, sizes, itemSizes, packSizes, plusSizes, markTag}
+use Rattle.tally.specs.Going.{LevelGoing, Begun, Glance, Glanced, New}
+use Rattle.format.specs.Read.{headOf, item}
+use Rattle.tally.proofs.Walks.{same-sizes}
+use Rattle.tally.proofs.Turns.{new-key}
+use Rattle.tally.proofs.Pieces.{piece-within, piece-whole}
+use Rattle.tally.proofs.ItemTurns.{ItemAt, level-is, item-told, entry-more}
+
+-- the sizes of so many such items in p bytes
+abbrev pub quickSizes : ℕ → ℕ → Sizes
+quickSizes count p = sizes (4 * count + p) count p 0
+
+quick-plus : (l : Level) (tag n count p : ℕ) → isSet l && eqb tag 1 ≡ false → tag < 128 → n < 128
+    → quickSizes (count + 1) (p + 2 + n) ≡ plusSizes (quickSizes count p) (itemSizes l tag n)
+unfolding itemSizes
+quick-plus l tag n count p z th nh =
+    let u : 1 ≡ length (oidBytes tag) = count-done tag 1 tag (count-start tag (omega arith)) th .0 in
+    let w : 1 ≡ lenWidth n = len-one n nh in
+    let e : itemSizes l tag n ≡ sizes (6 + n) 1 (length (oidBytes tag) + (lenWidth n + n)) 0 = rw (z, itemSizes) in
+    rw e (same-sizes (omega arith) refl (omega (arith, u, w)) refl)
+
+-- the sizes of such packs in p bytes with so many rows, and of one more: w and n are its length's bytes and its length, u its id's bytes
+abbrev pub packedSizes : ℕ → ℕ → ℕ → Sizes
+packedSizes p rows more = sizes (p + 4 * rows + more) rows p 0
+
+pub packed-plus : (p rows more w n : ℕ) {u at : ℕ} {z : Sizes} → (w ≡ 1) × (n < 128) × (u ≤ 2) → u ≤ n → at ≡ n - u → z ≡ quickSizes (z .rows) at
+    → packedSizes (p + w + n) (rows + 1 + z .rows) (more + 5 - u) ≡ plusSizes (packedSizes p rows more) (packSizes u z)
+packed-plus p rows more w n {u = u} {z = z} (ew, few, id) l e ez =
+    let es = ap (λ a. a .sheet) ez in
+    let en = ap (λ a. a .normal) ez in
+    let one : 1 ≡ lenWidth (u + z .normal) = len-one (u + z .normal) (omega arith) in
+    same-sizes (omega arith) (omega arith) (omega arith) refl
+
+-- what may begin a level, and whatever comes later
+pub begun-later : (b : Bool) (f : Form) (p tag : ℕ) → 0 < p → Begun b f p tag
+begun-later b f p tag h = rw (ne-eqb p 0 (λ e. omega arith)) (any-of (not (isSet (levelOf b))) (not (isAlone f)) (eqb tag 2))
+  where
+    any-of : (x y z : Bool) → x || y || true || z ≡ true
+    any-of true y z = refl
+    any-of false true z = refl
+    any-of false false z = refl
+
+begun-at : (b : Bool) (f : Form) (s : List ℕ) → Begun b f 0 (getD s 0 0) → (p : ℕ) → Begun b f p (getD s p 0)
+begun-at b f s h zero = h
+begun-at b f s h (suc p) = begun-later b f (suc p) (getD s (suc p) 0) (omega arith)
+
+-- x is what the code says of what begins the level
+pub begun-start : (b : Bool) (f : Form) (s : List ℕ) {tag : ℕ} → tag ≡ getD s 0 0 → {x : Bool} → x ≡ (not (isSet (levelOf b)) || not (isAlone f) || not true || eqb tag 2) → x ≡ true → Begun b f 0 (getD s 0 0)
+begun-start b f s et ex tx = rw et at (sym ex ∙ tx)
+
+-- as the code finds it
+pub glance-from : (b : Bool) (f : Form) (s : List ℕ) (p top : ℕ) {tag n : ℕ} → tag ≡ getD s p 0 → n ≡ getD s (p + 1) 0 → (tag ≤ top → ⊥) → p + 2 < length s → Begun b f 0 (getD s 0 0)
+    → (tag < 128) × (n < 128) × items.Quick (levelOf b) f tag n (getD s (p + 2) 0) → Glanced b f s p top (p + 2 + n)
+glance-from b f s p top {tag = tag} {n = n} et en above here h q = (
+  n,
+  refl,
+  q .2 .some,
+  here,
+  λ room. record {
+    quick = rw et at (q .2);
+    small = rw et at (q .0);
+    few = q .1;
+    above = omega arith;
+    size-is = en;
+    room = room;
+    begins = begun-at b f s h p;
+  },
+)
+
+-- an item that meets its rules by its head and its first byte, under any head
+pub record Meets (b : Bool) (f : Form) (s : List ℕ) (p tag u w n : ℕ) : Type 0 where
+  pub it : Head
+  pub told : itemHeadOf it ≡ headOf (levelOf b) (drop p s)
+  pub is : it ≡ heads.Whole tag u w n
+  pub some : 0 < n
+  pub stands : mayStand (levelOf b) f tag (eqb (u + w + n) (length (drop p s))) ≡ true
+  pub allowed : (v : List ℕ) → length v ≡ n → getD v 0 0 ≡ getD s (p + (u + w)) 0 → valued (ruleOf (levelOf b) tag) v ≡ ok tt
+  pub shortest : (v : List ℕ) → length v ≡ n → getD v 0 0 ≡ getD s (p + (u + w)) 0 → short (ruleOf (levelOf b) tag) v ≡ v
+  pub begins : Begun b f p tag
+
+-- one that is told at a glance
+pub quick-meets : {b : Bool} {f : Form} {s : List ℕ} {p tag u w n : ℕ} {h : Head} → itemHeadOf h ≡ headOf (levelOf b) (drop p s) → h ≡ heads.Whole tag u w n
+    → items.Quick (levelOf b) f tag n (getD s (p + (u + w)) 0) → Begun b f p tag → Meets b f s p tag u w n
+quick-meets {h = h} told is q begins = record { it = h; told = told; is = is; some = q .some; stands = q .stands _; allowed = λ v e h. q .allowed v e (as-same _ _ h); shortest = λ v e h. q .shortest v e (as-same _ _ h); begins = begins }
+
+module _ {b : Bool} {f : Form} {s : List ℕ} {p tag u w n : ℕ} (i : Meets b f s p tag u w n) where
+  abbrev value : List ℕ
+  value = take (u + w + n - (u + w)) (drop (u + w) (drop p s))
+
+  value-is : value ≡ take n (drop (u + w) (drop p s))
+  value-is = mid-part (u + w) n (drop p s)
+
+  value-size : length value ≡ n
+  value-size = ap length value-is ∙ length-take-le n (drop (u + w) (drop p s)) (rw length-drop (omega (arith, piece-within (drop p s) (levelOf b) (i .told) (i .is))))
+
+  value-head : getD value 0 0 ≡ getD s (p + (u + w)) 0
+  value-head =
+      ap (λ v. getD v 0 0) value-is
+      ∙ getD-take n _ 0 0 (i .some)
+      ∙ getD-drop (u + w) (drop p s) 0 0
+      ∙ getD-drop p s (u + w + 0) 0
+      ∙ ap (λ i. getD s i 0) (omega arith)
+
+  pub quick-piece : {top low : ℕ} → ((seen : List ℕ) → Past (peek false false b) s p top low seen → false ≡ has tag seen)
+      → (seen : List ℕ) → Past (peek false false b) s p top low seen → piece.Whole tag (u + w) n n ≡ pieceOf (levelOf b) (item (levelOf b) f seen (drop p s))
+  quick-piece new seen past =
+      piece-whole (drop p s) (levelOf b) (i .told) (i .is) f seen
+      (λ e. omega (arith, i .some))
+      {j = 0} (standing-0 (levelOf b) f seen tag _ (new seen past) (sym (i .stands)) (eqb p 0) (sym (past .first)) (sym (i .begins)))
+      refl refl
+      {m = 0} (sym (i .allowed value value-size value-head)) refl
+      (sym (ap length (i .shortest value value-size value-head) ∙ value-size))
+
+-- such an item, where the walk goes on, if its tag is told to be new
+pub record MetAt (b : Bool) (f : Form) (s : List ℕ) (p : ℕ) (sum : Sizes) (mark : Bool) (top low tag u w n : ℕ) : Type 0 where
+  pub going : LevelGoing b f s p sum mark top low
+  pub here : p < length s
+  pub meets : Meets b f s p tag u w n
+  pub new : New p top low tag
+  pub bytes : Bytes s
+  pub most : length s ≤ 8192
+
+pub met-item : {b : Bool} {f : Form} {s : List ℕ} {p : ℕ} {sum : Sizes} {mark : Bool} {top low tag u w n : ℕ} → MetAt b f s p sum mark top low tag u w n → ItemAt b f s p sum mark top low tag (u + w) n n
+met-item {tag = tag} {u = u} {w = w} {n = n} i = record {
+  going = i .going;
+  here = i .here;
+  it = piece.Whole tag (u + w) n n;
+  told = quick-piece (i .meets) (new-key (i .new));
+  whole = refl;
+  bytes = i .bytes;
+  most = i .most;
+}
+
+module _ {b : Bool} {f : Form} {s : List ℕ} {p top n : ℕ} (g : Glance b f s p top n) where
+  abbrev tag : ℕ
+  tag = getD s p 0
+
+  glance-small : (0 < tag) × (tag < 128) × (n < 128)
+  glance-small = (omega (arith, g .above), g .small, g .few)
+
+  glance-piece : {low : ℕ} (seen : List ℕ) → Past (peek false false b) s p top low seen → piece.Whole tag 2 n n ≡ pieceOf (levelOf b) (item (levelOf b) f seen (drop p s))
+  glance-piece =
+      let (z, th, nh) = glance-small in
+      let et : tag ≡ getD (drop p s) 0 0 = sym (getD-drop p s 0 0 ∙ ap (λ i. getD s i 0) (omega arith)) in
+      let en : n ≡ getD (drop 1 (drop p s)) 0 0 = g .size-is ∙ sym (getD-drop 1 (drop p s) 0 0 ∙ getD-drop p s 1 0) in
+      let room : 1 + 1 + n ≤ length (drop p s) = rw length-drop (omega (arith, g .room)) in
+      let i : Meets b f s p tag 1 1 n = quick-meets (item-head-short (levelOf b) (drop p s) tag n et en z th nh room) refl (g .quick) (g .begins) in
+      quick-piece i λ seen q. sym (q .under tag (g .above))
+
+  -- x is the tag as the code read it
+  glance-more : {count : ℕ} {mark : Bool} {low : ℕ} → LevelGoing b f s p (quickSizes count p) mark top low → Bytes s → length s ≤ 8192
+      → {x : ℕ} → x ≡ tag → {y mark′ : Bool} → y ≡ eqb x (markTag (levelOf b)) → mark′ ≡ (mark || y) → {low′ : ℕ} → (low′ ≤ low) × (low′ ≤ x)
+      → LevelGoing b f s (p + 2 + n) (quickSizes (count + 1) (p + 2 + n)) mark′ x low′
+  glance-more {count = count} {mark = mark} {low = low} go bytes most ex ey em el =
+      let (z, th, nh) = glance-small in
+      let i : ItemAt b f s p _ _ top low tag 2 n n = record {
+        going = go;
+        here = omega (arith, g .room);
+        it = piece.Whole tag 2 n n;
+        told = λ seen q. glance-piece seen q;
+        whole = refl;
+        bytes = bytes;
+        most = most;
+      } in
+      entry-more i (item-told i {x = b && eqb tag 101} refl (rw level-is at (g .quick .no-series)) refl) refl (quick-plus (levelOf b) tag n count p (g .quick .no-seal) th nh)
+      (em ∙ ap (λ z. mark || z) (ey ∙ ap (λ z. eqb z (markTag (levelOf b))) ex)) (omega (arith, g .above, ex), omega (arith, ex)) (el .0, omega (arith, ex, el .1))
+
+-- an item that ends at next by its length; x is its tag as the code read it
+module _ {b : Bool} {f : Form} {s : List ℕ} {p top next : ℕ} (g : Glanced b f s p top next) where
+  pub glanced-next : (p + 2 < next) × (p + 2 < length s)
+  glanced-next = (omega (arith, g .1, g .2), g .3)
+
+  module _ (room : next ≤ length s) where
+    pub glanced-low : {low : ℕ} → (p < length s → top < getD s p 0 → getD s p 0 < 128 → low ≤ getD s p 0) → {x : ℕ} → x ≡ getD s p 0 → low ≤ x
+    glanced-low h ex = let i = g .4 room in omega (arith, ex, h (omega (arith, glanced-next)) (i .above) (i .small))
+
+    pub glanced-more : {count : ℕ} {mark : Bool} {low : ℕ} → LevelGoing b f s p (quickSizes count p) mark top low → Bytes s → length s ≤ 8192
+        → {x : ℕ} → x ≡ getD s p 0 → {y mark′ : Bool} → y ≡ eqb x (markTag (levelOf b)) → mark′ ≡ (mark || y) → low ≤ x
+        → LevelGoing b f s next (quickSizes (count + 1) next) mark′ x low
+    glanced-more go bytes most ex ey em el = rw (g .1) (glance-more (g .4 room) go bytes most ex ey em (omega arith, el))

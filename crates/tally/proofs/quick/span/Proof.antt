@@ -1,0 +1,40 @@
+-- `tally::quick::span` meets its contract.
+use native.Mathlib.Omega.{arith}
+use borrow.Author.Needs.{needs}
+use Rattle.items.specs.Meet.{formOf}
+use Rattle.tally.proofs.Glances.{begun-start}
+use Rattle.tally.proofs.quick.span.Statement.{statement}
+use Rattle.tally.proofs.quick.span.Tie as tie
+
+returns : tie.Need-returns
+returns c = (omega arith, λ h. absurd (omega arith))
+
+shared-slice-read-wide : tie.Need-shared-slice-read-wide
+shared-slice-read-wide c = search needs
+
+wide-requires : tie.Need-wide-requires
+wide-requires c κs = search needs
+
+begins-requires : tie.Need-begins-requires
+begins-requires c κs = search needs
+
+sub-result : tie.Need-sub-result
+sub-result c = search needs
+
+returns-2 : tie.Need-returns-2
+returns-2 c = (omega arith, λ h. begun-start (c .before .before .before .before .before .before .args .set) (formOf (c .before .before .before .before .before .before .args .alone)) (c .before .before .before .before .before .before .args .s .now) (c .before .before .wide .ensures .0) (c .before .begins .ensures) (c .if2 .taken))
+
+returns-3 : tie.Need-returns-3
+returns-3 c = (omega arith, λ h. absurd (omega arith))
+
+pub span-spec : {M : Type 1} → statement M
+span-spec =
+    tie.close
+    (tie.spec
+    returns
+    shared-slice-read-wide
+    wide-requires
+    begins-requires
+    sub-result
+    returns-2
+    returns-3)

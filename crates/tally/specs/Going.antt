@@ -1,0 +1,84 @@
+-- A walk while it goes: what was walked so far, with what is still to come, is the whole. For items and packs, of a packet or of a
+-- sheet: `look` is what a look back reads, and the run goes on while `more` says so.
+use mathlib.Core.Path.{_≡_}
+use Prim.Native.Nat.{ℕ, _+_, _≤_, _<_}
+use mathlib.Core.Bool.{Bool, true, false, not, _||_}
+use mathlib.Core.List.{List}
+use mathlib.Core.Logic.{_⊎_}
+use lib.ListN.{length, drop, getD}
+use lib.Dec.{eqb}
+use Rattle.format.specs.Answer.{Ans, ok, refused, Got}
+use Rattle.format.specs.Packet.{tagOfEntry, idOfPack}
+use Rattle.format.specs.Read.{onePack}
+use Rattle.format.specs.Run.{Step, skip, always}
+use Rattle.format.specs.Table.{Form, isSet, isAlone}
+use Rattle.items.specs.Meet.{levelOf}
+use Rattle.items.specs.Quick as items
+use Rattle.heads.specs.Meet.{peek, Past}
+use Rattle.tally.specs.declared.Sizes.{Sizes}
+use Rattle.tally.specs.declared.Walked.{Walked}
+use Rattle.tally.specs.declared.quick.Quick.{Quick}
+use Rattle.tally.specs.declared.Walked.the-variants.{Good, Bad}
+use Rattle.tally.specs.Meet.{plusSizes, total, any, weightOfEntry, weightOfPack, markTag, stepAt, levelWalk, seriesWalk, Few}
+
+-- what was walked so far, and the rest from p
+abbrev pub resume : {X : Type 0} → (X → Sizes) → (X → Bool) → Sizes → Bool → ℕ → Ans (Got (List X)) → Walked
+resume weight mark a m p (ok rs) = Good (plusSizes a (total weight (rs .val))) (m || any mark (rs .val))
+resume weight mark a m p (refused n q) = Bad n (p + q)
+
+pub record Going {X : Type 0} (look : List ℕ → Got ℕ) (more : List ℕ → Bool) (weight : X → Sizes) (mark : X → Bool) (key : X → ℕ) (step : Step X) (whole : Walked) (s : List ℕ) (p : ℕ)
+    (a : Sizes) (m : Bool) (top low : ℕ) : Type 0 where
+  pub seen : List ℕ
+  pub past : Past look s p top low seen
+  pub rest : whole ≡ resume weight mark a m p (skip more key step seen 0 (drop p s))
+  pub few : Few a p
+  pub to : p ≤ length s
+
+-- the item walk of a level
+abbrev pub LevelGoing : Bool → Form → List ℕ → ℕ → Sizes → Bool → ℕ → ℕ → Type 0
+LevelGoing b f s p a m top low =
+    Going (peek false false b) always (weightOfEntry (levelOf b)) (λ e. eqb (tagOfEntry e) (markTag (levelOf b))) tagOfEntry (stepAt (levelOf b) f) (levelWalk (levelOf b) f s) s p a m top low
+
+-- the pack walk of a series
+abbrev pub SeriesGoing : Form → List ℕ → ℕ → Sizes → ℕ → ℕ → Type 0
+SeriesGoing f s p a top low = Going (peek false true false) always weightOfPack (λ p. false) idOfPack (onePack f) (seriesWalk f s) s p a false top low
+
+-- where a walk goes on, and what was walked till there
+abbrev pub quickAt : ℕ → Sizes → Bool → ℕ → ℕ → Quick
+quickAt p a m top low = record { at = p; sizes = a; mark = m; top = top; low = low }
+
+-- a tag may stand at p, if that is where the level begins
+abbrev pub Begun : Bool → Form → ℕ → ℕ → Type 0
+Begun b f p tag = not (isSet (levelOf b)) || not (isAlone f) || not (eqb p 0) || eqb tag 2 ≡ true
+
+-- an item at p that is told at a glance, with a byte each for its tag and its length, and whose tag is above top
+pub record Glance (b : Bool) (f : Form) (s : List ℕ) (p top n : ℕ) : Type 0 where
+  pub quick : items.Quick (levelOf b) f (getD s p 0) n (getD s (p + 2) 0)
+  pub small : getD s p 0 < 128
+  pub few : n < 128
+  pub above : top < getD s p 0
+  pub size-is : n ≡ getD s (p + 1) 0
+  pub room : p + 2 + n ≤ length s
+  pub begins : Begun b f p (getD s p 0)
+
+-- there is one, if next, where its length says that it ends, is no further than the level's end
+abbrev pub Glanced : Bool → Form → List ℕ → ℕ → ℕ → ℕ → Type 0
+Glanced b f s p top next = (n : ℕ) × (next ≡ p + 2 + n) × (0 < n) × (p + 2 < length s) × (next ≤ length s → Glance b f s p top n)
+
+-- a key that is told to be new where no key before p is above top or below low
+abbrev pub New : ℕ → ℕ → ℕ → ℕ → Type 0
+New p top low key = (p ≡ 0) ⊎ (top < key) ⊎ (key < low)
+
+-- such a key, and what it and the keys before are not above or below
+pub record Reached (p top low key top′ low′ : ℕ) : Type 0 where
+  pub new : New p top low key
+  pub over : (top ≤ top′) × (key ≤ top′)
+  pub under : (low′ ≤ low) × (low′ ≤ key)
+  pub between : low′ ≤ top′
+
+-- an item of n bytes at p that may stand there whatever they are
+pub record Plain (b : Bool) (f : Form) (p top low tag n : ℕ) : Type 0 where
+  pub some : 0 < n
+  pub new : New p top low tag
+  pub begins : Begun b f p tag
+  pub beyond : items.beyond b tag ≡ true

@@ -1,0 +1,129 @@
+// What a walk over a level or a series says: an item that may stand there, the sizes of what was walked, or the first fault.
+ghost use mathlib.Core.Path.{_≡_};
+ghost use Prim.Native.Nat.{_≤_};
+ghost use mathlib.Core.Bool.{_&&_};
+ghost use lib.Dec.{eqb};
+ghost use Rattle.items.specs.Meet.{levelOf};
+ghost use Rattle.tally.specs.Meet.{itemSizes, stopAt, laterBy, seriesFrom, markTag, Within};
+
+// An item that may stand where it does: its tag, where its value begins, its length, and its shortest length; or the refusal's number.
+pub enum Piece {
+    Whole {
+        tag: u64,
+        from: usize,
+        size: usize,
+        short: usize,
+    },
+    Fault(u64),
+}
+
+// The bytes in the sheet, the rows, the bytes in normal form, and those of a series' packs.
+pub struct Sizes {
+    pub sheet: usize,
+    pub rows: usize,
+    pub normal: usize,
+    pub inner: usize,
+}
+
+// ---- walks
+
+// What was walked, and whether it holds what marks its level; or the first fault, from the start of what was walked.
+pub enum Walked {
+    Good { sizes: Sizes, mark: bool },
+    Bad { number: u64, place: usize },
+}
+
+pub fn stop(a: Piece, p: usize) -> Walked
+    ensures { λ r. ⌜ r ≡ stopAt p a ⌝ }
+{
+    match a {
+        Piece::Whole {
+            tag: _,
+            from: _,
+            size: _,
+            short: _,
+        } => Walked::Bad {
+            number: 0,
+            place: 0,
+        },
+        Piece::Fault(n) => Walked::Bad {
+            number: n,
+            place: p,
+        },
+    }
+}
+
+pub fn later(w: Walked, k: usize) -> Walked
+    requires { ⌜ Within w 65536 × (k ≤ 65536) ⌝ }
+    ensures { λ r. ⌜ r ≡ laterBy k w ⌝ }
+{
+    match w {
+        Walked::Good { sizes, mark } => Walked::Good { sizes, mark },
+        Walked::Bad { number, place } => Walked::Bad {
+            number,
+            place: k + place,
+        },
+    }
+}
+
+pub fn larger(a: u64, b: u64) -> u64
+    ensures { λ r. ⌜ (a ≤ r) × (b ≤ r) ⌝ }
+{
+    if a < b { b } else { a }
+}
+
+pub fn smaller(a: u64, b: u64) -> u64
+    ensures { λ r. ⌜ (r ≤ a) × (r ≤ b) ⌝ }
+{
+    if a < b { a } else { b }
+}
+
+pub fn is_series(set: bool, tag: u64) -> bool
+    ensures { λ r. ⌜ r ≡ (set && eqb tag 101) ⌝ }
+{
+    if set { tag == 101 } else { false }
+}
+
+// The tag that marks a level: the set's checksum, a pack's location.
+fn mark_tag(set: bool) -> u64
+    ensures { λ r. ⌜ r ≡ markTag (levelOf set) ⌝ }
+{
+    if set { 1 } else { 17 }
+}
+
+pub fn is_mark(set: bool, tag: u64) -> bool
+    ensures { λ r. ⌜ r ≡ eqb tag (markTag (levelOf set)) ⌝ }
+{
+    tag == mark_tag(set)
+}
+
+// An item that is no series.
+pub fn one_item(set: bool, tag: u64, n: usize) -> Walked
+    requires { ⌜ (tag ≤ 16383) × (n ≤ 65536) ⌝ }
+    ensures { λ r. ⌜ r ≡ Walked.Good (itemSizes (levelOf set) tag n) (eqb tag (markTag (levelOf set))) ⌝ }
+{
+    Walked::Good {
+        sizes: weights::plain_sizes(set, tag, n),
+        mark: is_mark(set, tag),
+    }
+}
+
+// A series, given its packs, whose bytes begin at k.
+pub fn series_of(w: Walked, k: usize) -> Walked
+    requires { ⌜ Within w 65536 × (k ≤ 65536) ⌝ }
+    ensures { λ r. ⌜ r ≡ seriesFrom k w ⌝ }
+{
+    match w {
+        Walked::Good { sizes, mark: _ } => Walked::Good {
+            sizes: weights::series_sizes(sizes),
+            mark: false,
+        },
+        Walked::Bad { number, place } => Walked::Bad {
+            number,
+            place: k + place,
+        },
+    }
+}
+
+pub mod quick; // quick.rt: the quick way over a level
+pub mod weights; // weights.rt: the sizes of an item, a pack and the series

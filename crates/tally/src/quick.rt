@@ -1,0 +1,225 @@
+// The quick way over a level, from its start: items told at a glance, with a byte each for tag and length, tags rising; then items that no
+// table lists. What stops it is left to the walks.
+ghost use mathlib.Core.Path.{_≡_};
+ghost use mathlib.Core.Bool.{true, false};
+ghost use Prim.Native.Nat.{_+_, _*_, _-_, _≤_, _<_};
+ghost use lib.ListN.{length, getD};
+ghost use Rattle.items.specs.Meet.{formOf, glanceTable};
+ghost use Rattle.tally.specs.Meet.{noSizes, sizes, seriesSizes, plusSizes, Small};
+ghost use Rattle.tally.specs.Going.{LevelGoing, quickAt, Begun, Glanced, New, Plain};
+use super::Sizes;
+use super::Walked;
+use heads::Head;
+
+// How far such an item may begin: two bytes and a value have room there, and what begins the level may.
+pub fn span(s: &[u8], set: bool, alone: bool) -> usize
+    ensures { λ r. ⌜ (r ≤ length (now (s .entry)) - 2) × (0 < r → Begun set (formOf alone) 0 (getD (now (s .entry)) 0 0)) ⌝ }
+{
+    if s.len() < 3 {
+        return 0;
+    }
+    let tag = coding::wide(s[0]);
+    if items::begins(set, alone, tag, true) {
+        return s.len() - 2;
+    }
+    0
+}
+
+// Where such an item at p ends by its length, its tag above top; 0 where it is no such item.
+pub fn glance(
+    glances: &[u32],
+    s: &[u8],
+    p: usize,
+    most: usize,
+    set: bool,
+    alone: bool,
+    top: u64,
+) -> usize
+    requires { ⌜ (now glances ≡ glanceTable) × (length (now s) ≤ 8192) × (most ≤ length (now s) - 2) × (0 < most → Begun set (formOf alone) 0 (getD (now s) 0 0)) ⌝ }
+    ensures { λ r. ⌜ (0 < r → Glanced set (formOf alone) (now (s .entry)) p top r) ⌝ }
+{
+    if most <= p {
+        return 0;
+    }
+    let tag = coding::wide(s[p]);
+    if tag <= top {
+        return 0;
+    }
+    let n = coding::wide(s[p + 1]);
+    if items::quick::is_quick(glances, set, alone, tag, n, s[p + 2]) {
+        return p + 2 + (n as usize);
+    }
+    0
+}
+
+// Where the item walk goes on, and what was walked till there.
+pub struct Quick {
+    pub at: usize,
+    pub sizes: Sizes,
+    pub mark: bool,
+    pub top: u64,
+    pub low: u64,
+}
+
+// The first tag, which is the lowest where tags rise; above all where it is not in one byte, so that tags that fall are below it.
+pub fn first_tag(s: &[u8]) -> u64
+    ensures { λ r. ⌜ (0 < length (now (s .entry)) → getD (now (s .entry)) 0 0 < 128 → r ≡ getD (now (s .entry)) 0 0) ⌝ }
+{
+    if s.len() == 0 {
+        return 0;
+    }
+    let tag = coding::wide(s[0]);
+    if 127 < tag {
+        return 18446744073709551615;
+    }
+    tag
+}
+
+// No bytes, rows or packs.
+pub fn nothing() -> Sizes
+    ensures { λ r. ⌜ r ≡ noSizes ⌝ }
+{
+    Sizes {
+        sheet: 0,
+        rows: 0,
+        normal: 0,
+        inner: 0,
+    }
+}
+
+// Of so many items told at a glance, in p bytes.
+pub fn told_sizes(count: usize, p: usize) -> Sizes
+    requires { ⌜ 4 * count + p ≤ 65536 ⌝ }
+    ensures { λ r. ⌜ r ≡ sizes (4 * count + p) count p 0 ⌝ }
+{
+    Sizes {
+        sheet: 4 * count + p,
+        rows: count,
+        normal: p,
+        inner: 0,
+    }
+}
+
+// The items told at a glance, one after another. If the last goes past the end, which is seen once for all, the walk begins anew.
+pub fn run(glances: &[u32], s: &[u8], set: bool, alone: bool) -> Quick
+    requires { ⌜ (now glances ≡ glanceTable) × (length (now s) ≤ 8192) ⌝ }
+    ensures { λ r. ⌜ LevelGoing set (formOf alone) (now (s .entry)) (r .at) (r .sizes) (r .mark) (r .top) (r .low) × (r .sizes ≡ sizes (4 * (r .sizes .rows) + r .at) (r .sizes .rows) (r .at) 0) ⌝ }
+{
+    let most = span(s, set, alone);
+    let low = first_tag(s);
+    let mut p: usize = 0;
+    let mut count: usize = 0;
+    let mut mark = false;
+    let mut top: u64 = 0;
+    loop {
+        let next = glance(glances, s, p, most, set, alone, top);
+        if next == 0 {
+            if s.len() < p {
+                return stands(0, nothing(), false, 0, low);
+            }
+            return stands(p, told_sizes(count, p), mark, top, low);
+        }
+        let tag = coding::wide(s[p]);
+        mark = coding::either(mark, super::is_mark(set, tag));
+        top = tag;
+        count += 1;
+        p = next;
+    }
+}
+
+// ---- on from there
+
+// Where a walk goes on.
+pub fn stands(at: usize, sizes: Sizes, mark: bool, top: u64, low: u64) -> Quick
+    ensures { λ r. ⌜ r ≡ quickAt at sizes mark top low ⌝ }
+{
+    Quick {
+        at,
+        sizes,
+        mark,
+        top,
+        low,
+    }
+}
+
+// Where the set goes on after its series, whose packs or targets have these sizes.
+pub fn after_series(q: Quick, next: usize, sizes: Sizes) -> Quick
+    requires { ⌜ Small sizes × Small (q .sizes) × Small (seriesSizes sizes) ⌝ }
+    ensures { λ r. ⌜ (r .low ≤ q .low) × (r .low ≤ 101) × (r ≡ quickAt next (plusSizes (q .sizes) (seriesSizes sizes)) (q .mark) 101 (r .low)) ⌝ }
+{
+    let sum = super::weights::plus(q.sizes, super::weights::series_sizes(sizes));
+    stands(next, sum, q.mark, 101, super::smaller(q.low, 101))
+}
+
+// What was walked till there.
+pub fn walked(q: Quick) -> Walked
+    ensures { λ r. ⌜ r ≡ Walked.Good (q .sizes) (q .mark) ⌝ }
+{
+    let sizes = q.sizes;
+    let mark = q.mark;
+    Walked::Good { sizes, mark }
+}
+
+// Whether a key is told to be new without a look back: no key before p is above top or below low.
+fn is_new(p: usize, top: u64, low: u64, key: u64) -> bool
+    ensures { λ r. ⌜ (r ≡ true → New p top low key) ⌝ }
+{
+    if top < key {
+        return true;
+    }
+    if key < low {
+        return true;
+    }
+    p == 0
+}
+
+// Whether an item with a value of n bytes may stand at p, whatever they are: no table lists its tag, and that is told to be new.
+pub fn is_plain(set: bool, alone: bool, p: usize, top: u64, low: u64, tag: u64, n: usize) -> bool
+    ensures { λ r. ⌜ (r ≡ true → Plain set (formOf alone) p top low tag n) ⌝ }
+{
+    if n == 0 {
+        return false;
+    }
+    if !is_new(p, top, low, tag) {
+        return false;
+    }
+    if !items::begins(set, alone, tag, p == 0) {
+        return false;
+    }
+    items::quick::is_beyond(set, tag)
+}
+
+// The items after those of the quick way that are such, one after another.
+pub fn onward(s: &[u8], set: bool, alone: bool, q: Quick) -> Quick
+    requires { ⌜ (length (now s) ≤ 8192) × LevelGoing set (formOf alone) (now s) (q .at) (q .sizes) (q .mark) (q .top) (q .low) ⌝ }
+    ensures { λ r. ⌜ LevelGoing set (formOf alone) (now (s .entry)) (r .at) (r .sizes) (r .mark) (r .top) (r .low) ⌝ }
+{
+    let mut p = q.at;
+    let mut sum = q.sizes;
+    let mut top = q.top;
+    let mut low = q.low;
+    while p < s.len() {
+        // the series is no such item
+        if super::is_series(set, coding::wide(s[p])) {
+            return stands(p, sum, q.mark, top, low);
+        }
+        let h = heads::item_head(&s[p..], set);
+        let Head::Whole {
+            key,
+            used,
+            width,
+            size,
+        } = h
+        else {
+            return stands(p, sum, q.mark, top, low);
+        };
+        if !is_plain(set, alone, p, top, low, key, size) {
+            return stands(p, sum, q.mark, top, low);
+        }
+        sum = super::weights::plus(sum, super::weights::plain_sizes(set, key, size));
+        top = super::larger(top, key);
+        low = super::smaller(low, key);
+        p = p + used + width + size;
+    }
+    stands(p, sum, q.mark, top, low)
+}

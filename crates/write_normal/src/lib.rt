@@ -1,0 +1,141 @@
+// The entries of a packet's set in normal form, written into a lent output as the item walk and the pack walk go over a packet that was checked.
+ghost use mathlib.Core.Path.{_≡_};
+ghost use Prim.Native.Nat.{_+_, _^_, _≤_, _<_};
+ghost use lib.ListN.{length};
+ghost use lib.Seq.{sets};
+ghost use Rattle.items.specs.Meet.{formOf, levelOf, itemTable, glanceTable};
+ghost use Rattle.write_normal.specs.Meet.{itemNormal, seriesFront, packFront, InnerRun, levelNormal, seriesNormal};
+ghost use Rattle.tally.specs.Runs.{Ran, levelRun, seriesRun};
+use heads::Head;
+use tally::Walked;
+
+// ---- items and heads
+
+// An item in normal form, from its value as it stands in the packet; where it ends. The set's checksum has no place.
+pub fn put_normal(table: &[u32], out: &mut [u8], at: usize, set: bool, tag: u64, v: &[u8]) -> usize
+    requires { ⌜ (now table ≡ itemTable) × ((tag ≤ 16383) × (0 < length (now v)) × (length (now v) ≤ 8192) × (at + length (itemNormal (levelOf set) tag (now v)) ≤ length (now out))) ⌝ }
+    ensures { λ r. ⌜ (r ≡ at + length (itemNormal (levelOf set) tag (now (v .entry)))) × (now (out .exit) ≡ sets (now (out .entry)) at (itemNormal (levelOf set) tag (now (v .entry)))) ⌝ }
+{
+    if set {
+        if tag == 1 {
+            return at;
+        }
+    }
+    let rule = items::rule_of(table, set, tag);
+    let n = items::short_size(rule, v);
+    store_coded::put_short(out, at, tag, &v[v.len() - n..])
+}
+
+// What stands in front of a series' packs, n bytes; where it ends.
+pub fn put_series(out: &mut [u8], at: usize, n: usize) -> usize
+    requires { ⌜ (n ≤ 65536) × (at + length (seriesFront n) ≤ length (now out)) ⌝ }
+    ensures { λ r. ⌜ (r ≡ at + length (seriesFront n)) × (now (out .exit) ≡ sets (now (out .entry)) at (seriesFront n)) ⌝ }
+{
+    let a = stores::put_number(out, at, 101, 1);
+    store_coded::put_len(out, a, n)
+}
+
+// What stands in front of a pack's items, where its id and its items are n bytes; where it ends.
+pub fn put_pack(out: &mut [u8], at: usize, n: usize, id: u64) -> usize
+    requires { ⌜ (n ≤ 65536) × (id < 2 ^ 63) × (at + length (packFront n id) ≤ length (now out)) ⌝ }
+    ensures { λ r. ⌜ (r ≡ at + length (packFront n id)) × (now (out .exit) ≡ sets (now (out .entry)) at (packFront n id)) ⌝ }
+{
+    let a = store_coded::put_len(out, at, n);
+    store_coded::put_oid(out, a, id)
+}
+
+// ---- the walks
+
+// The items of a level: the set, whose series has `inner` bytes of packs in normal form, or a pack; how many bytes.
+pub fn item_normal(
+    table: &[u32],
+    glances: &[u32],
+    s: &[u8],
+    set: bool,
+    alone: bool,
+    inner: usize,
+    bits: &mut [u64; 64],
+    out: &mut [u8],
+) -> usize
+    requires { ⌜ (now table ≡ itemTable) × ((length (now s) ≤ 8192) × Ran (levelRun (levelOf set) (formOf alone) (now s)) × (inner ≤ 65536) × InnerRun inner (levelRun (levelOf set) (formOf alone) (now s)) × (length (levelNormal (levelOf set) (formOf alone) (now s)) ≤ length (now out))) × (now glances ≡ glanceTable) ⌝ }
+    ensures { λ r. ⌜ (r ≡ length (levelNormal (levelOf set) (formOf alone) (now (s .entry)))) × (now (out .exit) ≡ sets (now (out .entry)) 0 (levelNormal (levelOf set) (formOf alone) (now (s .entry)))) ⌝ }
+{
+    let mut p: usize = 0;
+    let mut k: usize = 0;
+    while p < s.len() {
+        let h = heads::item_head(&s[p..], set);
+        let Head::Whole {
+            key,
+            used,
+            width,
+            size,
+        } = h
+        else {
+            return k;
+        };
+        let from = p + used + width;
+        let next = from + size;
+        k = if tally::is_series(set, key) {
+            let m = put_series(out, k, inner);
+            m + pack_normal(table, glances, &s[from..next], alone, bits, &mut out[m..])
+        } else {
+            put_normal(table, out, k, set, key, &s[from..next])
+        };
+        p = next;
+    }
+    k
+}
+
+// The packs of a series; how many bytes.
+pub fn pack_normal(
+    table: &[u32],
+    glances: &[u32],
+    s: &[u8],
+    alone: bool,
+    bits: &mut [u64; 64],
+    out: &mut [u8],
+) -> usize
+    requires { ⌜ (now table ≡ itemTable) × ((length (now s) ≤ 8192) × Ran (seriesRun (formOf alone) (now s)) × (length (seriesNormal (formOf alone) (now s)) ≤ length (now out))) × (now glances ≡ glanceTable) ⌝ }
+    ensures { λ r. ⌜ (r ≡ length (seriesNormal (formOf alone) (now (s .entry)))) × (now (out .exit) ≡ sets (now (out .entry)) 0 (seriesNormal (formOf alone) (now (s .entry)))) ⌝ }
+{
+    let mut p: usize = 0;
+    let mut k: usize = 0;
+    while p < s.len() {
+        let h = heads::quick_pack_head(&s[p..]);
+        let Head::Whole {
+            key,
+            used,
+            width,
+            size,
+        } = h
+        else {
+            return k;
+        };
+        let from = p + width + used;
+        let next = p + width + size;
+        let w = check_items::item_walk(table, glances, &s[from..next], false, alone, bits);
+        let Walked::Good { sizes, mark: _ } = w else {
+            return k;
+        };
+        let n = used + sizes.normal;
+        let m = put_pack(out, k, n, key);
+        // No item grows, so items that keep their size are in normal form.
+        k = if n == size {
+            stores::copy_run(out, m, &s[from..next])
+        } else {
+            m
+                + item_normal(
+                    table,
+                    glances,
+                    &s[from..next],
+                    false,
+                    alone,
+                    0,
+                    bits,
+                    &mut out[m..],
+                )
+        };
+        p = next;
+    }
+    k
+}

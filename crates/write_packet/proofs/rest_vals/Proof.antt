@@ -1,0 +1,125 @@
+-- `write_packet::rest_vals` meets its contract: each turn stores what one record of a target is in the packet.
+use mathlib.Core.Path.{_≡_, sym, _∙_}
+use Prim.Native.Nat.{ℕ, _-_}
+use native.Mathlib.Omega.{arith}
+use mathlib.Core.Bool.{true, false}
+use mathlib.Core.List.{List}
+use lib.ListN.{length, drop}
+use borrow.Author.Needs.{needs}
+use borrow.Author.Tests.{not-true, not-false}
+use Rattle.format.specs.Sheet.{TS, TI, is}
+use Rattle.items.specs.Meet.{formOf}
+use Rattle.write_packet.specs.Writing.{RecordsWriting}
+use Rattle.write_packet.proofs.Steps.{ti-no-ts}
+use Rattle.write_packet.proofs.Turns.{asked-first, records-over, records-passed, RecordAt, val-here, fields-room, item-room, item-asked, item-more}
+use Rattle.write_packet.proofs.rest_vals.Statement.{statement}
+use Rattle.write_packet.proofs.rest_vals.Tie as tie
+use Rattle.write_packet.proofs.rest_vals.Reads as reads
+use Rattle.write_packet.proofs.rest_vals.Lts as lts
+use Rattle.heads.proofs.records.is_mark.Reads as is-mark-reads
+use Rattle.write_packet.proofs.two_at.Reads as two-at-reads
+use Rattle.store_coded.proofs.put_short.Reads as put-short-reads
+
+abbrev Inv-loop : tie.InvT-loop
+Inv-loop s from at alone out₀ p₀ k₀ out p k = (o : List ℕ) → RecordsWriting 0 false (formOf alone) s o out₀ from at → RecordsWriting 0 false (formOf alone) s o out p k
+
+abbrev μ-loop : tie.MeasureT-loop
+μ-loop s from at alone out₀ p₀ k₀ out p k = length s - p
+
+-- a `TI` stands there, and no `TS`
+marked : (a : lts.Else1 (is-mark-reads.Asked, is-mark-reads.Learnt, two-at-reads.Asked, two-at-reads.Learnt, put-short-reads.Asked, put-short-reads.Learnt) reads.Pre reads.Post Inv-loop μ-loop) → is TI (drop (a .before .before .loop .p) (a .before .before .before .before .before .args .s .now)) ≡ true
+marked a = sym (a .before .is-mark .ensures) ∙ not-false _ (a .if1 .left)
+
+no-series : (a : lts.Else1 (is-mark-reads.Asked, is-mark-reads.Learnt, two-at-reads.Asked, two-at-reads.Learnt, put-short-reads.Asked, put-short-reads.Learnt) reads.Pre reads.Post Inv-loop μ-loop) → is TS (drop (a .before .before .loop .p) (a .before .before .before .before .before .args .s .now)) ≡ false
+no-series a = ti-no-ts (drop (a .before .before .loop .p) (a .before .before .before .before .before .args .s .now)) (marked a)
+
+-- whatever was lent first
+here-of : (a : lts.Else1 (is-mark-reads.Asked, is-mark-reads.Learnt, two-at-reads.Asked, two-at-reads.Learnt, put-short-reads.Asked, put-short-reads.Learnt) reads.Pre reads.Post Inv-loop μ-loop) (o : List ℕ)
+    → RecordsWriting 0 false (formOf (a .before .before .before .before .before .args .alone)) (a .before .before .before .before .before .args .s .now) o (a .before .before .before .before .before .args .out .now) (a .before .before .before .before .before .args .from) (a .before .before .before .before .before .args .at)
+    → RecordAt 0 false (formOf (a .before .before .before .before .before .args .alone)) (a .before .before .before .before .before .args .s .now) o (a .before .before .loop .out) (a .before .before .loop .p) (a .before .before .loop .k)
+here-of a o g = val-here (a .before .before .loop .inv o g) (marked a) (λ i. a .before .before .before .before .shared-slice-known .given i .fits) (asked-first g (a .before .before .before .before .before .pre .0))
+
+here : (a : lts.Else1 (is-mark-reads.Asked, is-mark-reads.Learnt, two-at-reads.Asked, two-at-reads.Learnt, put-short-reads.Asked, put-short-reads.Learnt) reads.Pre reads.Post Inv-loop μ-loop)
+    → RecordAt 0 false (formOf (a .before .before .before .before .before .args .alone)) (a .before .before .before .before .before .args .s .now) (a .before .before .before .before .before .pre .1 .0) (a .before .before .loop .out) (a .before .before .loop .p) (a .before .before .loop .k)
+here a = here-of a (a .before .before .before .before .before .pre .1 .0) (a .before .before .before .before .before .pre .1 .1)
+
+loop-holds : tie.Need-loop-holds Inv-loop μ-loop
+loop-holds c = λ o g. g
+
+is-mark-requires : tie.Need-is-mark-requires Inv-loop μ-loop
+is-mark-requires c κs = search needs
+
+same-length : tie.Need-same-length Inv-loop μ-loop
+same-length c =
+    let i = c .before .before .before .before .before .pre .1 in
+    c .before .before .loop .inv (i .0) (i .1) .writes .same ∙ sym (i .1 .writes .same)
+
+returns : tie.Need-returns Inv-loop μ-loop
+returns c =
+    let m = sym (c .before .is-mark .ensures) ∙ not-true _ (c .if1 .taken) in
+    let i = c .before .before .before .before .before .pre .1 in
+    let g = c .before .before .loop .inv (i .0) (i .1) in
+    (records-passed g m, records-over g m .0, λ o q. records-over (c .before .before .loop .inv o q) m .1)
+
+add-two-at : tie.Need-add-two-at Inv-loop μ-loop
+add-two-at c = omega (arith, fields-room (here c) (no-series c))
+
+two-at-requires : tie.Need-two-at-requires Inv-loop μ-loop
+two-at-requires c κs = omega (arith, fields-room (here c) (no-series c))
+
+add-two-at-2 : tie.Need-add-two-at-2 Inv-loop μ-loop
+add-two-at-2 c = omega (arith, fields-room (here (c .before)) (no-series (c .before)))
+
+two-at-requires-2 : tie.Need-two-at-requires-2 Inv-loop μ-loop
+two-at-requires-2 c κs = omega (arith, fields-room (here (c .before)) (no-series (c .before)))
+
+add-next : tie.Need-add-next Inv-loop μ-loop
+add-next c = omega (arith, item-room (here (c .before .before)) (no-series (c .before .before)) (c .before .two-at .ensures) (c .two-at2 .ensures))
+
+add-next-2 : tie.Need-add-next-2 Inv-loop μ-loop
+add-next-2 c = omega (arith, item-room (here (c .before .before)) (no-series (c .before .before)) (c .before .two-at .ensures) (c .two-at2 .ensures))
+
+add-put-short : tie.Need-add-put-short Inv-loop μ-loop
+add-put-short c = omega (arith, item-room (here (c .before .before .before)) (no-series (c .before .before .before)) (c .before .before .two-at .ensures) (c .before .two-at2 .ensures))
+
+sub-put-short : tie.Need-sub-put-short Inv-loop μ-loop
+sub-put-short c = omega (arith, item-room (here (c .before .before .before)) (no-series (c .before .before .before)) (c .before .before .two-at .ensures) (c .before .two-at2 .ensures))
+
+part-put-short-start : tie.Need-part-put-short-start Inv-loop μ-loop
+part-put-short-start c = omega (arith, item-room (here (c .before .before .before)) (no-series (c .before .before .before)) (c .before .before .two-at .ensures) (c .before .two-at2 .ensures))
+
+part-put-short-end : tie.Need-part-put-short-end Inv-loop μ-loop
+part-put-short-end c = omega (arith, item-room (here (c .before .before .before)) (no-series (c .before .before .before)) (c .before .before .two-at .ensures) (c .before .two-at2 .ensures))
+
+put-short-requires : tie.Need-put-short-requires Inv-loop μ-loop
+put-short-requires c κs = item-asked (here (c .before .before .before .before)) (no-series (c .before .before .before .before)) (c .before .before .before .two-at .ensures) (c .before .before .two-at2 .ensures)
+
+loop-less : tie.Need-loop-less Inv-loop μ-loop
+loop-less c = omega (arith, item-room (here (c .before .before .before .before .before .before .before)) (no-series (c .before .before .before .before .before .before .before)) (c .before .before .before .before .before .before .two-at .ensures) (c .before .before .before .before .before .two-at2 .ensures))
+
+loop-again : tie.Need-loop-again Inv-loop μ-loop
+loop-again c = λ o q. item-more (here-of (c .before .before .before .before .before .before .before) o q) (no-series (c .before .before .before .before .before .before .before)) (c .before .before .before .before .before .before .two-at .ensures) (c .before .before .before .before .before .two-at2 .ensures) (c .before .before .put-short .ensures)
+
+pub rest-vals-spec : {M : Type 1} → statement M
+rest-vals-spec =
+    tie.close
+    (tie.spec
+    Inv-loop
+    μ-loop
+    loop-holds
+    is-mark-requires
+    same-length
+    returns
+    add-two-at
+    two-at-requires
+    add-two-at-2
+    two-at-requires-2
+    add-next
+    add-next-2
+    add-put-short
+    sub-put-short
+    part-put-short-start
+    part-put-short-end
+    put-short-requires
+    loop-less
+    loop-again)

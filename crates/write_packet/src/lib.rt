@@ -1,0 +1,184 @@
+// The entries of a packet's set in normal form, written into a lent output from a sheet that was checked, record by record.
+ghost use mathlib.Core.Path.{_≡_};
+ghost use Prim.Native.Nat.{ℕ, _+_, _^_, _≤_, _<_};
+ghost use mathlib.Core.Bool.{true, false};
+ghost use mathlib.Core.List.{List, [], _∷_};
+ghost use lib.ListN.{length, take, drop};
+ghost use lib.Seq.{sets};
+ghost use Rattle.items.specs.Meet.{formOf, levelOf};
+ghost use Rattle.tally.specs.Runs.{Ran};
+ghost use Rattle.format.specs.Coding.{bytesNumber};
+ghost use Rattle.format.specs.Table.{pack};
+ghost use Rattle.format.specs.Packet.{flatItem};
+ghost use Rattle.format.specs.Calls.{itemOf};
+ghost use Rattle.write_normal.specs.Meet.{packFront};
+ghost use Rattle.write_packet.specs.Meet.{usedOf, recordsRun, targetsRun, recordsNormal, targetsNormal};
+ghost use Rattle.write_packet.specs.Writing.{RecordsAsked, RecordsWriting, Small};
+use stores::Passed;
+
+// The number of two bytes at p, as a record's tag and its value's length are.
+fn two_at(s: &[u8], p: usize) -> u64
+    requires { ⌜ p + 2 ≤ length (now s) ⌝ }
+    ensures { λ r. ⌜ r ≡ bytesNumber (take 2 (drop p (now (s .entry)))) ⌝ }
+{
+    coding::number_of(&s[p..], 2)
+}
+
+// Whether the tag and the value's length of the record at p have a byte each, below 128, as most have. In one number the four bytes are read
+// and tested at once.
+fn is_small(s: &[u8], p: usize) -> bool
+    requires { ⌜ p + 6 ≤ length (now s) ⌝ }
+    ensures { λ r. ⌜ (r ≡ true → Small (now (s .entry)) p) ⌝ }
+{
+    let a = coding::wide(s[p + 2]);
+    let b = coding::wide(s[p + 3]);
+    let c = coding::wide(s[p + 4]);
+    let d = coding::wide(s[p + 5]);
+    (a + 256 * b + 65536 * c + 16777216 * d) & 0x80ff80ff == 0
+}
+
+// The item of such a record; where it ends.
+fn put_small(out: &mut [u8], at: usize, tag: u8, v: &[u8]) -> usize
+    requires { ⌜ (tag < 128) × (length (now v) < 128) × (at + length (flatItem (itemOf (record { tag = tag; value = now v }))) ≤ length (now out)) ⌝ }
+    ensures { λ r. ⌜ (r ≡ at + length (flatItem (itemOf (record { tag = tag; value = now (v .entry) })))) × (now (out .exit) ≡ sets (now (out .entry)) at (flatItem (itemOf (record { tag = tag; value = now (v .entry) })))) ⌝ }
+{
+    out[at] = tag;
+    let a = at + 1;
+    out[a] = v.len() as u8;
+    stores::copy(out, a + 1, v)
+}
+
+// The item of such a record whose value has one byte, as most have: where it ends is told without waiting for the length.
+fn put_one(out: &mut [u8], at: usize, tag: u8, v: u8) -> usize
+    requires { ⌜ (tag < 128) × (at + length (flatItem (itemOf (record { tag = tag; value = v ∷ [] }))) ≤ length (now out)) ⌝ }
+    ensures { λ r. ⌜ (r ≡ at + length (flatItem (itemOf (record { tag = tag; value = v ∷ [] })))) × (now (out .exit) ≡ sets (now (out .entry)) at (flatItem (itemOf (record { tag = tag; value = v ∷ [] })))) ⌝ }
+{
+    out[at] = tag;
+    out[at + 1] = 1;
+    out[at + 2] = v;
+    at + 3
+}
+
+// The records of a target from a place on, where at bytes are written for those before it.
+fn rest_vals(s: &[u8], from: usize, at: usize, alone: bool, out: &mut [u8]) -> Passed
+    requires { ⌜ RecordsAsked 0 false (formOf alone) (now s) (length (now out)) × ((o : List ℕ) × RecordsWriting 0 false (formOf alone) (now s) o (now out) from at) ⌝ }
+    ensures { λ r. ⌜ (r .used ≡ usedOf (recordsRun pack (formOf alone) (now (s .entry)))) × (r .wrote ≡ length (recordsNormal pack (formOf alone) (now (s .entry)))) × ((o : List ℕ) → RecordsWriting 0 false (formOf alone) (now (s .entry)) o (now (out .entry)) from at → now (out .exit) ≡ sets o 0 (recordsNormal pack (formOf alone) (now (s .entry)))) ⌝ }
+{
+    let mut p = from;
+    let mut k = at;
+    loop {
+        if !heads::records::is_mark(s, p, b'T', b'I') {
+            return Passed { used: p, wrote: k };
+        }
+        let tag = two_at(s, p + 2);
+        let n = two_at(s, p + 4);
+        let next = p + 6 + n as usize;
+        k = store_coded::put_short(out, k, tag, &s[p + 6..next]);
+        p = next;
+    }
+}
+
+// The records of a target, the small ones one after another: what stops them is left to the rest, which is kept out of the loop over the targets.
+fn put_vals(s: &[u8], alone: bool, out: &mut [u8]) -> Passed
+    requires { ⌜ RecordsAsked 0 false (formOf alone) (now s) (length (now out)) ⌝ }
+    ensures { λ r. ⌜ (r .used ≡ usedOf (recordsRun pack (formOf alone) (now (s .entry)))) × (r .wrote ≡ length (recordsNormal pack (formOf alone) (now (s .entry)))) × (now (out .exit) ≡ sets (now (out .entry)) 0 (recordsNormal pack (formOf alone) (now (s .entry)))) ⌝ }
+{
+    let mut p: usize = 0;
+    let mut k: usize = 0;
+    loop {
+        if !heads::records::is_mark(s, p, b'T', b'I') {
+            return Passed { used: p, wrote: k };
+        }
+        if !is_small(s, p) {
+            return rest_vals(s, p, k, alone, out);
+        }
+        let n = coding::wide(s[p + 5]);
+        if n == 1 {
+            k = put_one(out, k, s[p + 3], s[p + 6]);
+            p = p + 7;
+        } else {
+            let next = p + 6 + n as usize;
+            k = put_small(out, k, s[p + 3], &s[p + 6..next]);
+            p = next;
+        }
+    }
+}
+
+// The records of a level: the set, whose series has `inner` bytes of packs, or a target; how many bytes they write.
+pub fn item_packet(s: &[u8], set: bool, alone: bool, inner: usize, out: &mut [u8]) -> usize
+    requires { ⌜ RecordsAsked inner set (formOf alone) (now s) (length (now out)) ⌝ }
+    ensures { λ r. ⌜ (r ≡ length (recordsNormal (levelOf set) (formOf alone) (now (s .entry)))) × (now (out .exit) ≡ sets (now (out .entry)) 0 (recordsNormal (levelOf set) (formOf alone) (now (s .entry)))) ⌝ }
+{
+    let mut p: usize = 0;
+    let mut k: usize = 0;
+    while p < s.len() {
+        if !quick_records::goes_on(s, p, set) {
+            return k;
+        }
+        if heads::records::is_mark(s, p, b'T', b'S') {
+            let m = write_normal::put_series(out, k, inner);
+            let d = target_packet(&s[p + 2..], alone, &mut out[m..]);
+            p = p + 2 + d.used;
+            k = m + d.wrote;
+        } else {
+            let tag = two_at(s, p + 2);
+            let n = two_at(s, p + 4);
+            let next = p + 6 + n as usize;
+            k = store_coded::put_short(out, k, tag, &s[p + 6..next]);
+            p = next;
+        }
+    }
+    k
+}
+
+// What stands in front of a pack's items, where its id and its items are n bytes; where it ends. Most packs have one byte for n, and one or two for
+// the id.
+fn put_head(out: &mut [u8], at: usize, n: usize, id: u64) -> usize
+    requires { ⌜ (n ≤ 65536) × (id < 2 ^ 63) × (at + length (packFront n id) ≤ length (now out)) ⌝ }
+    ensures { λ r. ⌜ (r ≡ at + length (packFront n id)) × (now (out .exit) ≡ sets (now (out .entry)) at (packFront n id)) ⌝ }
+{
+    if 127 < n {
+        return write_normal::put_pack(out, at, n, id);
+    }
+    if 16383 < id {
+        return write_normal::put_pack(out, at, n, id);
+    }
+    out[at] = n as u8;
+    let a = at + 1;
+    if id < 128 {
+        out[a] = id as u8;
+        return a + 1;
+    }
+    out[a] = store_coded::marked7(coding::widths::above7(id));
+    out[a + 1] = store_coded::low7(id);
+    a + 2
+}
+
+// The targets of the series.
+fn target_packet(s: &[u8], alone: bool, out: &mut [u8]) -> Passed
+    requires { ⌜ (length (now s) ≤ 65536) × Ran (targetsRun (formOf alone) (now s)) × (length (targetsNormal (formOf alone) (now s)) ≤ length (now out)) × (length (targetsNormal (formOf alone) (now s)) ≤ 8192) ⌝ }
+    ensures { λ r. ⌜ (r .used ≡ usedOf (targetsRun (formOf alone) (now (s .entry)))) × (r .wrote ≡ length (targetsNormal (formOf alone) (now (s .entry)))) × (now (out .exit) ≡ sets (now (out .entry)) 0 (targetsNormal (formOf alone) (now (s .entry)))) ⌝ }
+{
+    let mut p: usize = 0;
+    let mut k: usize = 0;
+    loop {
+        if !heads::records::is_mark(s, p, b'T', b'G') {
+            return Passed { used: p, wrote: k };
+        }
+        let id = coding::number_of(&s[p + 2..], 8);
+        let from = p + 10;
+        let w = coding::widths::oid_width(id);
+        // The items go behind the head that most packs have, a length of one byte and the id; for a longer length they are moved on.
+        let at = k + 1 + w;
+        let d = put_vals(&s[from..], alone, &mut out[at..]);
+        let next = from + d.used;
+        let body = w + d.wrote;
+        if 127 < body {
+            let by = coding::widths::len_width(body) - 1;
+            stores::shift(out, at, d.wrote, by);
+        }
+        let m = put_head(out, k, body, id);
+        k = m + d.wrote;
+        p = next;
+    }
+}

@@ -12,10 +12,10 @@ ghost use Rattle.tally.specs.Going.{Begun};
 ghost use Rattle.quick_records.specs.Meet.{recordsWalk};
 ghost use Rattle.quick_records.specs.Going.{RecordsGoing};
 ghost use Rattle.check_sheet.specs.Meet.{sheetedOf, partsFault};
-use tally::Walked;
-use tally::quick::Quick;
 use quick_records::quick;
 use quick_records::targets;
+use tally::Walked;
+use tally::quick::Quick;
 
 // Its form, the bytes of its packet's set but for the checksum, and those of the series' packs; or the refusal.
 pub enum Sheeted {

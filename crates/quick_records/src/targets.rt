@@ -12,9 +12,9 @@ ghost use Rattle.quick_packs.specs.Packs.{As};
 ghost use Rattle.quick_records.specs.Going.{TargetsPassed};
 ghost use Rattle.quick_records.specs.Targets.{Laid, Held, Over, Modelled};
 use super::quick;
+use quick_packs::Model;
 use tally::Sizes;
 use tally::quick::Quick;
-use quick_packs::Model;
 
 // A target's records told at a glance, as `quick::run` goes over them, and marked while there is room: whatever is laid out so is walked so.
 fn lay(glances: &[u32], s: &[u8], alone: bool, marks: &mut [u8; 160]) -> Quick

@@ -13,7 +13,7 @@ use heads::Head;
 use tally::Piece;
 use tally::Walked;
 use tally::quick;
-use tally::quick::Quick;
+use tally::quick::Stage;
 
 // The item at p of a level s; no tag before p is above top or below low, and none repeats before clear.
 fn item_at(
@@ -97,7 +97,7 @@ pub fn item_walk(
         s,
         set,
         alone,
-        quick::run(glances, s, set, alone),
+        quick::glance_items(glances, s, set, alone),
         bits,
     )
 }
@@ -109,16 +109,16 @@ pub fn item_rest(
     s: &[u8],
     set: bool,
     alone: bool,
-    from: Quick,
+    from: Stage,
     bits: &mut [u64; 64],
 ) -> Walked
-    requires { ⌜ (now table ≡ itemTable) × (length (now s) ≤ 8192) × LevelGoing set (formOf alone) (now s) (from .at) (from .sizes) (from .mark) (from .top) (from .low) × (now glances ≡ glanceTable) ⌝ }
+    requires { ⌜ (now table ≡ itemTable) × (length (now s) ≤ 8192) × LevelGoing set (formOf alone) (now s) (from .at) (from .sizes) (from .held) (from .top) (from .low) × (now glances ≡ glanceTable) ⌝ }
     ensures { λ r. ⌜ (r ≡ levelWalk (levelOf set) (formOf alone) (now (s .entry))) × Within r (length (now (s .entry))) ⌝ }
 {
     let q = quick::onward(s, set, alone, from);
     let mut p = q.at;
     let mut sum = q.sizes;
-    let mut mark = q.mark;
+    let mut held = q.held;
     let mut top = q.top;
     let mut low = q.low;
     let mut clear: usize = 0;
@@ -151,17 +151,17 @@ pub fn item_rest(
         } else {
             tally::one_item(set, tag, short)
         };
-        let Walked::Good { sizes, mark: m } = w else {
+        let Walked::Good { sizes, held: m } = w else {
             return tally::later(w, p);
         };
         sum = tally::weights::plus(sum, sizes);
-        mark = coding::either(mark, m);
+        held = coding::either(held, m);
         clear = repeats::clear::after(s, p, clear, top, low, tag, false, false, set, bits);
         top = tally::larger(top, tag);
         low = tally::smaller(low, tag);
         p = next;
     }
-    Walked::Good { sizes: sum, mark }
+    Walked::Good { sizes: sum, held }
 }
 
 // The packs of a series, from where the quick way over them ended.
@@ -170,7 +170,7 @@ pub fn pack_walk(
     glances: &[u32],
     s: &[u8],
     alone: bool,
-    from: Quick,
+    from: Stage,
     bits: &mut [u64; 64],
 ) -> Walked
     requires { ⌜ (now table ≡ itemTable) × (length (now s) ≤ 8192) × SeriesGoing (formOf alone) (now s) (from .at) (from .sizes) (from .top) (from .low) × (now glances ≡ glanceTable) ⌝ }
@@ -208,13 +208,13 @@ pub fn pack_walk(
             items,
             false,
             alone,
-            quick::run(glances, items, false, alone),
+            quick::glance_items(glances, items, false, alone),
             bits,
         );
-        let Walked::Good { sizes, mark } = w else {
+        let Walked::Good { sizes, held } = w else {
             return tally::later(w, from);
         };
-        if coding::either(!alone, mark) {
+        if coding::either(!alone, held) {
             sum = tally::weights::plus(sum, tally::weights::pack_sizes(used, sizes));
             clear = repeats::clear::after(s, p, clear, top, low, key, false, true, false, bits);
             top = tally::larger(top, key);
@@ -229,6 +229,6 @@ pub fn pack_walk(
     }
     Walked::Good {
         sizes: sum,
-        mark: false,
+        held: false,
     }
 }

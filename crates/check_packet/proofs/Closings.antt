@@ -105,7 +105,7 @@ fine-alone w es c h o =
     (ap (λ a. a .normal) z ∙ add-zero _)
     (ap (λ a. a .inner) z ∙ add-zero _)
 
--- ---- the mark of a set is its tag 1
+-- ---- what is asked of a set at its end is its tag 1
 
 any-has : (es : List Entry) → any (λ e. eqb (tagOfEntry e) 1) es ≡ has 1 (map tagOfEntry es)
 unfolding any has
@@ -117,15 +117,15 @@ close f s w es = checkedOf (closing f s es >>= λ c. ok (packetOf f w es c))
 
 close-alone : (s : List ℕ) (w : ℕ) (es : List Entry) → SetRead standalone [] es → closingBy standalone s (has 1 (map tagOfEntry es)) (summed es) ≡ close standalone s w es
 unfolding closing _>>=_ need after
-close-alone s w es h = by-mark (has 1 (map tagOfEntry es)) refl
+close-alone s w es h = by-held (has 1 (map tagOfEntry es)) refl
   where
     by-sum : has 1 (map tagOfEntry es) ≡ true → (q : Bool) → sumRight s ≡ q → closingBy standalone s (has 1 (map tagOfEntry es)) (summed es) ≡ close standalone s w es
     by-sum z true q = rw (z, q) (fine-alone w es (drop (length s - 2) s) h z)
     by-sum z false q = rw (z, q)
 
-    by-mark : (m : Bool) → has 1 (map tagOfEntry es) ≡ m → closingBy standalone s (has 1 (map tagOfEntry es)) (summed es) ≡ close standalone s w es
-    by-mark true z = by-sum z (sumRight s) refl
-    by-mark false z = rw z
+    by-held : (m : Bool) → has 1 (map tagOfEntry es) ≡ m → closingBy standalone s (has 1 (map tagOfEntry es)) (summed es) ≡ close standalone s w es
+    by-held true z = by-sum z (sumRight s) refl
+    by-held false z = rw z
 
 pub close-set : (f : Form) (s : List ℕ) (w : ℕ) (es : List Entry) → SetRead f [] es → closingBy f s (any (λ e. eqb (tagOfEntry e) 1) es) (summed es) ≡ close f s w es
 unfolding closing _>>=_

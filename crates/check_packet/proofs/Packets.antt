@@ -111,6 +111,6 @@ module _ (f : Form) (s : List ℕ) where
             let read = set-says f d (g .rs) (bytes-drop (start f w) s h) (g .ran) .1 in
             e
             ∙ ap (closingBy f s m) (sym (g .weighs))
-            ∙ ap (λ y. closingBy f s y (total (weightOfEntry set) (g .rs .val))) (sym (g .marks))
+            ∙ ap (λ y. closingBy f s y (total (weightOfEntry set) (g .rs .val))) (sym (g .holds))
             ∙ close-set f s w (g .rs .val) read
             ∙ ap checkedOf (sym (parse-is ∙ bind-so _ (closes w) (g .rs) (after-ok (start f w) (setRun f d) (g .rs) (g .ran))))

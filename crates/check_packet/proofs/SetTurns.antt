@@ -20,10 +20,10 @@ use Rattle.heads.specs.declared.Head.the-variants as heads
 use Rattle.heads.specs.Meet.{itemHeadOf}
 use Rattle.tally.specs.declared.Sizes.{Sizes}
 use Rattle.tally.specs.declared.Walked.{Walked}
-use Rattle.tally.specs.declared.quick.Quick.{Quick}
+use Rattle.tally.specs.declared.quick.Stage.{Stage}
 use Rattle.tally.specs.declared.Walked.the-variants.{Good}
 use Rattle.tally.specs.Meet.{itemSizes, seriesSizes, plusSizes, seriesWalk, seriesFrom, Small, Within}
-use Rattle.tally.specs.Going.{LevelGoing, quickAt}
+use Rattle.tally.specs.Going.{LevelGoing, stageAt}
 use Rattle.tally.proofs.Turns.{within-more}
 use Rattle.tally.proofs.Pieces.{piece-within}
 use Rattle.tally.proofs.ItemTurns.{ItemAt, EntryTold, item-told, series-told, good-small, entry-more}
@@ -51,15 +51,15 @@ pub head-if : (s : List ℕ) (p : ℕ) (h : Head) → p < length s → itemHeadO
 head-if s p (heads.Whole k u w n) here e = (here, rw tail-part at e)
 head-if s p (heads.Fault n) here e = tt
 
-pub record HeadAt (f : Form) (s : List ℕ) (p : ℕ) (sum : Sizes) (mark : Bool) (top low tag u w n : ℕ) : Type 0 where
-  pub going : LevelGoing true f s p sum mark top low
+pub record HeadAt (f : Form) (s : List ℕ) (p : ℕ) (sum : Sizes) (held : Bool) (top low tag u w n : ℕ) : Type 0 where
+  pub going : LevelGoing true f s p sum held top low
   pub it : Head
   pub told : HeadIf s p it
   pub is : it ≡ heads.Whole tag u w n
   pub bytes : Bytes s
   pub most : length s ≤ 8192
 
-module _ {f : Form} {s : List ℕ} {p : ℕ} {sum : Sizes} {mark : Bool} {top low tag u w n : ℕ} (i : HeadAt f s p sum mark top low tag u w n) where
+module _ {f : Form} {s : List ℕ} {p : ℕ} {sum : Sizes} {held : Bool} {top low tag u w n : ℕ} (i : HeadAt f s p sum held top low tag u w n) where
   head-told : HeadIf s p (heads.Whole tag u w n)
   head-told = subst (HeadIf s p) (i .is) (i .told)
 
@@ -73,7 +73,7 @@ module _ {f : Form} {s : List ℕ} {p : ℕ} {sum : Sizes} {mark : Bool} {top lo
   -- ---- it is the series, and y is what was walked of its packs
 
   module _ (next : (0 < p) × (top < 101) × (0 < n) × (tag ≡ 101)) where
-    series-item : ItemAt true f s p sum mark top low 101 (u + w) n n
+    series-item : ItemAt true f s p sum held top low 101 (u + w) n n
     unfolding mayStand
     series-item = met-item (record {
       going = i .going;
@@ -116,15 +116,15 @@ module _ {f : Form} {s : List ℕ} {p : ℕ} {sum : Sizes} {mark : Bool} {top lo
       pub series-asks : Small a × Small sum × Small (seriesSizes a)
       series-asks = (small, sums .0, sums .1)
 
-      pub series-goes : {r : Quick} → (r .low ≤ low) × (r .low ≤ 101) × (r ≡ quickAt (p + u + w + n) (plusSizes sum (seriesSizes a)) mark 101 (r .low)) → LevelGoing true f s (r .at) (r .sizes) (r .mark) (r .top) (r .low)
+      pub series-goes : {r : Stage} → (r .low ≤ low) × (r .low ≤ 101) × (r ≡ stageAt (p + u + w + n) (plusSizes sum (seriesSizes a)) held 101 (r .low)) → LevelGoing true f s (r .at) (r .sizes) (r .held) (r .top) (r .low)
       series-goes (l, m, e) =
           let n-is : p + u + w + n ≡ p + (u + w) + n = omega arith in
-          rw (e, n-is) (entry-more series-item told-so refl refl (or-false mark refl) (omega (arith, next .1), omega arith) (l, m))
+          rw (e, n-is) (entry-more series-item told-so refl refl (or-false held refl) (omega (arith, next .1), omega arith) (l, m))
 
   -- ---- it is the checksum, and ends the set
 
   module _ (alone : isAlone f ≡ true) (next : (0 < p) × (1 < low) × (tag ≡ 1) × (n ≡ 2)) (end : p + u + w + n ≡ length s) where
-    seal-item : ItemAt true f s p sum mark top low 1 (u + w) 2 2
+    seal-item : ItemAt true f s p sum held top low 1 (u + w) 2 2
     unfolding mayStand
     seal-item = met-item (record {
       going = i .going;
@@ -154,4 +154,4 @@ module _ {f : Form} {s : List ℕ} {p : ℕ} {sum : Sizes} {mark : Bool} {top lo
       pub seal-more : {sum′ : Sizes} → sum′ ≡ plusSizes sum z → {top′ : ℕ} → (top ≤ top′) × (1 ≤ top′) → LevelGoing true f s (p + u + w + n) sum′ true top′ 1
       seal-more es et =
           let e : p + u + w + n ≡ p + (u + w) + 2 = omega (arith, next .3) in
-          rw e (entry-more seal-item seal-told refl (es ∙ ap (plusSizes sum) ez) (or-true mark) et (omega (arith, next .1), omega arith))
+          rw e (entry-more seal-item seal-told refl (es ∙ ap (plusSizes sum) ez) (or-true held) et (omega (arith, next .1), omega arith))

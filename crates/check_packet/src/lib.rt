@@ -85,12 +85,12 @@ fn fine(a: Sizes) -> Checked
 }
 
 // Of a set of these sizes, with a checksum or without: 14, 15.
-fn closing_of(s: &[u8], alone: bool, mark: bool, a: Sizes) -> Checked
+fn closing_of(s: &[u8], alone: bool, held: bool, a: Sizes) -> Checked
     requires { ⌜ (start (formOf alone) 0 ≤ length (now s)) × (length (now s) ≤ 8192) × (a .sheet ≤ 40960) ⌝ }
-    ensures { λ r. ⌜ r ≡ closingBy (formOf alone) (now (s .entry)) mark a ⌝ }
+    ensures { λ r. ⌜ r ≡ closingBy (formOf alone) (now (s .entry)) held a ⌝ }
 {
     if alone {
-        if mark {
+        if held {
             if is_sealed(s) {
                 return fine(a);
             }
@@ -129,7 +129,7 @@ fn wrong_set(w: Walked, k: usize) -> Checked
     ensures { λ r. ⌜ r ≡ walkFault k w ⌝ }
 {
     match w {
-        Walked::Good { sizes: _, mark: _ } => Checked::Wrong {
+        Walked::Good { sizes: _, held: _ } => Checked::Wrong {
             number: 0,
             place: 0,
         },
@@ -161,10 +161,10 @@ pub fn check(glances: &[u32], s: &[u8], alone: bool) -> Checked
     };
     let from = start_of(alone, width);
     let w = sets::set_walk(glances, &s[from..], alone);
-    let Walked::Good { sizes, mark } = w else {
+    let Walked::Good { sizes, held } = w else {
         return wrong_set(w, from);
     };
-    closing_of(s, alone, mark, sizes)
+    closing_of(s, alone, held, sizes)
 }
 
 // Where the set of a packet begins, if what opens it was accepted.

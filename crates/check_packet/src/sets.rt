@@ -11,7 +11,7 @@ ghost use Rattle.check_packet.specs.Meet.{HeadIf};
 use heads::Head;
 use tally::Walked;
 use tally::quick;
-use tally::quick::Quick;
+use tally::quick::Stage;
 
 // The head of the item at p, if that begins with this byte: then most of it is known. Else 0 as a fault.
 fn head_at(s: &[u8], p: usize, byte: u8) -> Head
@@ -43,7 +43,7 @@ fn is_series_next(p: usize, top: u64, tag: u64, size: usize) -> bool
 }
 
 // The packs of a series one by one, from where the quick way over them ended.
-fn packs_rest(glances: &[u32], s: &[u8], alone: bool, q: Quick) -> Walked
+fn packs_rest(glances: &[u32], s: &[u8], alone: bool, q: Stage) -> Walked
     requires { ⌜ (now glances ≡ glanceTable) × (length (now s) ≤ 8192) × SeriesGoing (formOf alone) (now s) (q .at) (q .sizes) (q .top) (q .low) ⌝ }
     ensures { λ r. ⌜ (r ≡ seriesWalk (formOf alone) (now (s .entry))) × Within r (length (now (s .entry))) ⌝ }
 {
@@ -54,9 +54,9 @@ fn packs_rest(glances: &[u32], s: &[u8], alone: bool, q: Quick) -> Walked
 }
 
 // On over the series, if it stands next. A refusal in it is left to the item walk, and so is a lone pack that is not told at a glance.
-fn series(glances: &[u32], s: &[u8], alone: bool, q: Quick) -> Quick
-    requires { ⌜ (now glances ≡ glanceTable) × (length (now s) ≤ 8192) × LevelGoing true (formOf alone) (now s) (q .at) (q .sizes) (q .mark) (q .top) (q .low) ⌝ }
-    ensures { λ r. ⌜ LevelGoing true (formOf alone) (now (s .entry)) (r .at) (r .sizes) (r .mark) (r .top) (r .low) ⌝ }
+fn series(glances: &[u32], s: &[u8], alone: bool, q: Stage) -> Stage
+    requires { ⌜ (now glances ≡ glanceTable) × (length (now s) ≤ 8192) × LevelGoing true (formOf alone) (now s) (q .at) (q .sizes) (q .held) (q .top) (q .low) ⌝ }
+    ensures { λ r. ⌜ LevelGoing true (formOf alone) (now (s .entry)) (r .at) (r .sizes) (r .held) (r .top) (r .low) ⌝ }
 {
     let p = q.at;
     let h = head_at(s, p, 101);
@@ -88,7 +88,7 @@ fn series(glances: &[u32], s: &[u8], alone: bool, q: Quick) -> Quick
         return quick::after_series(q, next, d.sizes);
     }
     let w = packs_rest(glances, packs, alone, d);
-    let Walked::Good { sizes, mark: _ } = w else {
+    let Walked::Good { sizes, held: _ } = w else {
         return q;
     };
     quick::after_series(q, next, sizes)
@@ -117,9 +117,9 @@ fn is_seal_next(alone: bool, p: usize, low: u64, tag: u64, size: usize, last: bo
 }
 
 // On over the checksum, if it stands next.
-fn seal(s: &[u8], alone: bool, q: Quick) -> Quick
-    requires { ⌜ (length (now s) ≤ 8192) × LevelGoing true (formOf alone) (now s) (q .at) (q .sizes) (q .mark) (q .top) (q .low) ⌝ }
-    ensures { λ r. ⌜ LevelGoing true (formOf alone) (now (s .entry)) (r .at) (r .sizes) (r .mark) (r .top) (r .low) ⌝ }
+fn seal(s: &[u8], alone: bool, q: Stage) -> Stage
+    requires { ⌜ (length (now s) ≤ 8192) × LevelGoing true (formOf alone) (now s) (q .at) (q .sizes) (q .held) (q .top) (q .low) ⌝ }
+    ensures { λ r. ⌜ LevelGoing true (formOf alone) (now (s .entry)) (r .at) (r .sizes) (r .held) (r .top) (r .low) ⌝ }
 {
     let p = q.at;
     let h = head_at(s, p, 1);
@@ -141,8 +141,8 @@ fn seal(s: &[u8], alone: bool, q: Quick) -> Quick
 }
 
 // The rest of the set, from where the quick way ended: its checksum, or whatever is left, one by one.
-fn set_rest(glances: &[u32], s: &[u8], alone: bool, from: Quick) -> Walked
-    requires { ⌜ (now glances ≡ glanceTable) × (length (now s) ≤ 8192) × LevelGoing true (formOf alone) (now s) (from .at) (from .sizes) (from .mark) (from .top) (from .low) ⌝ }
+fn set_rest(glances: &[u32], s: &[u8], alone: bool, from: Stage) -> Walked
+    requires { ⌜ (now glances ≡ glanceTable) × (length (now s) ≤ 8192) × LevelGoing true (formOf alone) (now s) (from .at) (from .sizes) (from .held) (from .top) (from .low) ⌝ }
     ensures { λ r. ⌜ (r ≡ levelWalk set (formOf alone) (now (s .entry))) × Within r (length (now (s .entry))) ⌝ }
 {
     let q = seal(s, alone, from);
@@ -159,7 +159,12 @@ pub fn set_walk(glances: &[u32], s: &[u8], alone: bool) -> Walked
     requires { ⌜ (now glances ≡ glanceTable) × (length (now s) ≤ 8192) ⌝ }
     ensures { λ r. ⌜ (r ≡ levelWalk set (formOf alone) (now (s .entry))) × Within r (length (now (s .entry))) ⌝ }
 {
-    let q = series(glances, s, alone, quick::run(glances, s, true, alone));
+    let q = series(
+        glances,
+        s,
+        alone,
+        quick::glance_items(glances, s, true, alone),
+    );
     if q.at == s.len() {
         return quick::walked(q);
     }

@@ -172,13 +172,13 @@ pub fn item_records(
         normal: 0,
         inner: 0,
     };
-    let mut mark = false;
+    let mut held = false;
     let mut top: u64 = 0;
     let mut low: u64 = 18446744073709551615;
     let mut clear: usize = 0;
     while p < s.len() {
         if !quick_records::goes_on(s, p, set) {
-            return Walked::Good { sizes: sum, mark };
+            return Walked::Good { sizes: sum, held };
         }
         let a = part_at(table, glances, s, p, clear, set, alone, top, low);
         let Piece::Whole {
@@ -195,17 +195,17 @@ pub fn item_records(
         } else {
             tally::one_item(set, tag, size)
         };
-        let Walked::Good { sizes, mark: m } = w else {
+        let Walked::Good { sizes, held: m } = w else {
             return tally::later(w, p);
         };
         sum = tally::weights::plus(sum, sizes);
-        mark = coding::either(mark, m);
+        held = coding::either(held, m);
         clear = repeats::clear::after(s, p, clear, top, low, tag, true, false, set, bits);
         top = tally::larger(top, tag);
         low = tally::smaller(low, tag);
         p += sizes.sheet;
     }
-    Walked::Good { sizes: sum, mark }
+    Walked::Good { sizes: sum, held }
 }
 
 // The targets of the series.
@@ -229,7 +229,7 @@ pub fn target_records(
         if !heads::records::is_mark(s, p, b'T', b'G') {
             return Walked::Good {
                 sizes: sum,
-                mark: false,
+                held: false,
             };
         }
         let a = target_at(s, p, clear, top, low);
@@ -244,18 +244,18 @@ pub fn target_records(
         };
         let from = p + 10;
         let items = &s[from..];
-        let q = quick_records::quick::run(glances, items, false, alone);
+        let q = quick_records::quick::glance_records(glances, items, false, alone);
         let mut sizes = q.sizes;
-        let mut mark = q.mark;
+        let mut held = q.held;
         if quick_records::goes_on(items, q.at, false) {
             let w = item_records(table, glances, items, false, alone, bits);
-            let Walked::Good { sizes: z, mark: m } = w else {
+            let Walked::Good { sizes: z, held: m } = w else {
                 return tally::later(w, from);
             };
             sizes = z;
-            mark = m;
+            held = m;
         }
-        if coding::either(!alone, mark) {
+        if coding::either(!alone, held) {
             sum = tally::weights::plus(
                 sum,
                 tally::weights::pack_sizes(coding::widths::oid_width(id), sizes),
@@ -273,6 +273,6 @@ pub fn target_records(
     }
     Walked::Good {
         sizes: sum,
-        mark: false,
+        held: false,
     }
 }

@@ -15,10 +15,10 @@ use Rattle.items.proofs.Tests.{standing-0}
 use Rattle.heads.specs.Meet.{peek, Past}
 use Rattle.tally.specs.declared.Piece.the-variants as piece
 use Rattle.tally.specs.declared.Sizes.{Sizes}
-use Rattle.tally.specs.declared.quick.Quick.{Quick}
+use Rattle.tally.specs.declared.quick.Stage.{Stage}
 use Rattle.tally.specs.declared.Walked.the-variants.{Good}
 use Rattle.tally.specs.Meet.{seriesSizes, plusSizes, Small}
-use Rattle.tally.specs.Going.{quickAt}
+use Rattle.tally.specs.Going.{stageAt}
 use Rattle.tally.proofs.Walks.{few-more}
 use Rattle.tally.proofs.Turns.{turn-done}
 use Rattle.tally.proofs.Glances.{begun-later}
@@ -29,15 +29,15 @@ use Rattle.quick_records.proofs.Opens.{series-whole, part-series}
 use Rattle.quick_records.proofs.PartTurns.{ts-room, targetsAt, PartAt, PartTold, series-told, good-small, part-more}
 
 -- a `TS` that the code has found at p, told to be new
-pub record SeriesAt (f : Form) (s : List ℕ) (p : ℕ) (sum : Sizes) (mark : Bool) (top low : ℕ) : Type 0 where
-  pub going : RecordsGoing true f s p sum mark top low
+pub record SeriesAt (f : Form) (s : List ℕ) (p : ℕ) (sum : Sizes) (held : Bool) (top low : ℕ) : Type 0 where
+  pub going : RecordsGoing true f s p sum held top low
   pub marked : is TS (drop p s) ≡ true
   pub later : 0 < p
   pub above : top < 101
   pub bytes : Bytes s
   pub most : length s ≤ 65536
 
-module _ {f : Form} {s : List ℕ} {p : ℕ} {sum : Sizes} {mark : Bool} {top low : ℕ} (i : SeriesAt f s p sum mark top low) where
+module _ {f : Form} {s : List ℕ} {p : ℕ} {sum : Sizes} {held : Bool} {top low : ℕ} (i : SeriesAt f s p sum held top low) where
   pub room : p + 2 ≤ length s
   room = ts-room s p (i .marked)
 
@@ -45,7 +45,7 @@ module _ {f : Form} {s : List ℕ} {p : ℕ} {sum : Sizes} {mark : Bool} {top lo
   targets-long = omega (arith, ap length (tail-part (p + 2) s), length-drop (p + 2) s, room)
 
   -- all of them were walked
-  module _ (q : Quick) (g : TargetsPassed f (targetsAt s p) q) (all : (0 < q .at) × (q .at ≡ length (targetsAt s p))) where
+  module _ (q : Stage) (g : TargetsPassed f (targetsAt s p) q) (all : (0 < q .at) × (q .at ≡ length (targetsAt s p))) where
     series-piece : (seen : List ℕ) → Past (peek true false true) s p top low seen → piece.Whole 101 2 0 0 ≡ partPiece set f seen (drop p s)
     unfolding mayStand
     series-piece seen past =
@@ -53,7 +53,7 @@ module _ {f : Form} {s : List ℕ} {p : ℕ} {sum : Sizes} {mark : Bool} {top lo
         (series-whole f s p {x = is TG (drop (p + 2) s)} refl seen (rw tail-part at (g .3 (all .0))) 0
         (standing-0 set f seen 101 true (sym (past .under 101 (i .above))) refl (eqb p 0) (sym (past .first)) (sym (begun-later true f p 101 (i .later)))) refl)
 
-    part : PartAt true f s p sum mark top low 101 2 0 0
+    part : PartAt true f s p sum held top low 101 2 0 0
     part = record {
       going = i .going;
       here = omega (arith, room);
@@ -72,7 +72,7 @@ module _ {f : Form} {s : List ℕ} {p : ℕ} {sum : Sizes} {mark : Bool} {top lo
     pub series-asks : Small (q .sizes) × Small sum × Small (seriesSizes (q .sizes))
     series-asks = let (a, b) = good-small part told-so refl in (few-more (q .sizes) (q .at) 65536 (omega (arith, all .1, targets-long, i .most)) (g .0 .few), a, b)
 
-    pub series-goes : {r : Quick} → (r .low ≤ low) × (r .low ≤ 101) × (r ≡ quickAt (length s) (plusSizes sum (seriesSizes (q .sizes))) mark 101 (r .low)) → RecordsGoing true f s (r .at) (r .sizes) (r .mark) (r .top) (r .low)
+    pub series-goes : {r : Stage} → (r .low ≤ low) × (r .low ≤ 101) × (r ≡ stageAt (length s) (plusSizes sum (seriesSizes (q .sizes))) held 101 (r .low)) → RecordsGoing true f s (r .at) (r .sizes) (r .held) (r .top) (r .low)
     series-goes (l, m, e) =
         let n : length s ≡ p + seriesSizes (q .sizes) .sheet = omega (arith, g .2, all .1, targets-long) in
-        rw (e, n) (part-more part told-so refl refl (or-false mark refl) (omega (arith, i .above), omega arith) (l, m))
+        rw (e, n) (part-more part told-so refl refl (or-false held refl) (omega (arith, i .above), omega arith) (l, m))

@@ -15,7 +15,7 @@ ghost use Rattle.check_sheet.specs.Meet.{sheetedOf, partsFault};
 use quick_records::quick;
 use quick_records::targets;
 use tally::Walked;
-use tally::quick::Quick;
+use tally::quick::Stage;
 
 // Its form, the bytes of its packet's set but for the checksum, and those of the series' packs; or the refusal.
 pub enum Sheeted {
@@ -33,7 +33,7 @@ pub enum Sheeted {
 // ---- its set
 
 // Whether the quick way went over all of so many bytes of targets, and there are any.
-fn is_all(w: Quick, n: usize) -> bool
+fn is_all(w: Stage, n: usize) -> bool
     ensures { λ r. ⌜ (r ≡ true → (0 < w .at) × (w .at ≡ n)) ⌝ }
 {
     if w.at == 0 {
@@ -44,9 +44,9 @@ fn is_all(w: Quick, n: usize) -> bool
 
 // On over the series, if it ends the set and all its targets are told at a glance. It is told to be new: items stand before it, and none has
 // a tag so high.
-fn series(glances: &[u32], s: &[u8], alone: bool, q: Quick) -> Quick
-    requires { ⌜ (now glances ≡ glanceTable) × (length (now s) ≤ 65536) × RecordsGoing true (formOf alone) (now s) (q .at) (q .sizes) (q .mark) (q .top) (q .low) ⌝ }
-    ensures { λ r. ⌜ RecordsGoing true (formOf alone) (now (s .entry)) (r .at) (r .sizes) (r .mark) (r .top) (r .low) ⌝ }
+fn series(glances: &[u32], s: &[u8], alone: bool, q: Stage) -> Stage
+    requires { ⌜ (now glances ≡ glanceTable) × (length (now s) ≤ 65536) × RecordsGoing true (formOf alone) (now s) (q .at) (q .sizes) (q .held) (q .top) (q .low) ⌝ }
+    ensures { λ r. ⌜ RecordsGoing true (formOf alone) (now (s .entry)) (r .at) (r .sizes) (r .held) (r .top) (r .low) ⌝ }
 {
     let p = q.at;
     if !heads::records::is_mark(s, p, b'T', b'S') {
@@ -85,14 +85,19 @@ fn starts(s: &[u8], alone: bool) -> bool
 }
 
 // The set from its start, as far as it is told at a glance.
-fn glanced(glances: &[u32], s: &[u8], alone: bool) -> Quick
+fn set_glanced(glances: &[u32], s: &[u8], alone: bool) -> Stage
     requires { ⌜ (now glances ≡ glanceTable) × (length (now s) ≤ 65536) ⌝ }
-    ensures { λ r. ⌜ RecordsGoing true (formOf alone) (now (s .entry)) (r .at) (r .sizes) (r .mark) (r .top) (r .low) ⌝ }
+    ensures { λ r. ⌜ RecordsGoing true (formOf alone) (now (s .entry)) (r .at) (r .sizes) (r .held) (r .top) (r .low) ⌝ }
 {
     if !starts(s, alone) {
         return targets::passed(0, 0, 0, 0, 0);
     }
-    series(glances, s, alone, quick::run(glances, s, true, alone))
+    series(
+        glances,
+        s,
+        alone,
+        quick::glance_records(glances, s, true, alone),
+    )
 }
 
 // The records of the set one by one, from its start: what the walks are lent is laid out here, so that a sheet passed at a glance has none of it.
@@ -110,7 +115,7 @@ fn set_records(glances: &[u32], s: &[u8], alone: bool) -> Walked
     requires { ⌜ (now glances ≡ glanceTable) × (length (now s) ≤ 65536) ⌝ }
     ensures { λ r. ⌜ (r ≡ recordsWalk set (formOf alone) (now (s .entry))) × Within r (length (now (s .entry))) ⌝ }
 {
-    let q = glanced(glances, s, alone);
+    let q = set_glanced(glances, s, alone);
     if q.at == s.len() {
         return tally::quick::walked(q);
     }
@@ -126,7 +131,7 @@ fn wrong_parts(w: Walked) -> Sheeted
     ensures { λ r. ⌜ r ≡ partsFault w ⌝ }
 {
     match w {
-        Walked::Good { sizes: _, mark: _ } => Sheeted::Wrong {
+        Walked::Good { sizes: _, held: _ } => Sheeted::Wrong {
             number: 0,
             place: 0,
         },
@@ -162,7 +167,7 @@ pub fn check(s: &[u8]) -> Sheeted
     let alone = s[2] == 1;
     let glances = items::quick::glances();
     let w = set_records(&glances, &s[3..], alone);
-    let Walked::Good { sizes, mark: _ } = w else {
+    let Walked::Good { sizes, held: _ } = w else {
         return wrong_parts(w);
     };
     if coding::either(!alone, sizes.rows != 0) {

@@ -119,7 +119,7 @@ fn put_front(s: &[u8], set: bool, p: Place, n: usize, out: &mut [u8]) -> usize
 {
     let at = p.at;
     if set {
-        return stores::copy_run(out, 0, &s[0..at]);
+        return stores::copy_all(out, 0, &s[0..at]);
     }
     let series = p.series;
     let packs = p.packs;
@@ -127,11 +127,11 @@ fn put_front(s: &[u8], set: bool, p: Place, n: usize, out: &mut [u8]) -> usize
     let body = p.body;
     let m = body_size(p, n);
     let size = packs_size(p, m);
-    let a = stores::copy_run(out, 0, &s[0..series]);
+    let a = stores::copy_all(out, 0, &s[0..series]);
     let b = write_normal::put_series(out, a, size);
-    let c = stores::copy_run(out, b, &s[packs..pack]);
+    let c = stores::copy_all(out, b, &s[packs..pack]);
     let d = store_coded::put_len(out, c, m);
-    stores::copy_run(out, d, &s[body..at])
+    stores::copy_all(out, d, &s[body..at])
 }
 
 // The edited entries, with m bytes of the value in an item of n, at the start of out; how many bytes.
@@ -155,5 +155,5 @@ pub fn put_edited(
     let b = put_item(out, a, set, tag, removal, v, m);
     let next = p.next;
     let stop = p.stop;
-    stores::copy_run(out, b, &s[next..stop])
+    stores::copy_all(out, b, &s[next..stop])
 }

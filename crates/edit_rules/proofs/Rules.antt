@@ -13,7 +13,7 @@ use Rattle.format.specs.Table.{Form, Level, isAlone, ruleOf, nameable, mayStand
 use Rattle.format.specs.Edit.{Change, theSet, target, mustStay, changeRules, editRules}
 use Rattle.format.specs.Edit as Edit
 use Rattle.items.specs.Meet.{formOf, levelOf, answerOf}
-use Rattle.items.specs.Quick.{Quick}
+use Rattle.items.specs.Quick.{Glanced}
 use Rattle.items.proofs.Glances.{as-same}
 use Rattle.items.proofs.Tests.{bind-so, bind-not, need-so, need-not}
 use Rattle.edit_rules.specs.declared.Place.{Place}
@@ -57,7 +57,7 @@ module _ (f : Form) (l : Level) (tag : ℕ) (tags v : List ℕ) {b : Bool} where
       put-value g q = rw e (q ∙ sym (need-so _ _ _ (lt-ltb 0 (length v) h) ∙ need-so _ _ _ g))
 
     -- a value that is told at a glance
-    pub put-told : Quick l f tag (length v) (getD v 0 0) → ok tt ≡ changeRules f l tag tags (changeOf b v)
+    pub put-told : Glanced l f tag (length v) (getD v 0 0) → ok tt ≡ changeRules f l tag tags (changeOf b v)
     put-told q = put-value (q .some) (q .stands true) (sym (q .allowed v refl (as-same _ _ refl)))
 
 -- ---- what must stay

@@ -17,7 +17,7 @@ use Rattle.format.proofs.table.Tags.{nameable-high}
 use Rattle.format.proofs.edits.Rules.{ChangeOk, rules-then}
 use Rattle.coding.proofs.Counts.{digits-most, len-most}
 use Rattle.items.specs.Meet.{levelOf}
-use Rattle.items.specs.Quick.{Quick}
+use Rattle.items.specs.Quick.{Glanced}
 use Rattle.items.proofs.Glances.{as-same}
 use Rattle.stores.proofs.Puts.{Puts, puts-then, puts-sized}
 use Rattle.store_coded.proofs.Codings.{short-total}
@@ -67,7 +67,7 @@ module _ (l : Level) (tag : ℕ) (v : List ℕ) {b : Bool} where
     some-bytes h = subst (λ x. Puttable (changeOf x v)) e h
 
     -- all of a value that is told at a glance, or what the code says of its shortest form
-    pub all-put : {f : Form} → Quick l f tag (length v) (getD v 0 0) → length v ≡ shortOf l tag (changeOf b v)
+    pub all-put : {f : Form} → Glanced l f tag (length v) (getD v 0 0) → length v ≡ shortOf l tag (changeOf b v)
     all-put q = rw e (sym (ap length (q .shortest v refl (as-same _ _ refl))))
 
     pub some-put : {m : ℕ} → m ≡ length (short (ruleOf l tag) v) → m ≡ shortOf l tag (changeOf b v)

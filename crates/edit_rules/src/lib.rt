@@ -9,7 +9,7 @@ ghost use Rattle.format.specs.Lists.{has};
 ghost use Rattle.format.specs.Table.{set, isAlone, nameable};
 ghost use Rattle.format.specs.Edit.{theSet, target, put, mustStay, changeRules};
 ghost use Rattle.items.specs.Meet.{formOf, levelOf, glanceTable, answerOf};
-ghost use Rattle.items.specs.Quick.{Quick};
+ghost use Rattle.items.specs.Quick.{Glanced};
 ghost use Rattle.tally.specs.Runs.{Ran, seriesRun};
 ghost use Rattle.edit_rules.specs.Meet.{holderOf, changeOf, sealSize, SetOf, Placed, shiftedOf, FoundInPacks, FoundIs, Judged};
 
@@ -163,12 +163,12 @@ fn must_stay(alone: bool, set: bool, tag: u64) -> bool
 // Whether a value is told at a glance to be one that may be put as it stands.
 pub fn is_told(glances: &[u32], alone: bool, set: bool, tag: u64, v: &[u8]) -> bool
     requires { ⌜ now glances ≡ glanceTable ⌝ }
-    ensures { λ r. ⌜ (r ≡ true → Quick (levelOf set) (formOf alone) tag (length (now (v .entry))) (getD (now (v .entry)) 0 0)) ⌝ }
+    ensures { λ r. ⌜ (r ≡ true → Glanced (levelOf set) (formOf alone) tag (length (now (v .entry))) (getD (now (v .entry)) 0 0)) ⌝ }
 {
     if v.len() == 0 {
         return false;
     }
-    items::quick::is_quick(glances, set, alone, tag, v.len() as u64, v[0])
+    items::quick::is_glanced(glances, set, alone, tag, v.len() as u64, v[0])
 }
 
 // For a put 7, 13, 11 or 12; or 0. By the item table.

@@ -12,7 +12,7 @@ Bytes s = (i : ℕ) → getD s i 0 < 256
 
 -- ---- numbers, high digit first
 
--- the number that digits spell in a base, going on from a start; each digit counts less its mark
+-- the number that digits spell in a base, going on from a start; each digit counts less its flag
 unfoldable pub number : ℕ → ℕ → ℕ → List ℕ → ℕ
 number base mark acc [] = acc
 number base mark acc (d ∷ ds) = number base mark (acc * base + (d - mark)) ds
@@ -21,7 +21,7 @@ number base mark acc (d ∷ ds) = number base mark (acc * base + (d - mark)) ds
 abbrev pub bytesNumber : List ℕ → ℕ
 bytesNumber v = number 256 0 0 v
 
--- the digits of n, each with the mark, none for 0; at most k of them
+-- the digits of n, each with the flag, none for 0; at most k of them
 unfoldable pub digits : ℕ → ℕ → ℕ → ℕ → List ℕ
 digits base mark zero n = []
 digits base mark (suc k) zero = []

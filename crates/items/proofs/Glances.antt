@@ -15,7 +15,7 @@ use Rattle.format.specs.Lists.{has}
 use Rattle.format.specs.Table.{Form, isAlone, Level, set, pack, isSet, Kind, bytes, num, pixel, Rule, unlisted, rules, find, ruleOf, mayStand, sized, notPixel, isNumber, valued, strip, short}
 use Rattle.format.proofs.words.Answers.{no-bool, and-both}
 use Rattle.items.specs.Meet.{levelOf, formOf, glanceTable, offsets, zeros}
-use Rattle.items.specs.Quick.{bit, mostTag, rowsFrom, leastRow, glanced, beyond, As, Quick}
+use Rattle.items.specs.Quick.{bit, mostTag, rowsFrom, leastRow, rowTells, beyond, As, Glanced}
 use Rattle.items.proofs.Rows.{set-over, pack-over}
 use Rattle.items.proofs.Tests.{need-so, zeros-some, offset-over}
 
@@ -97,7 +97,7 @@ as-same zero y e = inl refl
 as-same (suc k) y e = inr (omega (arith, e))
 
 -- an item told with one first byte, with another
-pub quick-as : {l : Level} {f : Form} {tag n first : ℕ} {y : ℕ} → As first y → Quick l f tag n first → Quick l f tag n y
+pub quick-as : {l : Level} {f : Form} {tag n first : ℕ} {y : ℕ} → As first y → Glanced l f tag n first → Glanced l f tag n y
 quick-as {first = first} {y = y} h q = record {
   some = q .some;
   no-series = q .no-series;
@@ -133,7 +133,7 @@ may-stand set f tag true h = go (not (eqb tag 1)) h
     go false e = no-bool (sym (and-false (isAlone f)) ∙ e)
 may-stand pack f tag last h = h
 
-module _ (b a : Bool) (tag n first : ℕ) (small : tag ≤ mostTag b) (high : leastRow a ≤ rowAt b tag) (g : glanced (rowAt b tag) n first ≡ true) where
+module _ (b a : Bool) (tag n first : ℕ) (small : tag ≤ mostTag b) (high : leastRow a ≤ rowAt b tag) (g : rowTells (rowAt b tag) n first ≡ true) where
   abbrev row : ℕ
   row = rowAt b tag
 
@@ -141,7 +141,7 @@ module _ (b a : Bool) (tag n first : ℕ) (small : tag ≤ mostTag b) (high : le
   rule = ruleOf (levelOf b) tag
 
   parts : (ltb n 30 ≡ true) × (bit row n ≡ true) × (leb (row / 2 ^ 31) first ≡ true)
-  unfolding glanced
+  unfolding rowTells
   parts =
       let (few, e) = and-both (ltb n 30) (bit row n && leb (row / 2 ^ 31) first) g in
       let (have, top) = and-both (bit row n) (leb (row / 2 ^ 31) first) e in
@@ -178,7 +178,7 @@ module _ (b a : Bool) (tag n first : ℕ) (small : tag ≤ mostTag b) (high : le
           plainly rule v long fits (not-true _ (rw (le-ltb 0 (row / 2 ^ 31) low) at (holds .2)))
       go false z = briefly rule v long fits (λ y. ⊎-elim (eqb-false first 0 z) (λ h. omega (arith, h, y)) f)
 
-  pub glanced-quick : (tag < 128) × (n < 128) × Quick (levelOf b) (formOf a) tag n first
+  pub glanced-quick : (tag < 128) × (n < 128) × Glanced (levelOf b) (formOf a) tag n first
   glanced-quick = (
     omega (arith, small, most-few b),
     omega (arith, few),
@@ -209,24 +209,24 @@ module _ (b : Bool) (tag : ℕ) {m : ℕ} (em : m ≡ mostTag b) (few : tag ≤ 
       go false h = omega arith
 
   -- and x for the least row
-  pub quick-from : (a : Bool) {x : ℕ} → x ≡ leastRow a → (table : List ℕ) → table ≡ glanceTable → x ≤ getD table (y + tag) 0 → (n first : ℕ) {r : Bool} → r ≡ glanced (getD table (y + tag) 0) n first → r ≡ true
-      → (tag < 128) × (n < 128) × Quick (levelOf b) (formOf a) tag n first
+  pub quick-from : (a : Bool) {x : ℕ} → x ≡ leastRow a → (table : List ℕ) → table ≡ glanceTable → x ≤ getD table (y + tag) 0 → (n first : ℕ) {r : Bool} → r ≡ rowTells (getD table (y + tag) 0) n first → r ≡ true
+      → (tag < 128) × (n < 128) × Glanced (levelOf b) (formOf a) tag n first
   quick-from a ex table et high n first eg r = glanced-quick b a tag n first small (rw (ex, et, ey) at high) (sym (rw (et, ey) at eg) ∙ r)
 
 -- ---- the code's tests, one after the other
 
 module _ (row n first : ℕ) where
-  pub fits-long : 29 < n → false ≡ glanced row n first
-  unfolding glanced
+  pub fits-long : 29 < n → false ≡ rowTells row n first
+  unfolding rowTells
   fits-long h = rw (le-ltb n 30 (omega arith))
 
   module _ (few : n < 30) where
-    pub fits-not : row / 2 ^ n % 2 ≡ 0 → false ≡ glanced row n first
-    unfolding glanced
+    pub fits-not : row / 2 ^ n % 2 ≡ 0 → false ≡ rowTells row n first
+    unfolding rowTells
     fits-not e = rw (lt-ltb n 30 few, e)
 
-    pub fits-so : (row / 2 ^ n % 2 ≡ 0 → ⊥) → leb (row / 2 ^ 31) first ≡ glanced row n first
-    unfolding glanced
+    pub fits-so : (row / 2 ^ n % 2 ≡ 0 → ⊥) → leb (row / 2 ^ 31) first ≡ rowTells row n first
+    unfolding rowTells
     fits-so have = rw (lt-ltb n 30 few, ne-eqb (row / 2 ^ n % 2) 0 have)
 
 -- ---- a tag that is not listed
@@ -240,7 +240,7 @@ unfolding sized
 any-size n some = rw (le-leb 1 n some, eq-eqb ((n - 1) % 1) 0 (mod-one (n - 1)))
 
 beyond-quick : (l : Level) (f : Form) (tag n first : ℕ) → unlisted ≡ ruleOf l tag → 0 < n → isSet l && eqb tag 101 ≡ false → isSet l && eqb tag 1 ≡ false → ((last : Bool) → mayStand l f tag last ≡ true)
-    → Quick l f tag n first
+    → Glanced l f tag n first
 beyond-quick l f tag n first er some no-series no-seal stands = record {
   some = some;
   no-series = no-series;
@@ -255,7 +255,7 @@ beyond-quick l f tag n first er some no-series no-seal stands = record {
         let long : 0 < length v = omega (arith, e, some) in
         rw (← er) (plainly unlisted v long (any-size (length v) long) refl)
 
-pub quick-beyond : (b : Bool) (f : Form) (tag n first : ℕ) → beyond b tag ≡ true → 0 < n → Quick (levelOf b) f tag n first
+pub quick-beyond : (b : Bool) (f : Form) (tag n first : ℕ) → beyond b tag ≡ true → 0 < n → Glanced (levelOf b) f tag n first
 unfolding mayStand
 quick-beyond true f tag n first h some =
     let (a, c) = and-both (ltb 12 tag) (not (eqb tag 101)) h in
@@ -267,5 +267,5 @@ quick-beyond false f tag n first h some =
     beyond-quick pack f tag n first (pack-over tag (omega (arith, l))) some refl refl λ last. offset-beyond f tag (omega (arith, l))
 
 -- x is what the code says of such a tag
-pub quick-other : (b : Bool) (f : Form) (tag n first : ℕ) {x : Bool} → (x ≡ true → (tag < 128) × (n < 128) × (0 < n) × (beyond b tag ≡ true)) → x ≡ true → (tag < 128) × (n < 128) × Quick (levelOf b) f tag n first
+pub quick-other : (b : Bool) (f : Form) (tag n first : ℕ) {x : Bool} → (x ≡ true → (tag < 128) × (n < 128) × (0 < n) × (beyond b tag ≡ true)) → x ≡ true → (tag < 128) × (n < 128) × Glanced (levelOf b) f tag n first
 quick-other b f tag n first h tx = let (a, c, some, e) = h tx in (a, c, quick-beyond b f tag n first e some)

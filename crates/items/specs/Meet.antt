@@ -43,17 +43,17 @@ itemTable =
     row 19 3 1 4 ∷ row 20 3 1 4 ∷ row 21 0 1 0 ∷ row 22 2 1 3 ∷ row 23 1 1 1 ∷ []
 
 -- a row for a glance: its two bits, and the lengths that are told so
-abbrev pub glance : ℕ → ℕ → ℕ
-glance f m = f * 2 ^ 30 + m
+abbrev pub glanceRow : ℕ → ℕ → ℕ
+glanceRow f m = f * 2 ^ 30 + m
 
 -- those of a pack, then those of the set
 unfoldable pub glanceTable : List ℕ
 glanceTable =
-    glance 1 0 ∷ glance 3 126 ∷ glance 3 126 ∷ glance 3 126 ∷ glance 1 2 ∷ glance 1 2 ∷ glance 3 6 ∷ glance 1 2 ∷ glance 1 8 ∷ glance 3 14 ∷
-    glance 0 8 ∷ glance 0 8 ∷ glance 1 4 ∷ glance 0 8 ∷ glance 0 8 ∷ glance 0 8 ∷ glance 0 8 ∷ glance 1 4260864 ∷ glance 1 1073741822 ∷ glance 3 30 ∷
-    glance 3 30 ∷ glance 1 1073741822 ∷ glance 3 14 ∷ glance 1 2 ∷
-    glance 1 0 ∷ glance 1 0 ∷ glance 1 256 ∷ glance 1 1073741822 ∷ glance 3 6 ∷ glance 3 14 ∷ glance 3 14 ∷ glance 1 1073741822 ∷ glance 3 14 ∷
-    glance 3 14 ∷ glance 1 1073741822 ∷ glance 1 4 ∷ glance 1 4 ∷ []
+    glanceRow 1 0 ∷ glanceRow 3 126 ∷ glanceRow 3 126 ∷ glanceRow 3 126 ∷ glanceRow 1 2 ∷ glanceRow 1 2 ∷ glanceRow 3 6 ∷ glanceRow 1 2 ∷ glanceRow 1 8 ∷ glanceRow 3 14 ∷
+    glanceRow 0 8 ∷ glanceRow 0 8 ∷ glanceRow 1 4 ∷ glanceRow 0 8 ∷ glanceRow 0 8 ∷ glanceRow 0 8 ∷ glanceRow 0 8 ∷ glanceRow 1 4260864 ∷ glanceRow 1 1073741822 ∷ glanceRow 3 30 ∷
+    glanceRow 3 30 ∷ glanceRow 1 1073741822 ∷ glanceRow 3 14 ∷ glanceRow 1 2 ∷
+    glanceRow 1 0 ∷ glanceRow 1 0 ∷ glanceRow 1 256 ∷ glanceRow 1 1073741822 ∷ glanceRow 3 6 ∷ glanceRow 3 14 ∷ glanceRow 3 14 ∷ glanceRow 1 1073741822 ∷ glanceRow 3 14 ∷
+    glanceRow 3 14 ∷ glanceRow 1 1073741822 ∷ glanceRow 1 4 ∷ glanceRow 1 4 ∷ []
 
 -- the number of a refusal, 0 for none
 abbrev pub answerOf : ℕ → Ans (Unit {0})

@@ -26,8 +26,8 @@ leastRow true = 2 ^ 30
 leastRow false = 1
 
 -- a row's bits have the length, and the first byte is not below the uppermost bit: where that is set, for a number, the byte is not 0
-unfoldable pub glanced : ℕ → ℕ → ℕ → Bool
-glanced row n first = ltb n 30 && (bit row n && leb (row / 2 ^ 31) first)
+unfoldable pub rowTells : ℕ → ℕ → ℕ → Bool
+rowTells row n first = ltb n 30 && (bit row n && leb (row / 2 ^ 31) first)
 
 -- a tag that the table does not list, and that is not the set's series
 abbrev pub beyond : Bool → ℕ → Bool
@@ -38,7 +38,7 @@ beyond false tag = ltb 23 tag
 abbrev pub As : ℕ → ℕ → Type 0
 As first y = (first ≡ 0) ⊎ (0 < y)
 
-pub record Quick (l : Level) (f : Form) (tag n first : ℕ) : Type 0 where
+pub record Glanced (l : Level) (f : Form) (tag n first : ℕ) : Type 0 where
   pub some : 0 < n
   pub no-series : isSet l && eqb tag 101 ≡ false
   pub no-seal : isSet l && eqb tag 1 ≡ false

@@ -4,7 +4,7 @@ ghost use mathlib.Core.Path.{_≡_};
 ghost use Prim.Native.Nat.{_<_};
 ghost use mathlib.Core.Bool.{true};
 ghost use Rattle.items.specs.Meet.{formOf, levelOf, glanceTable};
-ghost use Rattle.items.specs.Quick.{Quick, glanced, mostTag, rowsFrom, leastRow, beyond};
+ghost use Rattle.items.specs.Quick.{Glanced, rowTells, mostTag, rowsFrom, leastRow, beyond};
 
 // A row for each tag, of a pack, then of the set: two bits, then bit by bit the lengths below 30 that are told so. The two bits: 3 a number or a
 // pixel, which at a glance may not begin with 0; 0 an offset, which may stand in embedded only; 1 any other.
@@ -57,7 +57,7 @@ pub fn glances() -> [u32; 37]
 
 // Whether a row's bits have this length. The uppermost is set in the kinds of a number, whose first byte may not be 0.
 fn fits(row: u32, n: u64, first: u8) -> bool
-    ensures { λ r. ⌜ r ≡ glanced row n first ⌝ }
+    ensures { λ r. ⌜ r ≡ rowTells row n first ⌝ }
 {
     if 29 < n {
         return false;
@@ -121,9 +121,9 @@ fn is_other(set: bool, tag: u64, n: u64) -> bool
 
 // Whether an item with this tag, whose value has n bytes and begins with this one, meets the rules for one item wherever it may begin,
 // and is shortest as it stands, tag and length too. Where it says no, nothing is known.
-pub fn is_quick(glances: &[u32], set: bool, alone: bool, tag: u64, n: u64, first: u8) -> bool
+pub fn is_glanced(glances: &[u32], set: bool, alone: bool, tag: u64, n: u64, first: u8) -> bool
     requires { ⌜ now glances ≡ glanceTable ⌝ }
-    ensures { λ r. ⌜ (r ≡ true → (tag < 128) × (n < 128) × Quick (levelOf set) (formOf alone) tag n first) ⌝ }
+    ensures { λ r. ⌜ (r ≡ true → (tag < 128) × (n < 128) × Glanced (levelOf set) (formOf alone) tag n first) ⌝ }
 {
     if most_tag(set) < tag {
         return is_other(set, tag, n);
@@ -137,11 +137,11 @@ pub fn is_quick(glances: &[u32], set: bool, alone: bool, tag: u64, n: u64, first
 }
 
 // What an item laid out alike has to begin its value with, beside one that is told so: 0 anything, 1 the same byte or any but 0.
-pub fn first_mark(glances: &[u32], set: bool, alone: bool, tag: u64, n: u64) -> u8
+pub fn first_mask(glances: &[u32], set: bool, alone: bool, tag: u64, n: u64) -> u8
     requires { ⌜ now glances ≡ glanceTable ⌝ }
-    ensures { λ r. ⌜ (r ≡ 0 → Quick (levelOf set) (formOf alone) tag n 0) ⌝ }
+    ensures { λ r. ⌜ (r ≡ 0 → Glanced (levelOf set) (formOf alone) tag n 0) ⌝ }
 {
-    if is_quick(glances, set, alone, tag, n, 0) {
+    if is_glanced(glances, set, alone, tag, n, 0) {
         return 0;
     }
     1

@@ -22,7 +22,7 @@ pub fn normalise(packet: &[u8], alone: bool, out: &mut [u8]) -> Answer
     }
     // No piece grows, so a normal form of as many bytes is the packet itself.
     if size == packet.len() {
-        stores::copy_run(out, 0, packet);
+        stores::copy_all(out, 0, packet);
         return answer_of(0, size);
     }
     let from = check_packet::set_start(packet, alone);

@@ -12,19 +12,19 @@ use Rattle.coding.specs.Alike.{AlikeTo}
 use Rattle.coding.proofs.Alikes.{alike-same, alike-as}
 use Rattle.items.specs.Meet.{formOf}
 use Rattle.heads.specs.Meet.{peek}
-use Rattle.tally.specs.declared.quick.Quick.{Quick}
+use Rattle.tally.specs.declared.quick.Stage.{Stage}
 use Rattle.quick_packs.specs.declared.Model.{Model}
 use Rattle.tally.specs.Going.{LevelGoing, SeriesGoing, Reached}
 use Rattle.quick_packs.specs.Packs.{Laid, Told, As, Modelled}
-use Rattle.tally.proofs.Glances.{quickSizes, packedSizes, packed-plus}
+use Rattle.tally.proofs.Glances.{toldSizes, packedSizes, packed-plus}
 use Rattle.tally.proofs.Turns.{turn-done, Fresh, reached-fresh}
 use Rattle.tally.proofs.PackTurns.{PackAt, either-is, head-stood, lent-long, pack-more}
 
-module _ (alone : Bool) {m a : List ℕ} {q : Quick} (l : Laid (formOf alone) m a q) (all : q .at ≡ length a) (located : not alone || q .mark ≡ true) where
+module _ (alone : Bool) {m a : List ℕ} {q : Stage} (l : Laid (formOf alone) m a q) (all : q .at ≡ length a) (located : not alone || q .held ≡ true) where
   pub laid-told : (b : List ℕ) → Bytes b → length b ≡ length a → AlikeTo m a b (length a) → Told alone b (1 + q .sizes .rows)
   laid-told b bytes e h = record {
     count = q .sizes .rows;
-    mark = q .mark;
+    held = q .held;
     top = q .top;
     low = q .low;
     going =
@@ -38,8 +38,8 @@ module _ (alone : Bool) {m a : List ℕ} {q : Quick} (l : Laid (formOf alone) m 
 pub part-long : (s : List ℕ) (from next : ℕ) → from ≤ next → next ≤ length s → length (take (next - from) (drop from s)) ≡ next - from
 part-long s from next ordered room = length-take-le (next - from) (drop from s) (rw length-drop (omega arith))
 
-module _ (alone : Bool) (s : List ℕ) (from next : ℕ) {marks : List ℕ} {q : Quick} (l : Laid (formOf alone) marks (take (next - from) (drop from s)) q) (ordered : from ≤ next) (room : next ≤ length s) (all : q .at ≡ next - from)
-    (located : not alone || q .mark ≡ true) where
+module _ (alone : Bool) (s : List ℕ) (from next : ℕ) {masks : List ℕ} {q : Stage} (l : Laid (formOf alone) masks (take (next - from) (drop from s)) q) (ordered : from ≤ next) (room : next ≤ length s) (all : q .at ≡ next - from)
+    (located : not alone || q .held ≡ true) where
   abbrev part : List ℕ
   part = take (next - from) (drop from s)
 
@@ -49,28 +49,28 @@ module _ (alone : Bool) (s : List ℕ) (from next : ℕ) {marks : List ℕ} {q :
   pub items-told : Bytes s → Told alone part (1 + q .sizes .rows)
   items-told bytes = laid-told alone l (all ∙ sym long) located part (bytes-take (next - from) (drop from s) (bytes-drop from s bytes)) refl (alike-same _ _ _)
 
-  pub items-model : length marks ≡ 160 → Modelled alone marks s (record { from = from; size = q .at; rows = 1 + q .sizes .rows })
-  items-model marked = record {
-    long = marked;
+  pub items-model : length masks ≡ 160 → Modelled alone masks s (record { from = from; size = q .at; rows = 1 + q .sizes .rows })
+  items-model masked = record {
+    long = masked;
     within = omega arith;
-    told = λ _ b bytes e h. laid-told alone l (all ∙ sym long) located b bytes (e ∙ all ∙ sym long) (subst (AlikeTo marks part b) (all ∙ sym long) (alike-as part b (λ i g. sym (getD-take (next - from) (drop from s) i 0 (omega (arith, g, all)))) (λ i g. refl) h));
+    told = λ _ b bytes e h. laid-told alone l (all ∙ sym long) located b bytes (e ∙ all ∙ sym long) (subst (AlikeTo masks part b) (all ∙ sym long) (alike-as part b (λ i g. sym (getD-take (next - from) (drop from s) i 0 (omega (arith, g, all)))) (λ i g. refl) h));
   }
 
 -- items laid out as the model's are
-pub as-model : {alone : Bool} {marks s : List ℕ} {m : Model} → Modelled alone marks s m → (from next : ℕ) → from ≤ next → next ≤ length s → Bytes s → (m .size ≡ next - from) × As marks s m from
+pub as-model : {alone : Bool} {masks s : List ℕ} {m : Model} → Modelled alone masks s m → (from next : ℕ) → from ≤ next → next ≤ length s → Bytes s → (m .size ≡ next - from) × As masks s m from
     → Told alone (take (next - from) (drop from s)) (m .rows)
-as-model {marks = marks} {s = s} {m = m} l from next ordered room bytes (e, a) =
+as-model {masks = masks} {s = s} {m = m} l from next ordered room bytes (e, a) =
     l .told (a .small) (take (next - from) (drop from s)) (bytes-take (next - from) (drop from s) (bytes-drop from s bytes)) (part-long s from next ordered room ∙ sym e)
     (alike-as (drop (m .from) s) (take (next - from) (drop from s)) (λ i g. refl) (λ i g. sym (getD-take (next - from) (drop from s) i 0 (omega (arith, g, e)))) (a .alike))
 
 -- none, as the code says it
-pub no-items : {alone : Bool} {marks s : List ℕ} {m : Model} → m .from ≡ 0 → m .size ≡ 128 → length marks ≡ 160 → Modelled alone marks s m
+pub no-items : {alone : Bool} {masks s : List ℕ} {m : Model} → m .from ≡ 0 → m .size ≡ 128 → length masks ≡ 160 → Modelled alone masks s m
 no-items e n long = record { long = long; within = omega (arith, e); told = λ h. absurd (omega (arith, h, n)) }
 
 -- items that the quick way goes over to their end
-pub run-told : (alone : Bool) {b : List ℕ} {q : Quick} → LevelGoing false (formOf alone) b (q .at) (q .sizes) (q .mark) (q .top) (q .low) × (q .sizes ≡ quickSizes (q .sizes .rows) (q .at)) → length b ≡ q .at → not alone || q .mark ≡ true
+pub run-told : (alone : Bool) {b : List ℕ} {q : Stage} → LevelGoing false (formOf alone) b (q .at) (q .sizes) (q .held) (q .top) (q .low) × (q .sizes ≡ toldSizes (q .sizes .rows) (q .at)) → length b ≡ q .at → not alone || q .held ≡ true
     → Told alone b (1 + q .sizes .rows)
-run-told alone {q = q} g all located = record { count = q .sizes .rows; mark = q .mark; top = q .top; low = q .low; going = rw (all, ← g .1) (g .0); rows-are = refl; located = located }
+run-told alone {q = q} g all located = record { count = q .sizes .rows; held = q .held; top = q .top; low = q .low; going = rw (all, ← g .1) (g .0); rows-are = refl; located = located }
 
 -- a pack whose items are told, in the series
 pub told-more : {alone : Bool} {s : List ℕ} {p rows : ℕ} (more : ℕ) {top low k u w n : ℕ} → PackAt (formOf alone) s p (packedSizes p rows more) top low k u w n → (w ≡ 1) × (n < 128) × (u ≤ 2) → {top′ low′ : ℕ}
@@ -78,7 +78,7 @@ pub told-more : {alone : Bool} {s : List ℕ} {p rows : ℕ} (more : ℕ) {top l
     → SeriesGoing (formOf alone) s (p + w + n) (packedSizes (p + w + n) (rows + r) (more + 5 - u)) top′ low′
 told-more {alone = alone} {p = p} {rows = rows} more {w = w} {n = n} i short b {r = r} t =
     let e : rows + r ≡ rows + 1 + t .count = omega (arith, t .rows-are) in
-    rw e (pack-more i (b .new) refl (turn-done (t .going) (omega arith)) refl (either-is alone (t .mark) (sym (t .located))) refl (packed-plus p rows more w n short (head-stood i .body) (lent-long i (b .new) refl) refl) (b .over) (b .under))
+    rw e (pack-more i (b .new) refl (turn-done (t .going) (omega arith)) refl (either-is alone (t .held) (sym (t .located))) refl (packed-plus p rows more w n short (head-stood i .body) (lent-long i (b .new) refl) refl) (b .over) (b .under))
 
 -- the first, as the code has its sizes
 pub told-first : {alone : Bool} {s : List ℕ} {top low k u w n : ℕ} → PackAt (formOf alone) s 0 (packedSizes 0 0 0) top low k u w n → (w ≡ 1) × (n < 128) × (u ≤ 2) → {top′ low′ : ℕ}

@@ -1,4 +1,4 @@
--- Packs laid out alike: what is told of one by the marks of another, its model.
+-- Packs laid out alike: what is told of one by the masks of another, its model.
 use mathlib.Core.Path.{_≡_}
 use Prim.Native.Nat.{ℕ, _+_, _*_, _≤_, _<_}
 use mathlib.Core.Bool.{Bool, true, false, not, _||_}
@@ -8,34 +8,34 @@ use Rattle.format.specs.Coding.{Bytes}
 use Rattle.format.specs.Table.{Form}
 use Rattle.coding.specs.Alike.{AlikeTo}
 use Rattle.items.specs.Meet.{formOf}
-use Rattle.tally.specs.declared.quick.Quick.{Quick}
+use Rattle.tally.specs.declared.quick.Stage.{Stage}
 use Rattle.quick_packs.specs.declared.Model.{Model}
 use Rattle.tally.specs.Meet.{sizes}
 use Rattle.tally.specs.Going.{LevelGoing}
 
--- the items of a, and of whatever is laid out as they are, by the marks, are walked to the same place with the same sizes
-pub record Laid (f : Form) (marks a : List ℕ) (q : Quick) : Type 0 where
-  pub walked : (b : List ℕ) → Bytes b → length b ≡ length a → AlikeTo marks a b (q .at) → LevelGoing false f b (q .at) (q .sizes) (q .mark) (q .top) (q .low)
+-- the items of a, and of whatever is laid out as they are, by the masks, are walked to the same place with the same sizes
+pub record Laid (f : Form) (masks a : List ℕ) (q : Stage) : Type 0 where
+  pub walked : (b : List ℕ) → Bytes b → length b ≡ length a → AlikeTo masks a b (q .at) → LevelGoing false f b (q .at) (q .sizes) (q .held) (q .top) (q .low)
   pub sizes-are : q .sizes ≡ sizes (4 * (q .sizes .rows) + q .at) (q .sizes .rows) (q .at) 0
 
 -- a pack's items that are walked to their end, with as many rows as the pack has beside its own, and hold what a pack must
 pub record Told (alone : Bool) (b : List ℕ) (rows : ℕ) : Type 0 where
   pub count : ℕ
-  pub mark : Bool
+  pub held : Bool
   pub top : ℕ
   pub low : ℕ
-  pub going : LevelGoing false (formOf alone) b (length b) (sizes (4 * count + length b) count (length b) 0) mark top low
+  pub going : LevelGoing false (formOf alone) b (length b) (sizes (4 * count + length b) count (length b) 0) held top low
   pub rows-are : rows ≡ 1 + count
-  pub located : not alone || mark ≡ true
+  pub located : not alone || held ≡ true
 
 -- what stands from there on is laid out as the model's items
-pub record As (marks s : List ℕ) (m : Model) (from : ℕ) : Type 0 where
+pub record As (masks s : List ℕ) (m : Model) (from : ℕ) : Type 0 where
   pub small : m .size < 128
-  pub alike : AlikeTo marks (drop (m .from) s) (drop from s) (m .size)
+  pub alike : AlikeTo masks (drop (m .from) s) (drop from s) (m .size)
   pub within : from + m .size ≤ length s
 
 -- so is whatever is laid out as the model's items, if there is a model
-pub record Modelled (alone : Bool) (marks s : List ℕ) (m : Model) : Type 0 where
-  pub long : length marks ≡ 160
+pub record Modelled (alone : Bool) (masks s : List ℕ) (m : Model) : Type 0 where
+  pub long : length masks ≡ 160
   pub within : m .from ≤ length s
-  pub told : m .size < 128 → (b : List ℕ) → Bytes b → length b ≡ m .size → AlikeTo marks (drop (m .from) s) b (m .size) → Told alone b (m .rows)
+  pub told : m .size < 128 → (b : List ℕ) → Bytes b → length b ≡ m .size → AlikeTo masks (drop (m .from) s) b (m .size) → Told alone b (m .rows)

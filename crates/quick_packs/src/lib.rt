@@ -7,12 +7,12 @@ ghost use lib.ListN.{length, take, drop};
 ghost use Rattle.format.specs.Coding.{Bytes};
 ghost use Rattle.items.specs.Meet.{formOf, glanceTable};
 ghost use Rattle.tally.specs.Meet.{sizes};
-ghost use Rattle.tally.specs.Going.{SeriesGoing, quickAt};
+ghost use Rattle.tally.specs.Going.{SeriesGoing, stageAt};
 ghost use Rattle.quick_packs.specs.Packs.{Laid, As, Modelled, Told};
 use heads::Head;
 use tally::Sizes;
 use tally::quick;
-use tally::quick::Quick;
+use tally::quick::Stage;
 
 // Where a pack's items begin, how many bytes they have, and the pack's rows.
 pub struct Model {
@@ -32,29 +32,29 @@ pub fn no_model() -> Model
     }
 }
 
-// A pack's items told at a glance, as `quick::run` goes over them, and marked: whatever is laid out so is walked so.
-fn lay(glances: &[u32], s: &[u8], alone: bool, marks: &mut [u8; 160]) -> Quick
-    requires { ⌜ (now glances ≡ glanceTable) × (length (now s) < 128) × (length (now marks) ≡ 160) ⌝ }
-    ensures { λ r. ⌜ Laid (formOf alone) (now (marks .exit)) (now (s .entry)) r × (length (now (marks .exit)) ≡ 160) ⌝ }
+// A pack's items told at a glance, as `quick::glance_items` goes over them, and masked: whatever is laid out so is walked so.
+fn lay(glances: &[u32], s: &[u8], alone: bool, masks: &mut [u8; 160]) -> Stage
+    requires { ⌜ (now glances ≡ glanceTable) × (length (now s) < 128) × (length (now masks) ≡ 160) ⌝ }
+    ensures { λ r. ⌜ Laid (formOf alone) (now (masks .exit)) (now (s .entry)) r × (length (now (masks .exit)) ≡ 160) ⌝ }
 {
     let most = quick::span(s, false, alone);
     let low = quick::first_tag(s);
     let mut p: usize = 0;
     let mut count: usize = 0;
-    let mut mark = false;
+    let mut held = false;
     let mut top: u64 = 0;
     loop {
-        let next = quick::glance(glances, s, p, most, false, alone, top);
+        let next = quick::glance_item(glances, s, p, most, false, alone, top);
         if next == 0 {
             if s.len() < p {
                 return quick::stands(0, quick::nothing(), false, 0, low);
             }
-            return quick::stands(p, quick::told_sizes(count, p), mark, top, low);
+            return quick::stands(p, quick::told_sizes(count, p), held, top, low);
         }
         let tag = coding::wide(s[p]);
-        let first = items::quick::first_mark(glances, false, alone, tag, coding::wide(s[p + 1]));
-        coding::alike::mark_item(marks, p, 2, first);
-        mark = coding::either(mark, tally::is_mark(false, tag));
+        let first = items::quick::first_mask(glances, false, alone, tag, coding::wide(s[p + 1]));
+        coding::alike::mask_item(masks, p, 2, first);
+        held = coding::either(held, tally::is_asked(false, tag));
         top = tag;
         count += 1;
         p = next;
@@ -62,27 +62,27 @@ fn lay(glances: &[u32], s: &[u8], alone: bool, marks: &mut [u8; 160]) -> Quick
 }
 
 // Whether what stands from there on is laid out as the model's items, if there is a model.
-pub fn is_as(m: Model, marks: &[u8], s: &[u8], from: usize) -> bool
-    requires { ⌜ (length (now marks) ≡ 160) × (from ≤ length (now s)) × (m .from ≤ from) ⌝ }
-    ensures { λ r. ⌜ (r ≡ true → As (now (marks .entry)) (now (s .entry)) m from) ⌝ }
+pub fn is_as(m: Model, masks: &[u8], s: &[u8], from: usize) -> bool
+    requires { ⌜ (length (now masks) ≡ 160) × (from ≤ length (now s)) × (m .from ≤ from) ⌝ }
+    ensures { λ r. ⌜ (r ≡ true → As (now (masks .entry)) (now (s .entry)) m from) ⌝ }
 {
     let size = m.size;
     if 127 < size {
         return false;
     }
     let model = m.from;
-    coding::alike::are_alike(marks, &s[model..], &s[from..], size)
+    coding::alike::are_alike(masks, &s[model..], &s[from..], size)
 }
 
 // The same of a pack's items, from one place to another.
-fn is_pack_as(m: Model, marks: &[u8], s: &[u8], from: usize, next: usize) -> bool
-    requires { ⌜ (length (now marks) ≡ 160) × (from ≤ next) × (next ≤ length (now s)) × (m .from ≤ from) ⌝ }
-    ensures { λ r. ⌜ (r ≡ true → (m .size ≡ next - from) × As (now (marks .entry)) (now (s .entry)) m from) ⌝ }
+fn is_pack_as(m: Model, masks: &[u8], s: &[u8], from: usize, next: usize) -> bool
+    requires { ⌜ (length (now masks) ≡ 160) × (from ≤ next) × (next ≤ length (now s)) × (m .from ≤ from) ⌝ }
+    ensures { λ r. ⌜ (r ≡ true → (m .size ≡ next - from) × As (now (masks .entry)) (now (s .entry)) m from) ⌝ }
 {
     if next - from != m.size {
         return false;
     }
-    is_as(m, marks, s, from)
+    is_as(m, masks, s, from)
 }
 
 // These items as the model, if they are all told at a glance and hold what a pack must.
@@ -92,17 +92,17 @@ fn model_of(
     from: usize,
     next: usize,
     alone: bool,
-    marks: &mut [u8; 160],
+    masks: &mut [u8; 160],
 ) -> Model
-    requires { ⌜ (now glances ≡ glanceTable) × (from ≤ next) × (next ≤ length (now s)) × (next - from < 128) × (length (now marks) ≡ 160) × Bytes (now s) ⌝ }
-    ensures { λ r. ⌜ Modelled alone (now (marks .exit)) (now (s .entry)) r × (r .from ≤ from) × (0 < r .rows → Told alone (take (next - from) (drop from (now (s .entry)))) (r .rows)) ⌝ }
+    requires { ⌜ (now glances ≡ glanceTable) × (from ≤ next) × (next ≤ length (now s)) × (next - from < 128) × (length (now masks) ≡ 160) × Bytes (now s) ⌝ }
+    ensures { λ r. ⌜ Modelled alone (now (masks .exit)) (now (s .entry)) r × (r .from ≤ from) × (0 < r .rows → Told alone (take (next - from) (drop from (now (s .entry)))) (r .rows)) ⌝ }
 {
-    *marks = [0; 160];
-    let q = lay(glances, &s[from..next], alone, marks);
+    *masks = [0; 160];
+    let q = lay(glances, &s[from..next], alone, masks);
     if q.at != next - from {
         return no_model();
     }
-    if !coding::either(!alone, q.mark) {
+    if !coding::either(!alone, q.held) {
         return no_model();
     }
     Model {
@@ -112,16 +112,16 @@ fn model_of(
     }
 }
 
-// Such items where no model is worth its marks; no rows where they are not such.
+// Such items where no model is worth its masks; no rows where they are not such.
 fn unmodelled(glances: &[u32], s: &[u8], from: usize, next: usize, alone: bool) -> Model
     requires { ⌜ (now glances ≡ glanceTable) × (from ≤ next) × (next ≤ length (now s)) × (next - from < 128) ⌝ }
     ensures { λ r. ⌜ (r .from ≡ 0) × (r .size ≡ 128) × (0 < r .rows → Told alone (take (next - from) (drop from (now (s .entry)))) (r .rows)) ⌝ }
 {
-    let q = quick::run(glances, &s[from..next], false, alone);
+    let q = quick::glance_items(glances, &s[from..next], false, alone);
     if q.at != next - from {
         return no_model();
     }
-    if !coding::either(!alone, q.mark) {
+    if !coding::either(!alone, q.held) {
         return no_model();
     }
     Model {
@@ -134,9 +134,9 @@ fn unmodelled(glances: &[u32], s: &[u8], from: usize, next: usize, alone: bool) 
 // ---- packs
 
 // Where the pack walk goes on after packs of p bytes and so many rows, each with a byte for its length.
-fn passed(p: usize, rows: usize, more: usize, top: u64, low: u64) -> Quick
+fn passed(p: usize, rows: usize, more: usize, top: u64, low: u64) -> Stage
     requires { ⌜ p + 4 * rows + more ≤ 65536 ⌝ }
-    ensures { λ r. ⌜ r ≡ quickAt p (sizes (p + 4 * rows + more) rows p 0) false top low ⌝ }
+    ensures { λ r. ⌜ r ≡ stageAt p (sizes (p + 4 * rows + more) rows p 0) false top low ⌝ }
 {
     let sizes = Sizes {
         sheet: p + 4 * rows + more,
@@ -150,7 +150,7 @@ fn passed(p: usize, rows: usize, more: usize, top: u64, low: u64) -> Quick
 // The packs whose length has one byte and whose id has one or two, and whose items are all told at a glance, one after another, from a series'
 // start: ids rising or falling, or noted in the bits lent. Beside as many bytes as such a pack has, its sheet has four for each row, and five less
 // those of its id.
-fn many(glances: &[u32], s: &[u8], alone: bool, bits: &mut [u64]) -> Quick
+fn many(glances: &[u32], s: &[u8], alone: bool, bits: &mut [u64]) -> Stage
     requires { ⌜ (now glances ≡ glanceTable) × (length (now s) ≤ 8192) ⌝ }
     ensures { λ r. ⌜ SeriesGoing (formOf alone) (now (s .entry)) (r .at) (r .sizes) (r .top) (r .low) ⌝ }
 {
@@ -159,7 +159,7 @@ fn many(glances: &[u32], s: &[u8], alone: bool, bits: &mut [u64]) -> Quick
     let mut more: usize = 0;
     let mut top: u64 = 0;
     let mut low: u64 = 18446744073709551615;
-    let mut marks: [u8; 160] = [0; 160];
+    let mut masks: [u8; 160] = [0; 160];
     let mut m = no_model();
     // packs that were not laid out as their model: where they are many, none is laid out
     let mut misses: usize = 0;
@@ -192,9 +192,9 @@ fn many(glances: &[u32], s: &[u8], alone: bool, bits: &mut [u64]) -> Quick
         repeats::notes::note(bits, key);
         let from = p + width + used;
         let next = p + width + size;
-        if !is_pack_as(m, &marks, s, from, next) {
+        if !is_pack_as(m, &masks, s, from, next) {
             if 64 * misses <= 512 + p {
-                m = model_of(glances, s, from, next, alone, &mut marks);
+                m = model_of(glances, s, from, next, alone, &mut masks);
             } else {
                 m = unmodelled(glances, s, from, next, alone);
             }
@@ -211,7 +211,7 @@ fn many(glances: &[u32], s: &[u8], alone: bool, bits: &mut [u64]) -> Quick
 }
 
 // Whether it was an id neither above nor below all before that ended it.
-fn is_between(s: &[u8], q: Quick) -> bool
+fn is_between(s: &[u8], q: Stage) -> bool
     requires { ⌜ q .at ≤ length (now s) ⌝ }
 {
     let at = q.at;
@@ -232,7 +232,7 @@ fn is_between(s: &[u8], q: Quick) -> bool
 }
 
 // Packs told at a glance from a series' start, ids rising or falling. Most series have ids that rise, and nothing is noted for them.
-pub fn packs(glances: &[u32], s: &[u8], alone: bool) -> Quick
+pub fn packs(glances: &[u32], s: &[u8], alone: bool) -> Stage
     requires { ⌜ (now glances ≡ glanceTable) × (length (now s) ≤ 8192) ⌝ }
     ensures { λ r. ⌜ SeriesGoing (formOf alone) (now (s .entry)) (r .at) (r .sizes) (r .top) (r .low) ⌝ }
 {
@@ -241,7 +241,7 @@ pub fn packs(glances: &[u32], s: &[u8], alone: bool) -> Quick
 }
 
 // The same from where that ended: if it was at an id that neither rises nor falls, anew, the first 4,096 noted in the bits lent, whatever these were.
-pub fn noted(glances: &[u32], s: &[u8], alone: bool, q: Quick, bits: &mut [u64; 64]) -> Quick
+pub fn noted(glances: &[u32], s: &[u8], alone: bool, q: Stage, bits: &mut [u64; 64]) -> Stage
     requires { ⌜ (now glances ≡ glanceTable) × (length (now s) ≤ 8192) × SeriesGoing (formOf alone) (now s) (q .at) (q .sizes) (q .top) (q .low) ⌝ }
     ensures { λ r. ⌜ SeriesGoing (formOf alone) (now (s .entry)) (r .at) (r .sizes) (r .top) (r .low) ⌝ }
 {
@@ -253,7 +253,7 @@ pub fn noted(glances: &[u32], s: &[u8], alone: bool, q: Quick, bits: &mut [u64; 
 }
 
 // The same of a series of one pack, for which no model is laid out: apart, so that it stands where it is called.
-pub fn lone(glances: &[u32], s: &[u8], alone: bool) -> Quick
+pub fn lone(glances: &[u32], s: &[u8], alone: bool) -> Stage
     requires { ⌜ (now glances ≡ glanceTable) × (length (now s) ≤ 8192) × (0 < length (now s)) ⌝ }
     ensures { λ r. ⌜ SeriesGoing (formOf alone) (now (s .entry)) (r .at) (r .sizes) (r .top) (r .low) ⌝ }
 {

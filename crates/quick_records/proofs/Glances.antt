@@ -16,7 +16,7 @@ use Rattle.coding.proofs.Lens.{two-small}
 use Rattle.coding.proofs.Rooms.{tail-part, bytes-room}
 use Rattle.coding.proofs.Counts.{len-one, count-start, count-done}
 use Rattle.items.specs.Meet.{levelOf}
-use Rattle.items.specs.Quick.{Quick}
+use Rattle.items.specs.Quick.{Glanced}
 use Rattle.items.proofs.Glances.{as-same}
 use Rattle.items.proofs.Tests.{standing-0}
 use Rattle.heads.specs.Meet.{peek, Past}
@@ -25,23 +25,23 @@ use Rattle.heads.proofs.Spans.{val-whole, a-field}
 use Rattle.tally.specs.declared.Piece.{Piece}
 use Rattle.tally.specs.declared.Piece.the-variants as piece
 use Rattle.tally.specs.declared.Sizes.{Sizes}
-use Rattle.tally.specs.Meet.{sizes, itemSizes, packSizes, plusSizes, markTag}
+use Rattle.tally.specs.Meet.{sizes, itemSizes, packSizes, plusSizes, askedTag}
 use Rattle.tally.specs.Going.{Begun}
 use Rattle.tally.proofs.Walks.{same-sizes}
 use Rattle.tally.proofs.Glances.{begun-later}
 use Rattle.tally.proofs.ItemTurns.{level-is}
 use Rattle.quick_records.specs.Meet.{pieceBy, valueWhole, partPiece, moreAt}
-use Rattle.quick_records.specs.Going.{RecordsGoing, Glanced, wordOf}
+use Rattle.quick_records.specs.Going.{RecordsGoing, RecordGlanced, wordOf}
 use Rattle.quick_records.proofs.Values.{value-within, value-whole}
 use Rattle.quick_records.proofs.Opens.{part-inner, part-value}
 use Rattle.quick_records.proofs.PartTurns.{item-is, PartAt, item-told, part-more}
 
 -- the sizes of so many such records in p bytes
-abbrev pub quickSizes : ℕ → ℕ → Sizes
-quickSizes count p = sizes p count (p - 4 * count) 0
+abbrev pub toldSizes : ℕ → ℕ → Sizes
+toldSizes count p = sizes p count (p - 4 * count) 0
 
 quick-plus : (l : Level) (tag n count p : ℕ) → isSet l && eqb tag 1 ≡ false → tag < 128 → n < 128 → 4 * count ≤ p
-    → quickSizes (count + 1) (p + itemSizes l tag n .sheet) ≡ plusSizes (quickSizes count p) (itemSizes l tag n)
+    → toldSizes (count + 1) (p + itemSizes l tag n .sheet) ≡ plusSizes (toldSizes count p) (itemSizes l tag n)
 quick-plus l tag n count p z th nh h =
     let u : 1 ≡ length (oidBytes tag) = count-done tag 1 tag (count-start tag (omega arith)) th .0 in
     let w : 1 ≡ lenWidth n = len-one n nh in
@@ -95,7 +95,7 @@ head-fits s p bytes h {head} e =
 pub size-from : (s : List ℕ) (p : ℕ) → p + 6 < length s → getD s (p + 4) 0 ≡ 0 → {n : ℕ} → n ≡ getD s (p + 5) 0 → n ≡ bytesNumber (take 2 (take (length s - (p + 4)) (drop (p + 4) s)))
 size-from s p h z e = rw tail-part (e ∙ two-small s (p + 4) (omega arith) (omega arith) z)
 
-named : (l : Level) (f : Form) (tag n first : ℕ) → 0 < tag → tag < 128 → Quick l f tag n first → true ≡ nameable l tag
+named : (l : Level) (f : Form) (tag n first : ℕ) → 0 < tag → tag < 128 → Glanced l f tag n first → true ≡ nameable l tag
 unfolding nameable
 named l f tag n first z h q = rw (lt-ltb 0 tag z, le-leb tag 16383 (omega arith)) (sym (neither (isSet l) (eqb tag 1) (eqb tag 101) (q .no-seal) (q .no-series)))
   where
@@ -107,7 +107,7 @@ named l f tag n first z h q = rw (lt-ltb 0 tag z, le-leb tag 16383 (omega arith)
 
 -- by its mark and its numbers
 pub glance-of : (b : Bool) (f : Form) (s : List ℕ) (p : ℕ) {top tag n : ℕ} → is (markOf (levelOf b)) (drop p s) ≡ true → tag ≡ bytesNumber (take 2 (drop 2 (drop p s))) → n ≡ bytesNumber (take 2 (drop 4 (drop p s)))
-    → p + 6 + n ≤ length s → top < tag → tag < 128 → n < 128 → Quick (levelOf b) f tag n (getD s (p + 6) 0) → Glanced b f s p top tag n
+    → p + 6 + n ≤ length s → top < tag → tag < 128 → n < 128 → Glanced (levelOf b) f tag n (getD s (p + 6) 0) → RecordGlanced b f s p top tag n
 glance-of b f s p {tag = tag} {n = n} mark is-tag is-size room above th nh q =
     let u : List ℕ = drop p s in
     let long : 6 + n ≤ length u = rw length-drop (omega arith) in
@@ -129,7 +129,7 @@ glance-of b f s p {tag = tag} {n = n} mark is-tag is-size room above th nh q =
 pub glance-from : (b : Bool) (f : Form) (s : List ℕ) (p top : ℕ) → Bytes s
     → {head word tag : ℕ} → head ≡ bytesNumber (take 4 (take (length s - p) (drop p s))) → word ≡ wordOf b → (tag + word) % 4294967296 ≡ head → top < tag → tag < 128
     → {n : ℕ} → n ≡ bytesNumber (take 2 (take (length s - (p + 4)) (drop (p + 4) s))) → n < 128 → {next : ℕ} → next ≡ p + 6 + n → next ≤ length s
-    → Quick (levelOf b) f tag n (getD s (p + 6) 0) → Glanced b f s p top tag (next - (p + 6))
+    → Glanced (levelOf b) f tag n (getD s (p + 6) 0) → RecordGlanced b f s p top tag (next - (p + 6))
 glance-from b f s p top bytes {head} {word} {tag} eh ew et above th {n} en nh {next} ee room q =
     let u : List ℕ = drop p s in
     let long : 4 ≤ length u = rw length-drop (omega arith) in
@@ -140,13 +140,13 @@ glance-from b f s p top bytes {head} {word} {tag} eh ew et above th {n} en nh {n
     rw y (glance-of b f s p mark is-tag size (omega arith) above th nh q)
 
 -- the first may begin its level, and whatever comes later
-pub glance-begun : {b : Bool} {f : Form} {s : List ℕ} {p top tag n : ℕ} → Glanced b f s p top tag n → Begun b f 0 (bytesNumber (take 2 (drop 2 s))) → Begun b f p tag
+pub glance-begun : {b : Bool} {f : Form} {s : List ℕ} {p top tag n : ℕ} → RecordGlanced b f s p top tag n → Begun b f 0 (bytesNumber (take 2 (drop 2 s))) → Begun b f p tag
 glance-begun {p = zero} g h = rw (g .tag-is) h
 glance-begun {b = b} {f = f} {p = suc p} {tag = tag} g h = begun-later b f (suc p) tag (omega arith)
 
 -- ---- the turn
 
-module _ {b : Bool} {f : Form} {s : List ℕ} {p top tag n : ℕ} (g : Glanced b f s p top tag n) where
+module _ {b : Bool} {f : Form} {s : List ℕ} {p top tag n : ℕ} (g : RecordGlanced b f s p top tag n) where
   pub glance-room : p + 6 + n ≤ length s
   glance-room = omega (arith, value-within (drop p s) (levelOf b) (g .fields) refl, length-drop p s, g .quick .some)
 
@@ -178,14 +178,14 @@ module _ {b : Bool} {f : Form} {s : List ℕ} {p top tag n : ℕ} (g : Glanced b
       refl)
 
 -- where it ends
-pub glance-next : {b : Bool} {f : Form} {s : List ℕ} {p top tag next : ℕ} → Glanced b f s p top tag (next - (p + 6)) → (p + 6 < next) × (next ≤ length s)
+pub glance-next : {b : Bool} {f : Form} {s : List ℕ} {p top tag next : ℕ} → RecordGlanced b f s p top tag (next - (p + 6)) → (p + 6 < next) × (next ≤ length s)
 glance-next g = (omega (arith, g .quick .some), omega (arith, glance-room g, g .quick .some))
 
 -- tags rise, and how low they were does not matter
-pub glance-more : {b : Bool} {f : Form} {s : List ℕ} {p top tag next : ℕ} → Glanced b f s p top tag (next - (p + 6)) → Begun b f p tag
-    → {count : ℕ} {mark : Bool} → RecordsGoing b f s p (quickSizes count p) mark top 0 → 4 * count ≤ p → Bytes s → length s ≤ 65536
-    → {y mark′ : Bool} → y ≡ eqb tag (markTag (levelOf b)) → mark′ ≡ (mark || y) → RecordsGoing b f s next (quickSizes (count + 1) next) mark′ tag 0
-glance-more {b = b} {f = f} {s = s} {p = p} {top = top} {tag = tag} {next = next} g begins {count = count} {mark = mark} go few bytes most ey em =
+pub glance-more : {b : Bool} {f : Form} {s : List ℕ} {p top tag next : ℕ} → RecordGlanced b f s p top tag (next - (p + 6)) → Begun b f p tag
+    → {count : ℕ} {held : Bool} → RecordsGoing b f s p (toldSizes count p) held top 0 → 4 * count ≤ p → Bytes s → length s ≤ 65536
+    → {y held′ : Bool} → y ≡ eqb tag (askedTag (levelOf b)) → held′ ≡ (held || y) → RecordsGoing b f s next (toldSizes (count + 1) next) held′ tag 0
+glance-more {b = b} {f = f} {s = s} {p = p} {top = top} {tag = tag} {next = next} g begins {count = count} {held = held} go few bytes most ey em =
     let n : ℕ = next - (p + 6) in
     let i : PartAt b f s p _ _ top 0 tag 6 n n = record {
       going = go;
@@ -198,5 +198,5 @@ glance-more {b = b} {f = f} {s = s} {p = p} {top = top} {tag = tag} {next = next
       most = most;
     } in
     let at : next ≡ p + itemSizes (levelOf b) tag n .sheet = omega (arith, glance-next g, ap (λ (a : Sizes). a .sheet) (item-is (levelOf b) tag n (g .quick .no-seal))) in
-    rw at (part-more i (item-told i {x = b && eqb tag 101} refl (rw level-is at (g .quick .no-series)) refl) refl (quick-plus (levelOf b) tag n count p (g .quick .no-seal) (g .small) (g .few) few) (em ∙ ap (λ z. mark || z) ey)
+    rw at (part-more i (item-told i {x = b && eqb tag 101} refl (rw level-is at (g .quick .no-series)) refl) refl (quick-plus (levelOf b) tag n count p (g .quick .no-seal) (g .small) (g .few) few) (em ∙ ap (λ z. held || z) ey)
     (omega (arith, g .above), omega arith) (omega arith, omega arith))

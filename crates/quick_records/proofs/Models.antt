@@ -14,7 +14,7 @@ use Rattle.format.proofs.words.Bytes.{bytes-drop}
 use Rattle.coding.proofs.Rooms.{tail-part}
 use Rattle.items.specs.Meet.{formOf}
 use Rattle.heads.specs.Meet.{peek}
-use Rattle.tally.specs.declared.quick.Quick.{Quick}
+use Rattle.tally.specs.declared.quick.Stage.{Stage}
 use Rattle.quick_packs.specs.declared.Model.{Model}
 use Rattle.tally.specs.declared.Walked.the-variants.{Good}
 use Rattle.tally.specs.Meet.{sizes, Within}
@@ -28,43 +28,43 @@ use Rattle.quick_records.proofs.Glances.{passed-plus}
 use Rattle.quick_records.proofs.TargetTurns.{TargetAt, records-over, lent, lent-long, lent-over, target-looks, target-more}
 
 -- none, as the code says it
-pub no-records : {alone : Bool} {marks s : List ℕ} {m : Model} → (m .from ≡ 0) × (m .size ≡ 128) × (m .rows ≡ 0) → length marks ≡ 160 → Modelled alone marks s m
+pub no-records : {alone : Bool} {masks s : List ℕ} {m : Model} → (m .from ≡ 0) × (m .size ≡ 128) × (m .rows ≡ 0) → length masks ≡ 160 → Modelled alone masks s m
 no-records n long = record { long = long; within = omega (arith, n .0); held = λ h. absurd (omega (arith, h, n .1)) }
 
 -- records from one place on
-module _ (alone : Bool) (s : List ℕ) (from : ℕ) {marks : List ℕ} {q : Quick} (l : Laid (formOf alone) marks (drop from s) q) (located : not alone || q .mark ≡ true) where
-  holds : (b : List ℕ) → RecordsGoing false (formOf alone) b (q .at) (q .sizes) (q .mark) (q .top) (q .low) → Held alone b (q .at) (1 + q .sizes .rows)
-  holds b g = record { count = q .sizes .rows; mark = q .mark; top = q .top; low = q .low; going = rw (← l .sizes-are) g; few = l .few; rows-are = refl; located = located }
+module _ (alone : Bool) (s : List ℕ) (from : ℕ) {masks : List ℕ} {q : Stage} (l : Laid (formOf alone) masks (drop from s) q) (located : not alone || q .held ≡ true) where
+  holds : (b : List ℕ) → RecordsGoing false (formOf alone) b (q .at) (q .sizes) (q .held) (q .top) (q .low) → Held alone b (q .at) (1 + q .sizes .rows)
+  holds b g = record { count = q .sizes .rows; held = q .held; top = q .top; low = q .low; going = rw (← l .sizes-are) g; few = l .few; rows-are = refl; located = located }
 
   pub records-held : Held alone (drop from s) (q .at) (1 + q .sizes .rows)
   records-held = holds (drop from s) (l .own)
 
-  pub records-model : length marks ≡ 160 → from ≤ length s → Modelled alone marks s (record { from = from; size = q .at; rows = 1 + q .sizes .rows })
+  pub records-model : length masks ≡ 160 → from ≤ length s → Modelled alone masks s (record { from = from; size = q .at; rows = 1 + q .sizes .rows })
   records-model long within = record { long = long; within = within; held = λ r b bytes most to h. holds b (l .walked r b bytes most to h) }
 
 -- records laid out as the model's
-pub as-held : {alone : Bool} {marks s : List ℕ} {m : Model} → Modelled alone marks s m → (from : ℕ) → Bytes s → length s ≤ 65536 → As marks s m from → Held alone (drop from s) (m .size) (m .rows)
+pub as-held : {alone : Bool} {masks s : List ℕ} {m : Model} → Modelled alone masks s m → (from : ℕ) → Bytes s → length s ≤ 65536 → As masks s m from → Held alone (drop from s) (m .size) (m .rows)
 as-held {s = s} l from bytes most a = l .held (a .small) (drop from s) (bytes-drop from s bytes) (omega (arith, length-drop from s, most)) (omega (arith, length-drop from s, a .within)) (a .alike)
 
 -- a target that holds such, in the series; id takes w bytes in a packet
 module _ {alone : Bool} {s : List ℕ} {p rows normal top low id a b c : ℕ} (i : TargetAt (formOf alone) s p (sizes p rows normal 0) top low id a b c) {size r : ℕ} (h : Held alone (drop (p + 10) s) size r)
     (over : Over s (p + 10 + size)) where
-  walked : (Good (sizes size (h .count) (size - 4 * h .count) 0) (h .mark) ≡ recordsWalk pack (formOf alone) (lent i)) × Within (Good (sizes size (h .count) (size - 4 * h .count) 0) (h .mark)) (length (lent i))
+  walked : (Good (sizes size (h .count) (size - 4 * h .count) 0) (h .held) ≡ recordsWalk pack (formOf alone) (lent i)) × Within (Good (sizes size (h .count) (size - 4 * h .count) 0) (h .held)) (length (lent i))
   walked = go (ltb (p + 10 + size) (length s)) refl
     where
-      going : RecordsGoing false (formOf alone) (lent i) size (sizes size (h .count) (size - 4 * h .count) 0) (h .mark) (h .top) (h .low)
+      going : RecordsGoing false (formOf alone) (lent i) size (sizes size (h .count) (size - 4 * h .count) 0) (h .held) (h .top) (h .low)
       going = rw tail-part (h .going)
 
-      go : (x : Bool) → ltb (p + 10 + size) (length s) ≡ x → (Good (sizes size (h .count) (size - 4 * h .count) 0) (h .mark) ≡ recordsWalk pack (formOf alone) (lent i)) × Within (Good (sizes size (h .count) (size - 4 * h .count) 0) (h .mark)) (length (lent i))
+      go : (x : Bool) → ltb (p + 10 + size) (length s) ≡ x → (Good (sizes size (h .count) (size - 4 * h .count) 0) (h .held) ≡ recordsWalk pack (formOf alone) (lent i)) × Within (Good (sizes size (h .count) (size - 4 * h .count) 0) (h .held)) (length (lent i))
       go true e = records-over going (lent-over i size (over .next (ltb-true (p + 10 + size) (length s) e)))
       go false e = turn-done going (omega (arith, lent-long i, ltb-false (p + 10 + size) (length s) e))
 
   pub held-looks : peek true true false (drop p s) ≡ got id (10 + size)
-  held-looks = target-looks i walked refl (either-is alone (h .mark) (sym (h .located))) refl
+  held-looks = target-looks i walked refl (either-is alone (h .held) (sym (h .located))) refl
 
   pub held-more : {w : ℕ} → (w ≡ length (oidBytes id)) × (w ≤ 9) → {body : ℕ} → body ≡ w + (size + 4 - 4 * r) → body ≤ 127 → {top′ low′ : ℕ} → (top ≤ top′) × (id ≤ top′) → (low′ ≤ low) × (low′ ≤ id)
       → TargetsGoing (formOf alone) s (p + 10 + size) (sizes (p + 10 + size) (rows + r) (normal + 1 + body) 0) top′ low′
   held-more {w = w} ew {body = body} eb few over-top under-low =
       let x : rows + r ≡ rows + 1 + h .count = omega (arith, h .rows-are) in
       let y : body ≡ w + (size - 4 * h .count) = omega (arith, h .rows-are, h .few, eb) in
-      rw (x, y) (target-more i walked refl ew (either-is alone (h .mark) (sym (h .located))) refl (passed-plus p rows normal w (sizes size (h .count) (size - 4 * h .count) 0) (omega (arith, y, few))) over-top under-low)
+      rw (x, y) (target-more i walked refl ew (either-is alone (h .held) (sym (h .located))) refl (passed-plus p rows normal w (sizes size (h .count) (size - 4 * h .count) 0) (omega (arith, y, few))) over-top under-low)

@@ -27,7 +27,7 @@ use Rattle.tally.specs.declared.Piece.the-variants as piece
 use Rattle.tally.specs.declared.Sizes.{Sizes}
 use Rattle.tally.specs.declared.Walked.{Walked}
 use Rattle.tally.specs.declared.Walked.the-variants.{Good, Bad}
-use Rattle.tally.specs.Meet.{sizes, noSizes, lengthened, itemSizes, seriesSizes, plusSizes, weightOfTarget, markTag, seriesFrom, stopAt, laterBy, Few, Small, Within}
+use Rattle.tally.specs.Meet.{sizes, noSizes, lengthened, itemSizes, seriesSizes, plusSizes, weightOfTarget, askedTag, seriesFrom, stopAt, laterBy, Few, Small, Within}
 use Rattle.tally.proofs.Walks.{few-more, going-start}
 use Rattle.tally.proofs.Series.{after-not}
 use Rattle.tally.proofs.ItemTurns.{level-is}
@@ -46,7 +46,7 @@ records-start b f s = going-start _ _ _ _ _ _ _ s refl
 
 -- it was read at u, and takes as many bytes as it adds to the sheet
 pub record PartReads (b : Bool) (f : Form) (seen u : List ℕ) (tag : ℕ) (a : Sizes) (m : Bool) : Type 0 where
-  pub reads : Reads (weightAt (levelOf b)) (λ x. eqb (tagOfPart x) (markTag (levelOf b))) tagOfPart (partStep (levelOf b) f seen u) tag (a .sheet) a m
+  pub reads : Reads (weightAt (levelOf b)) (λ x. eqb (tagOfPart x) (askedTag (levelOf b))) tagOfPart (partStep (levelOf b) f seen u) tag (a .sheet) a m
   pub peeks : peek true false b u ≡ got tag (a .sheet)
   pub some : 0 < a .sheet
   pub room : a .sheet ≤ length u
@@ -73,17 +73,17 @@ pub item-is : (l : Level) (tag n : ℕ) → isSet l && eqb tag 1 ≡ false → i
 unfolding itemSizes
 item-is l tag n z = rw (z, itemSizes)
 
-told-item : (b : Bool) (f : Form) (seen u : List ℕ) (tag size : ℕ) → ValueStood b f seen u tag size → Told b f seen u tag (Good (itemSizes (levelOf b) tag size) (eqb tag (markTag (levelOf b))))
+told-item : (b : Bool) (f : Form) (seen u : List ℕ) (tag size : ℕ) → ValueStood b f seen u tag size → Told b f seen u tag (Good (itemSizes (levelOf b) tag size) (eqb tag (askedTag (levelOf b))))
 told-item b f seen u tag size k =
     let e = item-is (levelOf b) tag size (rw (level-is b) (k .no-seal)) in
-    subst (λ a. Told b f seen u tag (Good a (eqb tag (markTag (levelOf b))))) (sym e)
+    subst (λ a. Told b f seen u tag (Good a (eqb tag (askedTag (levelOf b))))) (sym e)
     (told-good (record {
       reads = record {
         it = one (k .it);
         reads = k .step;
         key-is = k .tag-is;
         weighs = ap (λ t. itemSizes (levelOf b) t (length (k .it .value))) (k .tag-is) ∙ ap (itemSizes (levelOf b) tag) (k .size-is) ∙ e;
-        marks = ap (λ t. eqb t (markTag (levelOf b))) (k .tag-is);
+        holds = ap (λ t. eqb t (askedTag (levelOf b))) (k .tag-is);
         few = record { sheet = omega arith; rows = omega arith; normal = omega (arith, oid-most tag, len-most size); inner = omega arith };
       };
       peeks = k .peeks;
@@ -108,7 +108,7 @@ told-series f seen u k b (Good a c) e h =
         reads = k .step ∙ at;
         key-is = refl;
         weighs = ap seriesSizes (w .weighs);
-        marks = refl;
+        holds = refl;
         few = slim-series a (subst (λ z. Few z (z .sheet)) (w .weighs) (slim-targets (w .rs .val)));
       };
       peeks = series-peek f seen u _ (k .mark) at;
@@ -118,7 +118,7 @@ told-series f seen u k b (Good a c) e h =
 
 -- ---- the turn
 
-module _ (b : Bool) (f : Form) {s : List ℕ} {p : ℕ} {sum : Sizes} {mark : Bool} {top low : ℕ} (g : RecordsGoing b f s p sum mark top low) (h : p < length s) (o : moreAt (levelOf b) (drop p s) ≡ true)
+module _ (b : Bool) (f : Form) {s : List ℕ} {p : ℕ} {sum : Sizes} {held : Bool} {top low : ℕ} (g : RecordsGoing b f s p sum held top low) (h : p < length s) (o : moreAt (levelOf b) (drop p s) ≡ true)
     {a : Piece} (ea : (seen : List ℕ) → Past (peek true false b) s p top low seen → a ≡ partPiece (levelOf b) f seen (drop p s)) where
   pub piece-fault : {n : ℕ} {r : Walked} → a ≡ piece.Fault n → r ≡ stopAt p a → (r ≡ recordsWalk (levelOf b) f s) × Within r (length s)
   piece-fault {n = n} t e =
@@ -132,8 +132,8 @@ abbrev pub targetsAt : List ℕ → ℕ → List ℕ
 targetsAt s p = take (length s - (p + 2)) (drop (p + 2) s)
 
 -- a record that the code has read at p, in a level of no more bytes than a sheet's
-pub record PartAt (b : Bool) (f : Form) (s : List ℕ) (p : ℕ) (sum : Sizes) (mark : Bool) (top low tag from size small : ℕ) : Type 0 where
-  pub going : RecordsGoing b f s p sum mark top low
+pub record PartAt (b : Bool) (f : Form) (s : List ℕ) (p : ℕ) (sum : Sizes) (held : Bool) (top low tag from size small : ℕ) : Type 0 where
+  pub going : RecordsGoing b f s p sum held top low
   pub here : p < length s
   pub more : moreAt (levelOf b) (drop p s) ≡ true
   pub it : Piece
@@ -142,7 +142,7 @@ pub record PartAt (b : Bool) (f : Form) (s : List ℕ) (p : ℕ) (sum : Sizes) (
   pub bytes : Bytes s
   pub most : length s ≤ 65536
 
-module _ {b : Bool} {f : Form} {s : List ℕ} {p : ℕ} {sum : Sizes} {mark : Bool} {top low tag from size small : ℕ} (i : PartAt b f s p sum mark top low tag from size small) where
+module _ {b : Bool} {f : Form} {s : List ℕ} {p : ℕ} {sum : Sizes} {held : Bool} {top low tag from size small : ℕ} (i : PartAt b f s p sum held top low tag from size small) where
   is-piece : piece.Whole tag from size small ≡ partPiece (levelOf b) f (i .going .seen) (drop p s)
   is-piece = sym (i .whole) ∙ i .told (i .going .seen) (i .going .past)
 
@@ -159,7 +159,7 @@ module _ {b : Bool} {f : Form} {s : List ℕ} {p : ℕ} {sum : Sizes} {mark : Bo
       pub item-small : (tag ≤ 16383) × (size ≤ 65536)
       item-small = (item-stood .tag-small, omega (arith, item-stood .room, length-drop p s, i .most))
 
-      pub item-told : {w : Walked} → w ≡ Good (itemSizes (levelOf b) tag size) (eqb tag (markTag (levelOf b))) → PartTold w
+      pub item-told : {w : Walked} → w ≡ Good (itemSizes (levelOf b) tag size) (eqb tag (askedTag (levelOf b))) → PartTold w
       item-told ew = subst PartTold (sym ew) (told-item b f (i .going .seen) (drop p s) tag size item-stood)
 
     module _ (tx : x ≡ true) where
@@ -202,7 +202,7 @@ module _ {b : Bool} {f : Form} {s : List ℕ} {p : ℕ} {sum : Sizes} {mark : Bo
       pub good-small : Small sum × Small z
       good-small = (few-more sum p 65536 (omega (arith, i .here, i .most)) (i .going .few), few-more z (z .sheet) 65536 (omega (arith, part-room .0, i .most)) (read .reads .few))
 
-      pub part-more : {sum′ : Sizes} → sum′ ≡ plusSizes sum z → {mark′ : Bool} → mark′ ≡ (mark || m)
+      pub part-more : {sum′ : Sizes} → sum′ ≡ plusSizes sum z → {held′ : Bool} → held′ ≡ (held || m)
           → {top′ : ℕ} → (top ≤ top′) × (tag ≤ top′) → {low′ : ℕ} → (low′ ≤ low) × (low′ ≤ tag)
-          → RecordsGoing b f s (p + z .sheet) sum′ mark′ top′ low′
+          → RecordsGoing b f s (p + z .sheet) sum′ held′ top′ low′
       part-more ea em et el = turn-more (i .going) (i .here) (i .more) (read .reads) (read .peeks) (read .some) (p + z .sheet) refl (part-room .0) ea em et el

@@ -41,7 +41,7 @@ pub record ValsRun (f : Form) (s : List ℕ) (a : Sizes) (m : Bool) : Type 0 whe
   pub vs : Got (List Val)
   pub ran : run (is TI) tagOfVal (valueAt pack f) s ≡ ok vs
   pub weighs : total (weightOfVal pack) (vs .val) ≡ a
-  pub marks : has 17 (map tagOfVal (vs .val)) ≡ m
+  pub holds : has 17 (map tagOfVal (vs .val)) ≡ m
 
 pub vals-good : (f : Form) (s : List ℕ) (a : Sizes) (m : Bool) → Good a m ≡ recordsWalk pack f s → ValsRun f s a m
 unfolding recordsWalk
@@ -52,7 +52,7 @@ vals-good f s a m e =
       vs = vs;
       ran = r;
       weighs = total-map one (weightOfVal pack) (weightAt pack) (λ v. refl) (vs .val) ∙ ap (total (weightAt pack)) q ∙ w .weighs;
-      marks = sym (any-one (vs .val)) ∙ ap (any (λ p. eqb (tagOfPart p) 17)) q ∙ w .marks;
+      holds = sym (any-one (vs .val)) ∙ ap (any (λ p. eqb (tagOfPart p) 17)) q ∙ w .holds;
     }
 
 pub vals-bad : (f : Form) (s : List ℕ) (n q : ℕ) → Bad n q ≡ recordsWalk pack f s → run (is TI) tagOfVal (valueAt pack f) s ≡ refused n q

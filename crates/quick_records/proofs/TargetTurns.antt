@@ -47,8 +47,8 @@ pub same-good : {a b : Sizes} {m n : Bool} → a ≡ b → m ≡ n → Good a m 
 same-good e g = cc
 
 -- a walk is over where no more of its kind stands, be it at the end of the bytes
-pub records-over : {X : Type 0} {look : List ℕ → Got ℕ} {more : List ℕ → Bool} {weight : X → Sizes} {mark : X → Bool} {key : X → ℕ} {step : Step X} {whole : Walked} {s : List ℕ} {p : ℕ} {a : Sizes} {m : Bool}
-    {top low : ℕ} → Going look more weight mark key step whole s p a m top low → more (drop p s) ≡ false → (Good a m ≡ whole) × Within (Good a m) (length s)
+pub records-over : {X : Type 0} {look : List ℕ → Got ℕ} {more : List ℕ → Bool} {weight : X → Sizes} {held : X → Bool} {key : X → ℕ} {step : Step X} {whole : Walked} {s : List ℕ} {p : ℕ} {a : Sizes} {m : Bool}
+    {top low : ℕ} → Going look more weight held key step whole s p a m top low → more (drop p s) ≡ false → (Good a m ≡ whole) × Within (Good a m) (length s)
 records-over {whole = whole} {s = s} {p = p} {a = a} {m = m} g n = go (leb (length s) p) refl
   where
     go : (t : Bool) → leb (length s) p ≡ t → (Good a m ≡ whole) × Within (Good a m) (length s)
@@ -150,11 +150,11 @@ module _ {f : Form} {s : List ℕ} {p : ℕ} {sum : Sizes} {top low id from size
         pub no-location : {r : Walked} → v ≡ false → r ≡ Bad 14 p → (r ≡ targetsWalk f s) × Within r (length s)
         no-location tv e =
             turn-bad (i .going) (i .here) (i .more) 14 0 (e ∙ ap (Bad 14) (sym (add-zero p)))
-            (target-14 f (i .going .seen) (drop p s) id stood (ran .vs) (ran .ran) (rw (ran .marks) (sym ev ∙ tv))) (omega arith)
+            (target-14 f (i .going .seen) (drop p s) id stood (ran .vs) (ran .ran) (rw (ran .holds) (sym ev ∙ tv))) (omega arith)
 
         -- the target, and what a look at it reads
         it-reads : v ≡ true → targetAt f (i .going .seen) (drop p s) ≡ ok (got (record { id = id; vals = ran .vs .val }) (10 + z .sheet))
-        it-reads tv = target-good f (i .going .seen) (drop p s) id stood (ran .vs) (ran .ran) (rw (ran .marks) (sym ev ∙ tv)) ∙ ap (λ n. ok (got (record { id = id; vals = ran .vs .val }) (10 + n))) took
+        it-reads tv = target-good f (i .going .seen) (drop p s) id stood (ran .vs) (ran .ran) (rw (ran .holds) (sym ev ∙ tv)) ∙ ap (λ n. ok (got (record { id = id; vals = ran .vs .val }) (10 + n))) took
 
         pub target-looks : v ≡ true → peek true true false (drop p s) ≡ got id (10 + z .sheet)
         unfolding peek
@@ -177,7 +177,7 @@ module _ {f : Form} {s : List ℕ} {p : ℕ} {sum : Sizes} {top low id from size
               reads = it-reads ev tv;
               key-is = refl;
               weighs = ap (λ n. packSizes n (total (weightOfVal pack) (ran .vs .val))) (sym (ew .0)) ∙ ap (packSizes w) (ran .weighs);
-              marks = refl;
+              holds = refl;
               few = slim-pack w z (ew .1) slim;
             } in
             turn-more (i .going) (i .here) (i .more) read (target-looks ev tv) (omega arith) (p + 10 + z .sheet) (add-assoc p 10 (z .sheet)) next-room es refl et el

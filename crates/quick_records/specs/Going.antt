@@ -14,21 +14,21 @@ use Rattle.heads.specs.Meet.{peek}
 use Rattle.heads.specs.Records.{fieldAnswer}
 use Rattle.heads.specs.declared.records.Field.the-variants.{Whole}
 use Rattle.tally.specs.declared.Sizes.{Sizes}
-use Rattle.tally.specs.declared.quick.Quick.{Quick}
-use Rattle.tally.specs.Meet.{markTag, weightOfTarget}
+use Rattle.tally.specs.declared.quick.Stage.{Stage}
+use Rattle.tally.specs.Meet.{askedTag, weightOfTarget}
 use Rattle.tally.specs.Going.{Going}
 use Rattle.quick_records.specs.Meet.{moreAt, partStep, weightAt, recordsWalk, targetsWalk}
 
 abbrev pub RecordsGoing : Bool → Form → List ℕ → ℕ → Sizes → Bool → ℕ → ℕ → Type 0
 RecordsGoing b f s p a m top low =
-    Going (peek true false b) (moreAt (levelOf b)) (weightAt (levelOf b)) (λ x. eqb (tagOfPart x) (markTag (levelOf b))) tagOfPart (partStep (levelOf b) f) (recordsWalk (levelOf b) f s) s p a m top low
+    Going (peek true false b) (moreAt (levelOf b)) (weightAt (levelOf b)) (λ x. eqb (tagOfPart x) (askedTag (levelOf b))) tagOfPart (partStep (levelOf b) f) (recordsWalk (levelOf b) f s) s p a m top low
 
 -- the walk over the series' targets
 abbrev pub TargetsGoing : Form → List ℕ → ℕ → Sizes → ℕ → ℕ → Type 0
 TargetsGoing f s p a top low = Going (peek true true false) (is TG) weightOfTarget (λ t. false) idOfTarget (targetAt f) (targetsWalk f s) s p a false top low
 
 -- as far as a quick way took it: a target takes as many bytes as it adds to the sheet, and where it passed any, a `TG` stands first
-abbrev pub TargetsPassed : Form → List ℕ → Quick → Type 0
+abbrev pub TargetsPassed : Form → List ℕ → Stage → Type 0
 TargetsPassed f s q = TargetsGoing f s (q .at) (q .sizes) (q .top) (q .low) × (q .top < 2 ^ 63) × (q .at ≡ q .sizes .sheet) × (0 < q .at → is TG s ≡ true)
 
 -- the mark of a level's records before a tag of 0, as one number
@@ -37,12 +37,12 @@ wordOf true = 0x49540000
 wordOf false = 0x54490000
 
 -- a level's record at p, told at a glance, whose tag is above top, and whose value has n bytes
-pub record Glanced (b : Bool) (f : Form) (s : List ℕ) (p top tag n : ℕ) : Type 0 where
+pub record RecordGlanced (b : Bool) (f : Form) (s : List ℕ) (p top tag n : ℕ) : Type 0 where
   pub mark : is (markOf (levelOf b)) (drop p s) ≡ true
   pub tag-is : tag ≡ bytesNumber (take 2 (drop 2 (drop p s)))
   pub size-is : n ≡ bytesNumber (take 2 (drop 4 (drop p s)))
   pub fields : Whole tag n ≡ fieldAnswer (field (levelOf b) (drop 2 (drop p s)))
-  pub quick : items.Quick (levelOf b) f tag n (getD s (p + 6) 0)
+  pub quick : items.Glanced (levelOf b) f tag n (getD s (p + 6) 0)
   pub above : top < tag
   pub small : tag < 128
   pub few : n < 128

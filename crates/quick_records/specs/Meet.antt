@@ -17,7 +17,7 @@ use Rattle.tally.specs.declared.Piece.the-variants as piece
 use Rattle.tally.specs.declared.Sizes.{Sizes}
 use Rattle.tally.specs.declared.Walked.{Walked}
 use Rattle.tally.specs.declared.Walked.the-variants.{Good, Bad}
-use Rattle.tally.specs.Meet.{seriesSizes, total, weightOfVal, weightOfTarget, weightOfPart, walkedOf, markTag}
+use Rattle.tally.specs.Meet.{seriesSizes, total, weightOfVal, weightOfTarget, weightOfPart, walkedOf, askedTag}
 
 -- ---- one record: what was read, or the refusal's number
 
@@ -75,7 +75,7 @@ weightAt l (one v) = weightOfVal l v
 weightAt l (targets ts) = seriesSizes (total weightOfTarget ts)
 
 unfoldable pub recordsWalk : Level → Form → List ℕ → Walked
-recordsWalk l f s = walkedOf (weightAt l) (λ p. eqb (tagOfPart p) (markTag l)) (run (moreAt l) tagOfPart (partStep l f) s)
+recordsWalk l f s = walkedOf (weightAt l) (λ p. eqb (tagOfPart p) (askedTag l)) (run (moreAt l) tagOfPart (partStep l f) s)
 
 unfoldable pub targetsWalk : Form → List ℕ → Walked
 targetsWalk f s = walkedOf weightOfTarget (λ t. false) (run (is TG) idOfTarget (targetAt f) s)

@@ -1,4 +1,4 @@
--- Targets laid out alike: what is told of one by the marks of another, its model.
+-- Targets laid out alike: what is told of one by the masks of another, its model.
 use mathlib.Core.Path.{_≡_}
 use Prim.Native.Nat.{ℕ, _+_, _-_, _*_, _≤_, _<_}
 use mathlib.Core.Bool.{Bool, true, false, not, _||_}
@@ -9,28 +9,28 @@ use Rattle.format.specs.Sheet.{TG, is}
 use Rattle.format.specs.Table.{Form}
 use Rattle.coding.specs.Alike.{AlikeTo}
 use Rattle.items.specs.Meet.{formOf}
-use Rattle.tally.specs.declared.quick.Quick.{Quick}
+use Rattle.tally.specs.declared.quick.Stage.{Stage}
 use Rattle.quick_packs.specs.declared.Model.{Model}
 use Rattle.tally.specs.Meet.{sizes}
 use Rattle.quick_records.specs.Going.{RecordsGoing}
 
--- the records of a are walked so far; and if that is not too far for the marks, so is whatever is laid out as they are
-pub record Laid (f : Form) (marks a : List ℕ) (q : Quick) : Type 0 where
-  pub own : RecordsGoing false f a (q .at) (q .sizes) (q .mark) (q .top) (q .low)
-  pub walked : q .at < 128 → (b : List ℕ) → Bytes b → length b ≤ 65536 → q .at ≤ length b → AlikeTo marks a b (q .at) → RecordsGoing false f b (q .at) (q .sizes) (q .mark) (q .top) (q .low)
+-- the records of a are walked so far; and if that is not too far for the masks, so is whatever is laid out as they are
+pub record Laid (f : Form) (masks a : List ℕ) (q : Stage) : Type 0 where
+  pub own : RecordsGoing false f a (q .at) (q .sizes) (q .held) (q .top) (q .low)
+  pub walked : q .at < 128 → (b : List ℕ) → Bytes b → length b ≤ 65536 → q .at ≤ length b → AlikeTo masks a b (q .at) → RecordsGoing false f b (q .at) (q .sizes) (q .held) (q .top) (q .low)
   pub sizes-are : q .sizes ≡ sizes (q .at) (q .sizes .rows) (q .at - 4 * (q .sizes .rows)) 0
   pub few : 4 * (q .sizes .rows) ≤ q .at
 
 -- a target's records that are walked that far, with as many rows as the target has beside its own, and hold what a target must
 pub record Held (alone : Bool) (b : List ℕ) (size rows : ℕ) : Type 0 where
   pub count : ℕ
-  pub mark : Bool
+  pub held : Bool
   pub top : ℕ
   pub low : ℕ
-  pub going : RecordsGoing false (formOf alone) b size (sizes size count (size - 4 * count) 0) mark top low
+  pub going : RecordsGoing false (formOf alone) b size (sizes size count (size - 4 * count) 0) held top low
   pub few : 4 * count ≤ size
   pub rows-are : rows ≡ 1 + count
-  pub located : not alone || mark ≡ true
+  pub located : not alone || held ≡ true
 
 -- they end there: the sheet does, or another target begins
 pub record Over (s : List ℕ) (p : ℕ) : Type 0 where
@@ -38,7 +38,7 @@ pub record Over (s : List ℕ) (p : ℕ) : Type 0 where
   pub next : p < length s → is TG (drop p s) ≡ true
 
 -- whatever is laid out as the model's records is walked as they are, if there is a model
-pub record Modelled (alone : Bool) (marks s : List ℕ) (m : Model) : Type 0 where
-  pub long : length marks ≡ 160
+pub record Modelled (alone : Bool) (masks s : List ℕ) (m : Model) : Type 0 where
+  pub long : length masks ≡ 160
   pub within : m .from ≤ length s
-  pub held : m .size < 128 → (b : List ℕ) → Bytes b → length b ≤ 65536 → m .size ≤ length b → AlikeTo marks (drop (m .from) s) b (m .size) → Held alone b (m .size) (m .rows)
+  pub held : m .size < 128 → (b : List ℕ) → Bytes b → length b ≤ 65536 → m .size ≤ length b → AlikeTo masks (drop (m .from) s) b (m .size) → Held alone b (m .size) (m .rows)

@@ -6,9 +6,9 @@ ghost use Rattle.format.specs.Coding.{bytesNumber};
 ghost use Rattle.items.specs.Meet.{formOf, glanceTable};
 ghost use Rattle.tally.specs.Meet.{sizes};
 ghost use Rattle.tally.specs.Going.{Begun};
-ghost use Rattle.quick_records.specs.Going.{RecordsGoing, Glanced, wordOf};
+ghost use Rattle.quick_records.specs.Going.{RecordsGoing, RecordGlanced, wordOf};
 use tally::Sizes;
-use tally::quick::Quick;
+use tally::quick::Stage;
 
 // A tag, and where its record ends, which is a sum and so never 0 to the compiler; 0 where no such record stands.
 pub struct Told {
@@ -30,9 +30,9 @@ fn word_of(set: bool) -> u32
 }
 
 // A level's record at p that is told at a glance, its tag above top.
-pub fn glance(glances: &[u32], s: &[u8], p: usize, set: bool, alone: bool, top: u64) -> Told
+pub fn glance_record(glances: &[u32], s: &[u8], p: usize, set: bool, alone: bool, top: u64) -> Told
     requires { ⌜ (now glances ≡ glanceTable) × (length (now s) ≤ 65536) × (p ≤ length (now s)) ⌝ }
-    ensures { λ r. ⌜ (0 < r .next → Glanced set (formOf alone) (now (s .entry)) p top (r .tag) (r .next - (p + 6))) ⌝ }
+    ensures { λ r. ⌜ (0 < r .next → RecordGlanced set (formOf alone) (now (s .entry)) p top (r .tag) (r .next - (p + 6))) ⌝ }
 {
     let from = p + 6;
     if s.len() <= from {
@@ -49,7 +49,7 @@ pub fn glance(glances: &[u32], s: &[u8], p: usize, set: bool, alone: bool, top: 
         return nothing();
     }
     let n = coding::wide(s[p + 5]);
-    if items::quick::is_quick(glances, set, alone, tag, n, s[from]) {
+    if items::quick::is_glanced(glances, set, alone, tag, n, s[from]) {
         let next = from + (n as usize);
         if s.len() < next {
             return nothing();
@@ -62,9 +62,9 @@ pub fn glance(glances: &[u32], s: &[u8], p: usize, set: bool, alone: bool, top: 
 // Such a record, if it may begin its level where it does.
 pub fn glance_begun(glances: &[u32], s: &[u8], p: usize, set: bool, alone: bool, top: u64) -> Told
     requires { ⌜ (now glances ≡ glanceTable) × (length (now s) ≤ 65536) × (p ≤ length (now s)) ⌝ }
-    ensures { λ r. ⌜ (0 < r .next → Glanced set (formOf alone) (now (s .entry)) p top (r .tag) (r .next - (p + 6)) × Begun set (formOf alone) p (r .tag)) ⌝ }
+    ensures { λ r. ⌜ (0 < r .next → RecordGlanced set (formOf alone) (now (s .entry)) p top (r .tag) (r .next - (p + 6)) × Begun set (formOf alone) p (r .tag)) ⌝ }
 {
-    let g = glance(glances, s, p, set, alone, top);
+    let g = glance_record(glances, s, p, set, alone, top);
     if items::begins(set, alone, g.tag, p == 0) {
         return g;
     }
@@ -86,20 +86,20 @@ pub fn told_sizes(count: usize, p: usize) -> Sizes
 
 // The records of a level told at a glance, one after another; the first may begin it. That is asked once, by the caller, as the compiler would
 // split the loop by it.
-pub fn run(glances: &[u32], s: &[u8], set: bool, alone: bool) -> Quick
+pub fn glance_records(glances: &[u32], s: &[u8], set: bool, alone: bool) -> Stage
     requires { ⌜ (now glances ≡ glanceTable) × (length (now s) ≤ 65536) × Begun set (formOf alone) 0 (bytesNumber (take 2 (drop 2 (now s)))) ⌝ }
-    ensures { λ r. ⌜ RecordsGoing set (formOf alone) (now (s .entry)) (r .at) (r .sizes) (r .mark) (r .top) (r .low) × (r .at ≡ r .sizes .sheet) ⌝ }
+    ensures { λ r. ⌜ RecordsGoing set (formOf alone) (now (s .entry)) (r .at) (r .sizes) (r .held) (r .top) (r .low) × (r .at ≡ r .sizes .sheet) ⌝ }
 {
     let mut p: usize = 0;
     let mut count: usize = 0;
-    let mut mark = false;
+    let mut held = false;
     let mut top: u64 = 0;
     loop {
-        let g = glance(glances, s, p, set, alone, top);
+        let g = glance_record(glances, s, p, set, alone, top);
         if g.next == 0 {
-            return tally::quick::stands(p, told_sizes(count, p), mark, top, 0);
+            return tally::quick::stands(p, told_sizes(count, p), held, top, 0);
         }
-        mark = coding::either(mark, tally::is_mark(set, g.tag));
+        held = coding::either(held, tally::is_asked(set, g.tag));
         top = g.tag;
         count += 1;
         p = g.next;

@@ -7,35 +7,35 @@ ghost use lib.ListN.{length, drop};
 ghost use Rattle.format.specs.Sheet.{TG, is};
 ghost use Rattle.items.specs.Meet.{formOf, glanceTable};
 ghost use Rattle.tally.specs.Meet.{sizes};
-ghost use Rattle.tally.specs.Going.{quickAt};
+ghost use Rattle.tally.specs.Going.{stageAt};
 ghost use Rattle.quick_packs.specs.Packs.{As};
 ghost use Rattle.quick_records.specs.Going.{TargetsPassed};
 ghost use Rattle.quick_records.specs.Targets.{Laid, Held, Over, Modelled};
 use super::quick;
 use quick_packs::Model;
 use tally::Sizes;
-use tally::quick::Quick;
+use tally::quick::Stage;
 
-// A target's records told at a glance, as `quick::run` goes over them, and marked while there is room: whatever is laid out so is walked so.
-fn lay(glances: &[u32], s: &[u8], alone: bool, marks: &mut [u8; 160]) -> Quick
-    requires { ⌜ (now glances ≡ glanceTable) × (length (now s) ≤ 65536) × (length (now marks) ≡ 160) ⌝ }
-    ensures { λ r. ⌜ Laid (formOf alone) (now (marks .exit)) (now (s .entry)) r × (length (now (marks .exit)) ≡ 160) ⌝ }
+// A target's records told at a glance, as `quick::glance_records` goes over them, and masked while there is room: whatever is laid out so is walked so.
+fn lay(glances: &[u32], s: &[u8], alone: bool, masks: &mut [u8; 160]) -> Stage
+    requires { ⌜ (now glances ≡ glanceTable) × (length (now s) ≤ 65536) × (length (now masks) ≡ 160) ⌝ }
+    ensures { λ r. ⌜ Laid (formOf alone) (now (masks .exit)) (now (s .entry)) r × (length (now (masks .exit)) ≡ 160) ⌝ }
 {
     let mut p: usize = 0;
     let mut count: usize = 0;
-    let mut mark = false;
+    let mut held = false;
     let mut top: u64 = 0;
     loop {
-        let g = quick::glance(glances, s, p, false, alone, top);
+        let g = quick::glance_record(glances, s, p, false, alone, top);
         if g.next == 0 {
-            return tally::quick::stands(p, quick::told_sizes(count, p), mark, top, 0);
+            return tally::quick::stands(p, quick::told_sizes(count, p), held, top, 0);
         }
         if p < 128 {
             let n = (g.next - (p + 6)) as u64;
-            let first = items::quick::first_mark(glances, false, alone, g.tag, n);
-            coding::alike::mark_item(marks, p, 6, first);
+            let first = items::quick::first_mask(glances, false, alone, g.tag, n);
+            coding::alike::mask_item(masks, p, 6, first);
         }
-        mark = coding::either(mark, tally::is_mark(false, g.tag));
+        held = coding::either(held, tally::is_asked(false, g.tag));
         top = g.tag;
         count += 1;
         p = g.next;
@@ -53,28 +53,28 @@ fn is_over(s: &[u8], p: usize) -> bool
 }
 
 // Whether a target's records from there are laid out as the model's.
-fn is_target_as(m: Model, marks: &[u8], s: &[u8], from: usize) -> bool
-    requires { ⌜ (length (now marks) ≡ 160) × (length (now s) ≤ 65536) × (from ≤ length (now s)) × (m .from ≤ from) ⌝ }
-    ensures { λ r. ⌜ (r ≡ true → As (now (marks .entry)) (now (s .entry)) m from × Over (now (s .entry)) (from + m .size)) ⌝ }
+fn is_target_as(m: Model, masks: &[u8], s: &[u8], from: usize) -> bool
+    requires { ⌜ (length (now masks) ≡ 160) × (length (now s) ≤ 65536) × (from ≤ length (now s)) × (m .from ≤ from) ⌝ }
+    ensures { λ r. ⌜ (r ≡ true → As (now (masks .entry)) (now (s .entry)) m from × Over (now (s .entry)) (from + m .size)) ⌝ }
 {
-    if !quick_packs::is_as(m, marks, s, from) {
+    if !quick_packs::is_as(m, masks, s, from) {
         return false;
     }
     is_over(s, from + m.size)
 }
 
 // These records as the model, if they are all told at a glance and hold what a target must.
-fn model_of(glances: &[u32], s: &[u8], from: usize, alone: bool, marks: &mut [u8; 160]) -> Model
-    requires { ⌜ (now glances ≡ glanceTable) × (length (now s) ≤ 65536) × (from ≤ length (now s)) × (length (now marks) ≡ 160) ⌝ }
-    ensures { λ r. ⌜ Modelled alone (now (marks .exit)) (now (s .entry)) r × (r .from ≤ from) × (0 < r .rows → Held alone (drop from (now (s .entry))) (r .size) (r .rows) × Over (now (s .entry)) (from + r .size)) ⌝ }
+fn model_of(glances: &[u32], s: &[u8], from: usize, alone: bool, masks: &mut [u8; 160]) -> Model
+    requires { ⌜ (now glances ≡ glanceTable) × (length (now s) ≤ 65536) × (from ≤ length (now s)) × (length (now masks) ≡ 160) ⌝ }
+    ensures { λ r. ⌜ Modelled alone (now (masks .exit)) (now (s .entry)) r × (r .from ≤ from) × (0 < r .rows → Held alone (drop from (now (s .entry))) (r .size) (r .rows) × Over (now (s .entry)) (from + r .size)) ⌝ }
 {
-    *marks = [0; 160];
-    let q = lay(glances, &s[from..], alone, marks);
+    *masks = [0; 160];
+    let q = lay(glances, &s[from..], alone, masks);
     let size = q.at;
     if !is_over(s, from + size) {
         return quick_packs::no_model();
     }
-    if !coding::either(!alone, q.mark) {
+    if !coding::either(!alone, q.held) {
         return quick_packs::no_model();
     }
     Model {
@@ -85,8 +85,8 @@ fn model_of(glances: &[u32], s: &[u8], from: usize, alone: bool, marks: &mut [u8
 }
 
 // Where the target walk goes on after targets of p bytes, so many rows, and so many bytes in a packet.
-pub fn passed(p: usize, rows: usize, normal: usize, top: u64, low: u64) -> Quick
-    ensures { λ r. ⌜ r ≡ quickAt p (sizes p rows normal 0) false top low ⌝ }
+pub fn passed(p: usize, rows: usize, normal: usize, top: u64, low: u64) -> Stage
+    ensures { λ r. ⌜ r ≡ stageAt p (sizes p rows normal 0) false top low ⌝ }
 {
     let sizes = Sizes {
         sheet: p,
@@ -94,10 +94,10 @@ pub fn passed(p: usize, rows: usize, normal: usize, top: u64, low: u64) -> Quick
         normal,
         inner: 0,
     };
-    Quick {
+    Stage {
         at: p,
         sizes,
-        mark: false,
+        held: false,
         top,
         low,
     }
@@ -105,7 +105,7 @@ pub fn passed(p: usize, rows: usize, normal: usize, top: u64, low: u64) -> Quick
 
 // The targets whose ids have one or two bytes in a packet, whose records are all told at a glance, and whose packs have a byte for their length,
 // one after another, from the series' start: ids rising or falling, or noted in the bits lent, of which most series need none.
-pub fn many(glances: &[u32], s: &[u8], alone: bool, bits: &mut [u64]) -> Quick
+pub fn many(glances: &[u32], s: &[u8], alone: bool, bits: &mut [u64]) -> Stage
     requires { ⌜ (now glances ≡ glanceTable) × (length (now s) ≤ 65536) ⌝ }
     ensures { λ r. ⌜ TargetsPassed (formOf alone) (now (s .entry)) r ⌝ }
 {
@@ -114,7 +114,7 @@ pub fn many(glances: &[u32], s: &[u8], alone: bool, bits: &mut [u64]) -> Quick
     let mut normal: usize = 0;
     let mut top: u64 = 0;
     let mut low: u64 = 18446744073709551615;
-    let mut marks: [u8; 160] = [0; 160];
+    let mut masks: [u8; 160] = [0; 160];
     let mut m = quick_packs::no_model();
     if !heads::records::is_mark(s, p, b'T', b'G') {
         return passed(p, rows, normal, top, low);
@@ -144,8 +144,8 @@ pub fn many(glances: &[u32], s: &[u8], alone: bool, bits: &mut [u64]) -> Quick
         }
         repeats::notes::note(bits, id);
         let from = p + 10;
-        if !is_target_as(m, &marks, s, from) {
-            m = model_of(glances, s, from, alone, &mut marks);
+        if !is_target_as(m, &masks, s, from) {
+            m = model_of(glances, s, from, alone, &mut masks);
             if m.rows == 0 {
                 return passed(p, rows, normal, top, low);
             }
@@ -161,7 +161,7 @@ pub fn many(glances: &[u32], s: &[u8], alone: bool, bits: &mut [u64]) -> Quick
 }
 
 // The same where ids neither rise nor fall: the first 4,096 are noted in the bits lent, whatever these were.
-pub fn strewn(glances: &[u32], s: &[u8], alone: bool, bits: &mut [u64; 64]) -> Quick
+pub fn strewn(glances: &[u32], s: &[u8], alone: bool, bits: &mut [u64; 64]) -> Stage
     requires { ⌜ (now glances ≡ glanceTable) × (length (now s) ≤ 65536) ⌝ }
     ensures { λ r. ⌜ TargetsPassed (formOf alone) (now (s .entry)) r ⌝ }
 {
@@ -170,7 +170,7 @@ pub fn strewn(glances: &[u32], s: &[u8], alone: bool, bits: &mut [u64; 64]) -> Q
 }
 
 // Whether it was an id neither above nor below all before that ended the quick way.
-pub fn is_between(s: &[u8], q: Quick) -> bool
+pub fn is_between(s: &[u8], q: Stage) -> bool
     requires { ⌜ q .at ≤ length (now s) ⌝ }
 {
     let at = q.at;

@@ -13,7 +13,7 @@ use Rattle.format.specs.Lists.{has}
 use Rattle.format.proofs.words.Answers.{no-bool}
 use Rattle.coding.proofs.Rooms.{tail-part}
 use Rattle.heads.specs.Meet.{Peeked, Heads, Past, Clear}
-use Rattle.repeats.specs.Marks.{quarter, marked, Marked, ClearIn}
+use Rattle.repeats.specs.Parts.{quarter, notedPart, NotedPart, ClearIn}
 use Rattle.heads.proofs.Before.{Looks, heads-none, has-snoc, heads-more}
 
 module _ (look : List ℕ → Got ℕ) where
@@ -53,18 +53,18 @@ module _ (look : List ℕ → Got ℕ) where
           let w : q < p = omega arith in
           absurd (omega (arith, heads-on js ks s p q k u h n g w))
 
--- no key of the part repeats before q, and what of it stood there is marked
-pub record Clearing (part : ℕ) (look : List ℕ → Got ℕ) (s marks : List ℕ) (q : ℕ) : Type 0 where
+-- no key of the part repeats before q, and what of it stood there is noted
+pub record Clearing (part : ℕ) (look : List ℕ → Got ℕ) (s bits : List ℕ) (q : ℕ) : Type 0 where
   pub within : q ≤ length s
-  pub long : length marks ≡ 64
+  pub long : length bits ≡ 64
   pub keys : List ℕ
   pub heads : Heads look s q keys
-  pub kept : (k : ℕ) → quarter k ≡ part → has k keys ≡ true → marked marks k ≡ true
+  pub kept : (k : ℕ) → quarter k ≡ part → has k keys ≡ true → notedPart bits k ≡ true
   pub clear : ClearIn part look s q
 
-pub clearing-start : (part : ℕ) (look : List ℕ → Got ℕ) (s marks : List ℕ) → length marks ≡ 64 → Clearing part look s marks 0
+pub clearing-start : (part : ℕ) (look : List ℕ → Got ℕ) (s bits : List ℕ) → length bits ≡ 64 → Clearing part look s bits 0
 unfolding has
-clearing-start part look s marks l = record { within = omega arith; long = l; keys = []; heads = refl; kept = λ k z e. no-bool e; clear = λ p h ks g. absurd (omega arith) }
+clearing-start part look s bits l = record { within = omega arith; long = l; keys = []; heads = refl; kept = λ k z e. no-bool e; clear = λ p h ks g. absurd (omega arith) }
 
 -- what is not so, where it would make another so that is not
 pub not-then : (a b : Bool) → (a ≡ true → b ≡ true) → b ≡ false → a ≡ false
@@ -75,12 +75,12 @@ pub got-is : (x : Got ℕ) (k u : ℕ) → k ≡ x .val → u ≡ x .used → x 
 got-is x k u a b = rw (a, b)
 
 -- as the code reads what is next
-module _ (part : ℕ) (look : List ℕ → Got ℕ) (s marks : List ℕ) (q : ℕ) (c : Clearing part look s marks q) (room : Looks look) (k u : ℕ)
-    (n : Peeked look (take (length s - q) (drop q s)) k u) (z : 0 < u) (new : quarter k ≡ part → marked marks k ≡ false) where
+module _ (part : ℕ) (look : List ℕ → Got ℕ) (s bits : List ℕ) (q : ℕ) (c : Clearing part look s bits q) (room : Looks look) (k u : ℕ)
+    (n : Peeked look (take (length s - q) (drop q s)) k u) (z : 0 < u) (new : quarter k ≡ part → notedPart bits k ≡ false) where
   next : Peeked look (drop q s) k u
   next = rw tail-part at n
 
-  pub clearing-more : (after : List ℕ) → Marked marks after k part → Clearing part look s after (q + u)
+  pub clearing-more : (after : List ℕ) → NotedPart bits after k part → Clearing part look s after (q + u)
   unfolding has
   clearing-more after m = record {
     within = omega (arith, c .within, room (drop q s), next .1, length-drop q s);
@@ -88,10 +88,10 @@ module _ (part : ℕ) (look : List ℕ → Got ℕ) (s marks : List ℕ) (q : �
     keys = c .keys ++ k ∷ [];
     heads = heads-more look (c .keys) s q k u (c .heads) (got-is _ _ _ (next .0) (next .1)) z;
     kept = λ j w e. go j w (eqb k j) refl (sym (has-snoc j k (c .keys)) ∙ e);
-    clear = each-on look (λ j js. quarter j ≡ part → has j js ≡ false) s (c .keys) q k u (c .heads) next (c .clear) λ w. not-then (has k (c .keys)) (marked marks k) (c .kept k w) (new w);
+    clear = each-on look (λ j js. quarter j ≡ part → has j js ≡ false) s (c .keys) q k u (c .heads) next (c .clear) λ w. not-then (has k (c .keys)) (notedPart bits k) (c .kept k w) (new w);
   }
     where
-      go : (j : ℕ) → quarter j ≡ part → (b : Bool) → eqb k j ≡ b → eqb k j || has j (c .keys) ≡ true → marked after j ≡ true
+      go : (j : ℕ) → quarter j ≡ part → (b : Bool) → eqb k j ≡ b → eqb k j || has j (c .keys) ≡ true → notedPart after j ≡ true
       go j w true t e = let y : k ≡ j = eqb-true k j t in rw (← y) (m .new (rw (← y) at w))
       go j w false t e = m .kept j (c .kept j w (rw t at e))
 

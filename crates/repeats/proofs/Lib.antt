@@ -1,5 +1,5 @@
 pub mod Bits
-pub mod Marks
+pub mod Parts
 pub mod Clears
 pub mod Gathers
 pub mod Noted

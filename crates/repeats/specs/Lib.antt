@@ -1,3 +1,3 @@
 pub mod Notes
-pub mod Marks
+pub mod Parts
 pub mod Blocks

@@ -4,35 +4,35 @@ ghost use Prim.Native.Nat.{_≤_};
 ghost use mathlib.Core.Bool.{false};
 ghost use lib.ListN.{length};
 ghost use Rattle.heads.specs.Meet.{peek, Clear};
-ghost use Rattle.repeats.specs.Marks.{quarter, marked, Marked, ClearIn};
+ghost use Rattle.repeats.specs.Parts.{quarter, notedPart, NotedPart, ClearIn};
 
 // A bit for each key of a quarter, modulo 4,096: every tag has its own. A quarter at a time, as the bits stand on the stack.
-fn is_marked(marks: &[u64], key: u64) -> bool
-    requires { ⌜ length (now marks) ≡ 64 ⌝ }
-    ensures { λ r. ⌜ r ≡ marked (now (marks .entry)) key ⌝ }
+fn is_noted_part(bits: &[u64], key: u64) -> bool
+    requires { ⌜ length (now bits) ≡ 64 ⌝ }
+    ensures { λ r. ⌜ r ≡ notedPart (now (bits .entry)) key ⌝ }
 {
-    super::notes::is_noted(marks, key % 4096)
+    super::notes::is_noted(bits, key % 4096)
 }
 
-fn mark(marks: &mut [u64], key: u64, part: u64)
-    requires { ⌜ length (now marks) ≡ 64 ⌝ }
-    ensures { λ r. ⌜ Marked (now (marks .entry)) (now (marks .exit)) key part ⌝ }
+fn note_part(bits: &mut [u64], key: u64, part: u64)
+    requires { ⌜ length (now bits) ≡ 64 ⌝ }
+    ensures { λ r. ⌜ NotedPart (now (bits .entry)) (now (bits .exit)) key part ⌝ }
 {
     if key / 4096 % 4 != part {
         return;
     }
-    super::notes::note(marks, key % 4096);
+    super::notes::note(bits, key % 4096);
 }
 
-// Whether a key of the part may have stood before, where what stood there is marked: its bit is set.
-fn may_stand(key: u64, part: u64, marks: &[u64]) -> bool
-    requires { ⌜ length (now marks) ≡ 64 ⌝ }
-    ensures { λ r. ⌜ (r ≡ false → quarter key ≡ part → marked (now (marks .entry)) key ≡ false) ⌝ }
+// Whether a key of the part may have stood before, where what stood there is noted: its bit is set.
+fn may_stand(key: u64, part: u64, bits: &[u64]) -> bool
+    requires { ⌜ length (now bits) ≡ 64 ⌝ }
+    ensures { λ r. ⌜ (r ≡ false → quarter key ≡ part → notedPart (now (bits .entry)) key ≡ false) ⌝ }
 {
     if key / 4096 % 4 != part {
         return false;
     }
-    is_marked(marks, key)
+    is_noted_part(bits, key)
 }
 
 // Whether a record of another level stands at q of a sheet, so that a pass may stop.
@@ -49,17 +49,10 @@ fn is_other(s: &[u8], q: usize, sheet: bool, ids: bool, set: bool) -> bool {
 }
 
 // How far no key of a quarter repeats.
-fn part_clear(
-    s: &[u8],
-    part: u64,
-    sheet: bool,
-    ids: bool,
-    set: bool,
-    marks: &mut [u64; 64],
-) -> usize
+fn part_clear(s: &[u8], part: u64, sheet: bool, ids: bool, set: bool, bits: &mut [u64; 64]) -> usize
     ensures { λ r. ⌜ ClearIn part (peek sheet ids set) (now (s .entry)) r ⌝ }
 {
-    *marks = [0; 64];
+    *bits = [0; 64];
     let mut q: usize = 0;
     while q < s.len() {
         if is_other(s, q, sheet, ids, set) {
@@ -69,10 +62,10 @@ fn part_clear(
         if n.used == 0 {
             return q;
         }
-        if may_stand(n.key, part, marks) {
+        if may_stand(n.key, part, bits) {
             return q;
         }
-        mark(marks, n.key, part);
+        note_part(bits, n.key, part);
         q += n.used;
     }
     q

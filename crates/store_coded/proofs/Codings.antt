@@ -46,8 +46,8 @@ long-length n o a h {w = w} ew p =
 pub low-bits : (n : ℕ) → bitAnd n 127 ≡ n % 128
 low-bits n = and-mask n 7
 
-pub marked-bits : (n : ℕ) {a : ℕ} → a ≡ n % 128 → bitOr a 128 ≡ n % 128 + 128
-marked-bits n e = rw e (or-shifted-r 1 7 (n % 128) (mod-lt n (lit< tt)) ∙ add-comm 128 (n % 128))
+pub more-bits : (n : ℕ) {a : ℕ} → a ≡ n % 128 → bitOr a 128 ≡ n % 128 + 128
+more-bits n e = rw e (or-shifted-r 1 7 (n % 128) (mod-lt n (lit< tt)) ∙ add-comm 128 (n % 128))
 
 -- the bytes before the last
 abbrev pub firsts : ℕ → List ℕ

@@ -31,7 +31,7 @@ pub fn low7(n: u64) -> u8
 }
 
 // The same with the high bit, as every byte before the last has them.
-pub fn marked7(n: u64) -> u8
+pub fn more7(n: u64) -> u8
     ensures { λ r. ⌜ r ≡ n % 128 + 128 ⌝ }
 {
     low7(n) | 128
@@ -52,7 +52,7 @@ pub fn put_oid(out: &mut [u8], at: usize, n: u64) -> usize
     let mut m = coding::widths::above7(n);
     while 0 < i {
         i -= 1;
-        out[at + i] = marked7(m);
+        out[at + i] = more7(m);
         m = coding::widths::above7(m);
     }
     at + k

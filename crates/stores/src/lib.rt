@@ -93,7 +93,7 @@ fn move_eight(out: &mut [u8], at: usize, s: &[u8], f: usize)
 }
 
 // The bytes of s; where they end. From 8 to 32 go without a loop: the last and the first, which may overlap. For a run, of any length.
-pub fn copy_run(out: &mut [u8], at: usize, s: &[u8]) -> usize
+pub fn copy_all(out: &mut [u8], at: usize, s: &[u8]) -> usize
     requires { ⌜ at + length (now s) ≤ length (now out) ⌝ }
     ensures { λ r. ⌜ (r ≡ at + length (now (s .entry))) × (now (out .exit) ≡ sets (now (out .entry)) at (now (s .entry))) ⌝ }
 {
@@ -142,7 +142,7 @@ pub fn copy(out: &mut [u8], at: usize, s: &[u8]) -> usize
         move_eight(out, at, s, 0);
         return at + n;
     }
-    copy_run(out, at, &s[0..])
+    copy_all(out, at, &s[0..])
 }
 
 // The n bytes at `at` moved on by `by`, from the last to the first since the two places may overlap. One by one: compiled, many go at once.

@@ -20,23 +20,23 @@ use Rattle.heads.specs.declared.Head.the-variants as heads
 use Rattle.heads.specs.Meet.{itemHeadOf}
 use Rattle.tally.specs.declared.Sizes.{Sizes}
 use Rattle.tally.specs.declared.Walked.the-variants.{Good}
-use Rattle.tally.specs.Meet.{itemSizes, plusSizes, markTag, Small}
+use Rattle.tally.specs.Meet.{itemSizes, plusSizes, askedTag, Small}
 use Rattle.tally.specs.Going.{LevelGoing, Plain}
 use Rattle.tally.proofs.ItemTurns.{ItemAt, EntryTold, level-is, piece-stood, piece-room, item-told, good-small, entry-more}
 use Rattle.tally.proofs.Glances.{quick-meets, met-item}
 
--- no such tag marks a level
-pub no-mark : (b : Bool) (tag : ℕ) → items.beyond b tag ≡ true → eqb tag (markTag (levelOf b)) ≡ false
-no-mark true tag h = let l = ltb-true 12 tag (and-both (ltb 12 tag) (not (eqb tag 101)) h .0) in ne-eqb tag 1 λ e. omega (arith, l, e)
-no-mark false tag h = let l = ltb-true 23 tag h in ne-eqb tag 17 λ e. omega (arith, l, e)
+-- no such tag is asked for at a level's end
+pub none-held : (b : Bool) (tag : ℕ) → items.beyond b tag ≡ true → eqb tag (askedTag (levelOf b)) ≡ false
+none-held true tag h = let l = ltb-true 12 tag (and-both (ltb 12 tag) (not (eqb tag 101)) h .0) in ne-eqb tag 1 λ e. omega (arith, l, e)
+none-held false tag h = let l = ltb-true 23 tag h in ne-eqb tag 17 λ e. omega (arith, l, e)
 
 pub or-false : (m : Bool) {c : Bool} → c ≡ false → m ≡ (m || c)
 or-false true e = refl
 or-false false e = sym e
 
 -- an item at p whose head the code has read, and that may stand there whatever its value
-pub record PlainAt (b : Bool) (f : Form) (s : List ℕ) (p : ℕ) (sum : Sizes) (mark : Bool) (top low tag u w n : ℕ) : Type 0 where
-  pub going : LevelGoing b f s p sum mark top low
+pub record PlainAt (b : Bool) (f : Form) (s : List ℕ) (p : ℕ) (sum : Sizes) (held : Bool) (top low tag u w n : ℕ) : Type 0 where
+  pub going : LevelGoing b f s p sum held top low
   pub here : p < length s
   pub it : Head
   pub told : itemHeadOf it ≡ headOf (levelOf b) (take (length s - p) (drop p s))
@@ -45,11 +45,11 @@ pub record PlainAt (b : Bool) (f : Form) (s : List ℕ) (p : ℕ) (sum : Sizes) 
   pub bytes : Bytes s
   pub most : length s ≤ 8192
 
-module _ {b : Bool} {f : Form} {s : List ℕ} {p : ℕ} {sum : Sizes} {mark : Bool} {top low tag u w n : ℕ} (i : PlainAt b f s p sum mark top low tag u w n) where
-  quick : items.Quick (levelOf b) f tag n (getD s (p + (u + w)) 0)
+module _ {b : Bool} {f : Form} {s : List ℕ} {p : ℕ} {sum : Sizes} {held : Bool} {top low tag u w n : ℕ} (i : PlainAt b f s p sum held top low tag u w n) where
+  quick : items.Glanced (levelOf b) f tag n (getD s (p + (u + w)) 0)
   quick = quick-beyond b f tag n _ (i .plain .beyond) (i .plain .some)
 
-  pub plain-item : ItemAt b f s p sum mark top low tag (u + w) n n
+  pub plain-item : ItemAt b f s p sum held top low tag (u + w) n n
   plain-item = met-item (record {
     going = i .going;
     here = i .here;
@@ -59,7 +59,7 @@ module _ {b : Bool} {f : Form} {s : List ℕ} {p : ℕ} {sum : Sizes} {mark : Bo
     most = i .most;
   })
 
-  told-so : EntryTold plain-item (Good (itemSizes (levelOf b) tag n) (eqb tag (markTag (levelOf b))))
+  told-so : EntryTold plain-item (Good (itemSizes (levelOf b) tag n) (eqb tag (askedTag (levelOf b))))
   told-so = item-told plain-item {x = b && eqb tag 101} refl (rw level-is at (quick .no-series)) refl
 
   pub plain-small : (tag ≤ 16383) × (n ≤ 65536)
@@ -73,7 +73,7 @@ module _ {b : Bool} {f : Form} {s : List ℕ} {p : ℕ} {sum : Sizes} {mark : Bo
     pub plain-sums : Small sum × Small z
     plain-sums = rw ez (good-small plain-item told-so refl)
 
-    pub plain-more : {sum′ : Sizes} → sum′ ≡ plusSizes sum z → {top′ : ℕ} → (top ≤ top′) × (tag ≤ top′) → {low′ : ℕ} → (low′ ≤ low) × (low′ ≤ tag) → LevelGoing b f s (p + u + w + n) sum′ mark top′ low′
+    pub plain-more : {sum′ : Sizes} → sum′ ≡ plusSizes sum z → {top′ : ℕ} → (top ≤ top′) × (tag ≤ top′) → {low′ : ℕ} → (low′ ≤ low) × (low′ ≤ tag) → LevelGoing b f s (p + u + w + n) sum′ held top′ low′
     plain-more es et el =
         let e : p + u + w + n ≡ p + (u + w) + n = omega arith in
-        rw e (entry-more plain-item told-so refl (es ∙ ap (plusSizes sum) ez) (or-false mark (no-mark b tag (i .plain .beyond))) et el)
+        rw e (entry-more plain-item told-so refl (es ∙ ap (plusSizes sum) ez) (or-false held (none-held b tag (i .plain .beyond))) et el)

@@ -23,8 +23,8 @@ use Rattle.heads.specs.declared.Head.the-variants as heads
 use Rattle.heads.proofs.Heads.{mid-part, item-head-short}
 use Rattle.tally.specs.declared.Piece.the-variants as piece
 use Rattle.tally.specs.declared.Sizes.{Sizes}
-use Rattle.tally.specs.Meet.{pieceOf, sizes, itemSizes, packSizes, plusSizes, markTag}
-use Rattle.tally.specs.Going.{LevelGoing, Begun, Glance, Glanced, New}
+use Rattle.tally.specs.Meet.{pieceOf, sizes, itemSizes, packSizes, plusSizes, askedTag}
+use Rattle.tally.specs.Going.{LevelGoing, Begun, ItemGlanced, GlancedTo, New}
 use Rattle.format.specs.Read.{headOf, item}
 use Rattle.tally.proofs.Walks.{same-sizes}
 use Rattle.tally.proofs.Turns.{new-key}
@@ -32,11 +32,11 @@ use Rattle.tally.proofs.Pieces.{piece-within, piece-whole}
 use Rattle.tally.proofs.ItemTurns.{ItemAt, level-is, item-told, entry-more}
 
 -- the sizes of so many such items in p bytes
-abbrev pub quickSizes : ℕ → ℕ → Sizes
-quickSizes count p = sizes (4 * count + p) count p 0
+abbrev pub toldSizes : ℕ → ℕ → Sizes
+toldSizes count p = sizes (4 * count + p) count p 0
 
 quick-plus : (l : Level) (tag n count p : ℕ) → isSet l && eqb tag 1 ≡ false → tag < 128 → n < 128
-    → quickSizes (count + 1) (p + 2 + n) ≡ plusSizes (quickSizes count p) (itemSizes l tag n)
+    → toldSizes (count + 1) (p + 2 + n) ≡ plusSizes (toldSizes count p) (itemSizes l tag n)
 unfolding itemSizes
 quick-plus l tag n count p z th nh =
     let u : 1 ≡ length (oidBytes tag) = count-done tag 1 tag (count-start tag (omega arith)) th .0 in
@@ -48,7 +48,7 @@ quick-plus l tag n count p z th nh =
 abbrev pub packedSizes : ℕ → ℕ → ℕ → Sizes
 packedSizes p rows more = sizes (p + 4 * rows + more) rows p 0
 
-pub packed-plus : (p rows more w n : ℕ) {u at : ℕ} {z : Sizes} → (w ≡ 1) × (n < 128) × (u ≤ 2) → u ≤ n → at ≡ n - u → z ≡ quickSizes (z .rows) at
+pub packed-plus : (p rows more w n : ℕ) {u at : ℕ} {z : Sizes} → (w ≡ 1) × (n < 128) × (u ≤ 2) → u ≤ n → at ≡ n - u → z ≡ toldSizes (z .rows) at
     → packedSizes (p + w + n) (rows + 1 + z .rows) (more + 5 - u) ≡ plusSizes (packedSizes p rows more) (packSizes u z)
 packed-plus p rows more w n {u = u} {z = z} (ew, few, id) l e ez =
     let es = ap (λ a. a .sheet) ez in
@@ -75,7 +75,7 @@ begun-start b f s et ex tx = rw et at (sym ex ∙ tx)
 
 -- as the code finds it
 pub glance-from : (b : Bool) (f : Form) (s : List ℕ) (p top : ℕ) {tag n : ℕ} → tag ≡ getD s p 0 → n ≡ getD s (p + 1) 0 → (tag ≤ top → ⊥) → p + 2 < length s → Begun b f 0 (getD s 0 0)
-    → (tag < 128) × (n < 128) × items.Quick (levelOf b) f tag n (getD s (p + 2) 0) → Glanced b f s p top (p + 2 + n)
+    → (tag < 128) × (n < 128) × items.Glanced (levelOf b) f tag n (getD s (p + 2) 0) → GlancedTo b f s p top (p + 2 + n)
 glance-from b f s p top {tag = tag} {n = n} et en above here h q = (
   n,
   refl,
@@ -105,7 +105,7 @@ pub record Meets (b : Bool) (f : Form) (s : List ℕ) (p tag u w n : ℕ) : Type
 
 -- one that is told at a glance
 pub quick-meets : {b : Bool} {f : Form} {s : List ℕ} {p tag u w n : ℕ} {h : Head} → itemHeadOf h ≡ headOf (levelOf b) (drop p s) → h ≡ heads.Whole tag u w n
-    → items.Quick (levelOf b) f tag n (getD s (p + (u + w)) 0) → Begun b f p tag → Meets b f s p tag u w n
+    → items.Glanced (levelOf b) f tag n (getD s (p + (u + w)) 0) → Begun b f p tag → Meets b f s p tag u w n
 quick-meets {h = h} told is q begins = record { it = h; told = told; is = is; some = q .some; stands = q .stands _; allowed = λ v e h. q .allowed v e (as-same _ _ h); shortest = λ v e h. q .shortest v e (as-same _ _ h); begins = begins }
 
 module _ {b : Bool} {f : Form} {s : List ℕ} {p tag u w n : ℕ} (i : Meets b f s p tag u w n) where
@@ -137,15 +137,15 @@ module _ {b : Bool} {f : Form} {s : List ℕ} {p tag u w n : ℕ} (i : Meets b f
       (sym (ap length (i .shortest value value-size value-head) ∙ value-size))
 
 -- such an item, where the walk goes on, if its tag is told to be new
-pub record MetAt (b : Bool) (f : Form) (s : List ℕ) (p : ℕ) (sum : Sizes) (mark : Bool) (top low tag u w n : ℕ) : Type 0 where
-  pub going : LevelGoing b f s p sum mark top low
+pub record MetAt (b : Bool) (f : Form) (s : List ℕ) (p : ℕ) (sum : Sizes) (held : Bool) (top low tag u w n : ℕ) : Type 0 where
+  pub going : LevelGoing b f s p sum held top low
   pub here : p < length s
   pub meets : Meets b f s p tag u w n
   pub new : New p top low tag
   pub bytes : Bytes s
   pub most : length s ≤ 8192
 
-pub met-item : {b : Bool} {f : Form} {s : List ℕ} {p : ℕ} {sum : Sizes} {mark : Bool} {top low tag u w n : ℕ} → MetAt b f s p sum mark top low tag u w n → ItemAt b f s p sum mark top low tag (u + w) n n
+pub met-item : {b : Bool} {f : Form} {s : List ℕ} {p : ℕ} {sum : Sizes} {held : Bool} {top low tag u w n : ℕ} → MetAt b f s p sum held top low tag u w n → ItemAt b f s p sum held top low tag (u + w) n n
 met-item {tag = tag} {u = u} {w = w} {n = n} i = record {
   going = i .going;
   here = i .here;
@@ -156,7 +156,7 @@ met-item {tag = tag} {u = u} {w = w} {n = n} i = record {
   most = i .most;
 }
 
-module _ {b : Bool} {f : Form} {s : List ℕ} {p top n : ℕ} (g : Glance b f s p top n) where
+module _ {b : Bool} {f : Form} {s : List ℕ} {p top n : ℕ} (g : ItemGlanced b f s p top n) where
   abbrev tag : ℕ
   tag = getD s p 0
 
@@ -173,10 +173,10 @@ module _ {b : Bool} {f : Form} {s : List ℕ} {p top n : ℕ} (g : Glance b f s 
       quick-piece i λ seen q. sym (q .under tag (g .above))
 
   -- x is the tag as the code read it
-  glance-more : {count : ℕ} {mark : Bool} {low : ℕ} → LevelGoing b f s p (quickSizes count p) mark top low → Bytes s → length s ≤ 8192
-      → {x : ℕ} → x ≡ tag → {y mark′ : Bool} → y ≡ eqb x (markTag (levelOf b)) → mark′ ≡ (mark || y) → {low′ : ℕ} → (low′ ≤ low) × (low′ ≤ x)
-      → LevelGoing b f s (p + 2 + n) (quickSizes (count + 1) (p + 2 + n)) mark′ x low′
-  glance-more {count = count} {mark = mark} {low = low} go bytes most ex ey em el =
+  glance-more : {count : ℕ} {held : Bool} {low : ℕ} → LevelGoing b f s p (toldSizes count p) held top low → Bytes s → length s ≤ 8192
+      → {x : ℕ} → x ≡ tag → {y held′ : Bool} → y ≡ eqb x (askedTag (levelOf b)) → held′ ≡ (held || y) → {low′ : ℕ} → (low′ ≤ low) × (low′ ≤ x)
+      → LevelGoing b f s (p + 2 + n) (toldSizes (count + 1) (p + 2 + n)) held′ x low′
+  glance-more {count = count} {held = held} {low = low} go bytes most ex ey em el =
       let (z, th, nh) = glance-small in
       let i : ItemAt b f s p _ _ top low tag 2 n n = record {
         going = go;
@@ -188,10 +188,10 @@ module _ {b : Bool} {f : Form} {s : List ℕ} {p top n : ℕ} (g : Glance b f s 
         most = most;
       } in
       entry-more i (item-told i {x = b && eqb tag 101} refl (rw level-is at (g .quick .no-series)) refl) refl (quick-plus (levelOf b) tag n count p (g .quick .no-seal) th nh)
-      (em ∙ ap (λ z. mark || z) (ey ∙ ap (λ z. eqb z (markTag (levelOf b))) ex)) (omega (arith, g .above, ex), omega (arith, ex)) (el .0, omega (arith, ex, el .1))
+      (em ∙ ap (λ z. held || z) (ey ∙ ap (λ z. eqb z (askedTag (levelOf b))) ex)) (omega (arith, g .above, ex), omega (arith, ex)) (el .0, omega (arith, ex, el .1))
 
 -- an item that ends at next by its length; x is its tag as the code read it
-module _ {b : Bool} {f : Form} {s : List ℕ} {p top next : ℕ} (g : Glanced b f s p top next) where
+module _ {b : Bool} {f : Form} {s : List ℕ} {p top next : ℕ} (g : GlancedTo b f s p top next) where
   pub glanced-next : (p + 2 < next) × (p + 2 < length s)
   glanced-next = (omega (arith, g .1, g .2), g .3)
 
@@ -199,7 +199,7 @@ module _ {b : Bool} {f : Form} {s : List ℕ} {p top next : ℕ} (g : Glanced b 
     pub glanced-low : {low : ℕ} → (p < length s → top < getD s p 0 → getD s p 0 < 128 → low ≤ getD s p 0) → {x : ℕ} → x ≡ getD s p 0 → low ≤ x
     glanced-low h ex = let i = g .4 room in omega (arith, ex, h (omega (arith, glanced-next)) (i .above) (i .small))
 
-    pub glanced-more : {count : ℕ} {mark : Bool} {low : ℕ} → LevelGoing b f s p (quickSizes count p) mark top low → Bytes s → length s ≤ 8192
-        → {x : ℕ} → x ≡ getD s p 0 → {y mark′ : Bool} → y ≡ eqb x (markTag (levelOf b)) → mark′ ≡ (mark || y) → low ≤ x
-        → LevelGoing b f s next (quickSizes (count + 1) next) mark′ x low
+    pub glanced-more : {count : ℕ} {held : Bool} {low : ℕ} → LevelGoing b f s p (toldSizes count p) held top low → Bytes s → length s ≤ 8192
+        → {x : ℕ} → x ≡ getD s p 0 → {y held′ : Bool} → y ≡ eqb x (askedTag (levelOf b)) → held′ ≡ (held || y) → low ≤ x
+        → LevelGoing b f s next (toldSizes (count + 1) next) held′ x low
     glanced-more go bytes most ex ey em el = rw (g .1) (glance-more (g .4 room) go bytes most ex ey em (omega arith, el))

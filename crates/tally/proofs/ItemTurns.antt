@@ -26,7 +26,7 @@ use Rattle.tally.specs.declared.Piece.the-variants as piece
 use Rattle.tally.specs.declared.Sizes.{Sizes}
 use Rattle.tally.specs.declared.Walked.{Walked}
 use Rattle.tally.specs.declared.Walked.the-variants.{Good, Bad}
-use Rattle.tally.specs.Meet.{pieceOf, noSizes, itemSizes, seriesSizes, plusSizes, weightOfEntry, stepAt, markTag, levelWalk, seriesWalk, seriesFrom, stopAt, laterBy, Few, Small, Within}
+use Rattle.tally.specs.Meet.{pieceOf, noSizes, itemSizes, seriesSizes, plusSizes, weightOfEntry, stepAt, askedTag, levelWalk, seriesWalk, seriesFrom, stopAt, laterBy, Few, Small, Within}
 use Rattle.tally.specs.Going.{LevelGoing}
 use Rattle.tally.proofs.Walks.{few-more, going-start}
 use Rattle.tally.proofs.Levels.{Stood, stood, step-fault, read-peek, plain-step, plain-weight, plain-few, series-bad, series-good}
@@ -39,7 +39,7 @@ level-start b f s = going-start _ _ _ _ _ _ _ s refl
 -- ---- what one entry says
 
 abbrev EntryReads : Level → Form → List ℕ → List ℕ → ℕ → ℕ → Sizes → Bool → Type 0
-EntryReads l f seen u tag n a m = Reads (weightOfEntry l) (λ e. eqb (tagOfEntry e) (markTag l)) tagOfEntry (stepAt l f seen u) tag n a m
+EntryReads l f seen u tag n a m = Reads (weightOfEntry l) (λ e. eqb (tagOfEntry e) (askedTag l)) tagOfEntry (stepAt l f seen u) tag n a m
 
 -- w is the code's answer on an entry of n bytes
 pub record Told (l : Level) (f : Form) (seen u : List ℕ) (tag n : ℕ) (w : Walked) : Type 0 where
@@ -47,18 +47,18 @@ pub record Told (l : Level) (f : Form) (seen u : List ℕ) (tag n : ℕ) (w : Wa
   pub good : (a : Sizes) (m : Bool) → w ≡ Good a m → EntryReads l f seen u tag n a m
 
 told-plain : (l : Level) (f : Form) (seen u : List ℕ) (tag from size small : ℕ) → Stood l f seen u tag from size small → isSet l && eqb tag 101 ≡ false
-    → Told l f seen u tag (from + size) (Good (itemSizes l tag small) (eqb tag (markTag l)))
+    → Told l f seen u tag (from + size) (Good (itemSizes l tag small) (eqb tag (askedTag l)))
 told-plain l f seen u tag from size small k z = record {
   bad = λ n q e. absurd (let y : _≡_ {A = ℕ} 0 1 = cc in omega arith);
   good = λ a m e.
       let ea : itemSizes l tag small ≡ a = cc in
-      let em : eqb tag (markTag l) ≡ m = cc in
+      let em : eqb tag (askedTag l) ≡ m = cc in
       record {
         it = plain (k .it .val);
         reads = plain-step l f seen u tag from size small k z ∙ rw (k .used-is);
         key-is = k .tag-is;
         weighs = plain-weight l f seen u tag from size small k z ∙ ea;
-        marks = ap (λ t. eqb t (markTag l)) (k .tag-is) ∙ em;
+        holds = ap (λ t. eqb t (askedTag l)) (k .tag-is) ∙ em;
         few = subst (λ x. Few x (from + size)) ea (plain-few l f seen u tag from size small k);
       };
 }
@@ -77,7 +77,7 @@ told-set f seen u from size small k (Good b c) e h =
             reads = t .step ∙ ap (λ n. ok (got (series (k .it .val .width) (t .packs)) n)) (k .used-is);
             key-is = refl;
             weighs = ap seriesSizes (t .weight) ∙ ea;
-            marks = em;
+            holds = em;
             few = subst (λ x. Few x (from + size)) ea (record {
               sheet = omega (arith, h .sheet, k .head);
               rows = omega (arith, h .rows, k .head);
@@ -116,7 +116,7 @@ series-deep false tag e t = no-bool (sym e ∙ t)
 
 -- ---- the turn
 
-module _ (b : Bool) (f : Form) {s : List ℕ} {p : ℕ} {sum : Sizes} {mark : Bool} {top low : ℕ} (g : LevelGoing b f s p sum mark top low) (h : p < length s)
+module _ (b : Bool) (f : Form) {s : List ℕ} {p : ℕ} {sum : Sizes} {held : Bool} {top low : ℕ} (g : LevelGoing b f s p sum held top low) (h : p < length s)
     {a : Piece} (ea : (seen : List ℕ) → Past (peek false false b) s p top low seen → a ≡ pieceOf (levelOf b) (item (levelOf b) f seen (drop p s))) where
   here : a ≡ pieceOf (levelOf b) (item (levelOf b) f (g .seen) (drop p s))
   here = ea (g .seen) (g .past)
@@ -126,8 +126,8 @@ module _ (b : Bool) (f : Form) {s : List ℕ} {p : ℕ} {sum : Sizes} {mark : Bo
       turn-bad g h refl n 0 (e ∙ ap (stopAt p) t ∙ ap (Bad n) (sym (add-zero p))) (step-fault (levelOf b) f (g .seen) (drop p s) n (sym t ∙ here)) (omega arith)
 
 -- an item that the code has read at p, in a level of no more bytes than a packet's
-pub record ItemAt (b : Bool) (f : Form) (s : List ℕ) (p : ℕ) (sum : Sizes) (mark : Bool) (top low tag from size small : ℕ) : Type 0 where
-  pub going : LevelGoing b f s p sum mark top low
+pub record ItemAt (b : Bool) (f : Form) (s : List ℕ) (p : ℕ) (sum : Sizes) (held : Bool) (top low tag from size small : ℕ) : Type 0 where
+  pub going : LevelGoing b f s p sum held top low
   pub here : p < length s
   pub it : Piece
   pub told : (seen : List ℕ) → Past (peek false false b) s p top low seen → it ≡ pieceOf (levelOf b) (item (levelOf b) f seen (drop p s))
@@ -135,7 +135,7 @@ pub record ItemAt (b : Bool) (f : Form) (s : List ℕ) (p : ℕ) (sum : Sizes) (
   pub bytes : Bytes s
   pub most : length s ≤ 8192
 
-module _ {b : Bool} {f : Form} {s : List ℕ} {p : ℕ} {sum : Sizes} {mark : Bool} {top low tag from size small : ℕ} (i : ItemAt b f s p sum mark top low tag from size small) where
+module _ {b : Bool} {f : Form} {s : List ℕ} {p : ℕ} {sum : Sizes} {held : Bool} {top low tag from size small : ℕ} (i : ItemAt b f s p sum held top low tag from size small) where
   pub piece-stood : Stood (levelOf b) f (i .going .seen) (drop p s) tag from size small
   piece-stood = stood (levelOf b) f (i .going .seen) (drop p s) tag from size small (bytes-drop p s (i .bytes)) (sym (i .whole) ∙ i .told (i .going .seen) (i .going .past))
 
@@ -146,7 +146,7 @@ module _ {b : Bool} {f : Form} {s : List ℕ} {p : ℕ} {sum : Sizes} {mark : Bo
   abbrev pub EntryTold : Walked → Type 0
   EntryTold w = Told (levelOf b) f (i .going .seen) (drop p s) tag (from + size) w
 
-  pub item-told : {x : Bool} → x ≡ (b && eqb tag 101) → x ≡ false → {w : Walked} → w ≡ Good (itemSizes (levelOf b) tag small) (eqb tag (markTag (levelOf b))) → EntryTold w
+  pub item-told : {x : Bool} → x ≡ (b && eqb tag 101) → x ≡ false → {w : Walked} → w ≡ Good (itemSizes (levelOf b) tag small) (eqb tag (askedTag (levelOf b))) → EntryTold w
   item-told ex tx ew = subst EntryTold (sym ew) (told-plain (levelOf b) f (i .going .seen) (drop p s) tag from size small piece-stood (rw (level-is b) (sym ex ∙ tx)))
 
   pub value-long : length (take (p + from + size - (p + from)) (drop (p + from) s)) ≡ size
@@ -177,9 +177,9 @@ module _ {b : Bool} {f : Form} {s : List ℕ} {p : ℕ} {sum : Sizes} {mark : Bo
         let y = k .good z m t .few in
         (few-more sum p 65536 (omega (arith, i .here, i .most)) (i .going .few), few-more z (from + size) 65536 (omega (arith, piece-room, i .most)) y)
 
-    pub entry-more : {z : Sizes} {m : Bool} → w ≡ Good z m → {sum′ : Sizes} → sum′ ≡ plusSizes sum z → {mark′ : Bool} → mark′ ≡ (mark || m)
+    pub entry-more : {z : Sizes} {m : Bool} → w ≡ Good z m → {sum′ : Sizes} → sum′ ≡ plusSizes sum z → {held′ : Bool} → held′ ≡ (held || m)
         → {top′ : ℕ} → (top ≤ top′) × (tag ≤ top′) → {low′ : ℕ} → (low′ ≤ low) × (low′ ≤ tag)
-        → LevelGoing b f s (p + from + size) sum′ mark′ top′ low′
+        → LevelGoing b f s (p + from + size) sum′ held′ top′ low′
     entry-more {z = z} {m = m} t ea em et el =
         let j = piece-stood in
         turn-more (i .going) (i .here) refl (k .good z m t) (read-peek b f (i .going .seen) (drop p s) (j .it) (j .read) ∙ rw (j .tag-is, j .used-is)) (omega (arith, j .some)) (p + from + size) (add-assoc p from size) piece-room ea em et el

@@ -54,18 +54,18 @@ module _ {X Y : Type 0} (g : X → Y) where
 
 -- ---- what a walk says of its run
 
-module _ {X : Type 0} (weight : X → Sizes) (mark : X → Bool) where
+module _ {X : Type 0} (weight : X → Sizes) (held : X → Bool) where
   pub record Walk (x : Ans (Got (List X))) (a : Sizes) (m : Bool) : Type 0 where
     pub rs : Got (List X)
     pub ran : x ≡ ok rs
     pub weighs : total weight (rs .val) ≡ a
-    pub marks : any mark (rs .val) ≡ m
+    pub holds : any held (rs .val) ≡ m
 
-  pub walked-good : (x : Ans (Got (List X))) (a : Sizes) (m : Bool) → Good a m ≡ walkedOf weight mark x → Walk x a m
-  walked-good (ok rs) a m e = record { rs = rs; ran = refl; weighs = cc; marks = cc }
+  pub walked-good : (x : Ans (Got (List X))) (a : Sizes) (m : Bool) → Good a m ≡ walkedOf weight held x → Walk x a m
+  walked-good (ok rs) a m e = record { rs = rs; ran = refl; weighs = cc; holds = cc }
   walked-good (refused n p) a m e = absurd (let z : _≡_ {A = ℕ} 0 1 = cc in omega arith)
 
-  pub walked-bad : (x : Ans (Got (List X))) (n p : ℕ) → Bad n p ≡ walkedOf weight mark x → x ≡ refused n p
+  pub walked-bad : (x : Ans (Got (List X))) (n p : ℕ) → Bad n p ≡ walkedOf weight held x → x ≡ refused n p
   walked-bad (ok rs) n p e = absurd (let z : _≡_ {A = ℕ} 0 1 = cc in omega arith)
   walked-bad (refused m q) n p e = let a : m ≡ n = cc in let b : q ≡ p = cc in rw (a, b)
 

@@ -40,7 +40,7 @@ pub series-start : (f : Form) (s : List ℕ) → SeriesGoing f s 0 noSizes 0 184
 unfolding seriesWalk
 series-start f s = going-start _ _ _ _ _ _ _ s refl
 
--- `either(!alone, mark)`, of the form
+-- `either(!alone, held)`, of the form
 pub either-is : (alone m : Bool) {v : Bool} → v ≡ (not alone || m) → v ≡ (not (isAlone (formOf alone)) || m)
 either-is true m e = e
 either-is false m e = e
@@ -148,7 +148,7 @@ module _ {f : Form} {s : List ℕ} {p : ℕ} {sum : Sizes} {top low k u w n : �
                   reads = pack-good f (i .going .seen) (drop p s) k u w n whole first is ei (rw em (sym ev ∙ tv));
                   key-is = refl;
                   weighs = ap (λ v. packSizes v (total (weightOfItem pack) (is .val))) (j .id-long) ∙ ap (packSizes u) ez;
-                  marks = refl;
+                  holds = refl;
                   few = weighs;
                 } in
                 turn-more (i .going) (i .here) refl read (pack-peek false (drop p s) _ (sym whole)) (omega (arith, j .len)) (p + w + n) (add-assoc p w n) (head-room) es refl et el

@@ -46,7 +46,7 @@ items-good f s a m e k =
     let (is, r, q) = mapped-good plain (run always tagOfItem (item pack f) s) (w .rs) (sym (run-plain f s) ∙ w .ran) in
     k is r
     (total-map plain (weightOfItem pack) (weightOfEntry pack) (λ i. refl) (is .val) ∙ ap (total (weightOfEntry pack)) q ∙ w .weighs)
-    (sym (any-plain (is .val)) ∙ ap (any (λ e. eqb (tagOfEntry e) 17)) q ∙ w .marks)
+    (sym (any-plain (is .val)) ∙ ap (any (λ e. eqb (tagOfEntry e) 17)) q ∙ w .holds)
 
 pub items-bad : (f : Form) (s : List ℕ) (n q : ℕ) → Bad n q ≡ levelWalk pack f s → run always tagOfItem (item pack f) s ≡ refused n q
 unfolding levelWalk

@@ -19,12 +19,12 @@ use Rattle.tally.specs.Going.{Going, New, Reached}
 use Rattle.tally.proofs.Walks.{few-more, going-bad, going-done, going-over, going-more}
 
 -- what was read in n bytes, and what it adds
-pub record Reads {X : Type 0} (weight : X → Sizes) (mark : X → Bool) (key : X → ℕ) (step : Ans (Got X)) (k n : ℕ) (a : Sizes) (m : Bool) : Type 0 where
+pub record Reads {X : Type 0} (weight : X → Sizes) (held : X → Bool) (key : X → ℕ) (step : Ans (Got X)) (k n : ℕ) (a : Sizes) (m : Bool) : Type 0 where
   pub it : X
   pub reads : step ≡ ok (got it n)
   pub key-is : key it ≡ k
   pub weighs : weight it ≡ a
-  pub marks : mark it ≡ m
+  pub holds : held it ≡ m
   pub few : Few a n
 
 pub within-more : (w : Walked) (n m : ℕ) → n ≤ m → Within w n → Within w m
@@ -37,13 +37,13 @@ within-of n e h = subst (λ x. Within x n) (sym e) h
 pub told-as : {w r whole : Walked} (n : ℕ) → w ≡ r → (r ≡ whole) × Within r n → (w ≡ whole) × Within w n
 told-as n e t = (e ∙ t .0, within-of n e (t .1))
 
-module _ {X : Type 0} {look : List ℕ → Got ℕ} {more : List ℕ → Bool} {weight : X → Sizes} {mark : X → Bool} {key : X → ℕ} {step : Step X} {whole : Walked} {s : List ℕ} {p : ℕ} {a : Sizes} {m : Bool}
-    {top low : ℕ} (g : Going look more weight mark key step whole s p a m top low) where
+module _ {X : Type 0} {look : List ℕ → Got ℕ} {more : List ℕ → Bool} {weight : X → Sizes} {held : X → Bool} {key : X → ℕ} {step : Step X} {whole : Walked} {s : List ℕ} {p : ℕ} {a : Sizes} {m : Bool}
+    {top low : ℕ} (g : Going look more weight held key step whole s p a m top low) where
   within : Within (Good a m) (length s)
   within = few-more a p (length s) (g .to) (g .few)
 
   -- bounds may be wider than they need be
-  pub going-wide : {top′ low′ : ℕ} → top ≤ top′ → low′ ≤ low → Going look more weight mark key step whole s p a m top′ low′
+  pub going-wide : {top′ low′ : ℕ} → top ≤ top′ → low′ ≤ low → Going look more weight held key step whole s p a m top′ low′
   going-wide t l =
       let q = g .past in
       record {
@@ -55,26 +55,26 @@ module _ {X : Type 0} {look : List ℕ → Got ℕ} {more : List ℕ → Bool} {
       }
 
   pub turn-done : length s ≤ p → (Good a m ≡ whole) × Within (Good a m) (length s)
-  turn-done h = (going-done weight mark key step look more whole s p a m top low g h, within)
+  turn-done h = (going-done weight held key step look more whole s p a m top low g h, within)
 
   module _ (h : p < length s) where
     pub turn-over : more (drop p s) ≡ false → (Good a m ≡ whole) × Within (Good a m) (length s)
-    turn-over n = (going-over weight mark key step look more whole s p a m top low g h n, within)
+    turn-over n = (going-over weight held key step look more whole s p a m top low g h n, within)
 
     module _ (o : more (drop p s) ≡ true) where
       -- r is what the code answers
       pub turn-bad : {r : Walked} (n q : ℕ) → r ≡ Bad n (p + q) → step (g .seen) (drop p s) ≡ refused n q → p + q ≤ length s → (r ≡ whole) × Within r (length s)
-      turn-bad n q e t l = (e ∙ going-bad weight mark key step look more whole s p a m top low g h o n q t, within-of (length s) e l)
+      turn-bad n q e t l = (e ∙ going-bad weight held key step look more whole s p a m top low g h o n q t, within-of (length s) e l)
 
-      pub turn-more : {k n : ℕ} {b : Sizes} {c : Bool} → Reads weight mark key (step (g .seen) (drop p s)) k n b c → look (drop p s) ≡ got k n → 0 < n
+      pub turn-more : {k n : ℕ} {b : Sizes} {c : Bool} → Reads weight held key (step (g .seen) (drop p s)) k n b c → look (drop p s) ≡ got k n → 0 < n
           → (next : ℕ) → next ≡ p + n → next ≤ length s
           → {a′ : Sizes} → a′ ≡ plusSizes a b → {m′ : Bool} → m′ ≡ (m || c)
           → {top′ : ℕ} → (top ≤ top′) × (k ≤ top′) → {low′ : ℕ} → (low′ ≤ low) × (low′ ≤ k)
-          → Going look more weight mark key step whole s next a′ m′ top′ low′
+          → Going look more weight held key step whole s next a′ m′ top′ low′
       turn-more {k = k} {n = n} r v z next en l {a′ = a′} ea {m′ = m′} em {top′ = top′} t {low′ = low′} w =
           let past : Past look s (p + n) top′ low′ (key (r .it) ∷ g .seen) = rw (r .key-is) (past-more look s p top low (g .seen) (g .past) k n top′ low′ v z (t .0) (t .1) (w .0) (w .1)) in
-          let goes = going-more weight mark key step look more whole s p a m top low g h o (got (r .it) n) top′ low′ (r .reads) z (omega arith) past (rw (r .weighs) (r .few)) in
-          rw (en, ea, em) (rw (r .weighs, r .marks) at goes)
+          let goes = going-more weight held key step look more whole s p a m top low g h o (got (r .it) n) top′ low′ (r .reads) z (omega arith) past (rw (r .weighs) (r .few)) in
+          rw (en, ea, em) (rw (r .weighs, r .holds) at goes)
 
 -- a key that is told to be new stood nowhere before
 pub new-key : {look : List ℕ → Got ℕ} {s : List ℕ} {p top low k : ℕ} → New p top low k → (seen : List ℕ) → Past look s p top low seen → false ≡ has k seen

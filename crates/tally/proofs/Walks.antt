@@ -60,23 +60,23 @@ or-none : (b : Bool) → b || false ≡ b
 or-none true = refl
 or-none false = refl
 
-module _ {X : Type 0} (weight : X → Sizes) (mark : X → Bool) (key : X → ℕ) (step : Step X) where
+module _ {X : Type 0} (weight : X → Sizes) (held : X → Bool) (key : X → ℕ) (step : Step X) where
   -- from the start
-  pub resume-start : (r : Ans (Got (List X))) → walkedOf weight mark r ≡ resume weight mark noSizes false 0 r
-  resume-start (ok rs) = ap (λ a. Good a (any mark (rs .val))) (sym (none-plus (total weight (rs .val))))
+  pub resume-start : (r : Ans (Got (List X))) → walkedOf weight held r ≡ resume weight held noSizes false 0 r
+  resume-start (ok rs) = ap (λ a. Good a (any held (rs .val))) (sym (none-plus (total weight (rs .val))))
   resume-start (refused n q) = ap (Bad n) (sym (zero-add q))
 
   -- a thing more
   resume-more : (a : Sizes) (m : Bool) (p u : ℕ) (x : X) (r : Ans (Got (List X)))
-      → resume weight mark a m p (after u r >>= λ rs. ok (got (x ∷ rs .val) (u + rs .used))) ≡ resume weight mark (plusSizes a (weight x)) (m || mark x) (p + u) r
+      → resume weight held a m p (after u r >>= λ rs. ok (got (x ∷ rs .val) (u + rs .used))) ≡ resume weight held (plusSizes a (weight x)) (m || held x) (p + u) r
   unfolding _>>=_ after total any
   resume-more a m p u x (ok rs) =
-      ap (λ b. Good b (m || (mark x || any mark (rs .val)))) (plus-assoc a (weight x) (total weight (rs .val)))
-      ∙ ap (Good (plusSizes (plusSizes a (weight x)) (total weight (rs .val)))) (or-assoc m (mark x) (any mark (rs .val)))
+      ap (λ b. Good b (m || (held x || any held (rs .val)))) (plus-assoc a (weight x) (total weight (rs .val)))
+      ∙ ap (Good (plusSizes (plusSizes a (weight x)) (total weight (rs .val)))) (or-assoc m (held x) (any held (rs .val)))
   resume-more a m p u x (refused n q) = ap (Bad n) (sym (add-assoc p u q))
 
   module _ (look : List ℕ → Got ℕ) (more : List ℕ → Bool) (whole : Walked) (s : List ℕ) where
-    pub going-start : {low : ℕ} → whole ≡ walkedOf weight mark (run more key step s) → Going look more weight mark key step whole s 0 noSizes false 0 low
+    pub going-start : {low : ℕ} → whole ≡ walkedOf weight held (run more key step s) → Going look more weight held key step whole s 0 noSizes false 0 low
     unfolding run
     going-start e = record {
       seen = [];
@@ -86,7 +86,7 @@ module _ {X : Type 0} (weight : X → Sizes) (mark : X → Bool) (key : X → �
       to = omega arith;
     }
 
-    module _ (p : ℕ) (a : Sizes) (m : Bool) (top low : ℕ) (g : Going look more weight mark key step whole s p a m top low) where
+    module _ (p : ℕ) (a : Sizes) (m : Bool) (top low : ℕ) (g : Going look more weight held key step whole s p a m top low) where
       ended : skip more key step (g .seen) 0 (drop p s) ≡ ok (got [] 0) → Good a m ≡ whole
       unfolding total any
       ended e = sym (g .rest ∙ rw e (ap (λ b. Good b (m || false)) (plus-none a) ∙ ap (Good a) (or-none m)))
@@ -110,7 +110,7 @@ module _ {X : Type 0} (weight : X → Sizes) (mark : X → Bool) (key : X → �
         module _ (n : more (drop p s) ≡ true) where
           -- a fault
           pub going-bad : (k q : ℕ) → step (g .seen) (drop p s) ≡ refused k q → Bad k (p + q) ≡ whole
-          going-bad k q e = sym (g .rest ∙ ap (resume weight mark a m p) (stopped (drop p s) left n e))
+          going-bad k q e = sym (g .rest ∙ ap (resume weight held a m p) (stopped (drop p s) left n e))
             where
               stopped : (t : List ℕ) → 0 < length t → more t ≡ true → step (g .seen) t ≡ refused k q → skip more key step (g .seen) 0 t ≡ refused k q
               stopped [] l n e = absurd (omega arith)
@@ -118,14 +118,14 @@ module _ {X : Type 0} (weight : X → Sizes) (mark : X → Bool) (key : X → �
 
           pub going-more : (r : Got X) (top′ low′ : ℕ) → step (g .seen) (drop p s) ≡ ok r → 0 < r .used → p + r .used ≤ length s
               → Past look s (p + r .used) top′ low′ (key (r .val) ∷ g .seen) → Few (weight (r .val)) (r .used)
-              → Going look more weight mark key step whole s (p + r .used) (plusSizes a (weight (r .val))) (m || mark (r .val)) top′ low′
+              → Going look more weight held key step whole s (p + r .used) (plusSizes a (weight (r .val))) (m || held (r .val)) top′ low′
           going-more r top′ low′ e u l q w = record {
             seen = key (r .val) ∷ g .seen;
             past = q;
             rest = g .rest
-                ∙ ap (resume weight mark a m p) (skip-step more key step (λ _. []) (g .seen) (drop p s) r left n e u)
+                ∙ ap (resume weight held a m p) (skip-step more key step (λ _. []) (g .seen) (drop p s) r left n e u)
                 ∙ resume-more a m p (r .used) (r .val) _
-                ∙ ap (λ t. resume weight mark (plusSizes a (weight (r .val))) (m || mark (r .val)) (p + r .used) (skip more key step (key (r .val) ∷ g .seen) 0 t)) (drop-drop (r .used) p s);
+                ∙ ap (λ t. resume weight held (plusSizes a (weight (r .val))) (m || held (r .val)) (p + r .used) (skip more key step (key (r .val) ∷ g .seen) 0 t)) (drop-drop (r .used) p s);
             few = few-plus a (weight (r .val)) p (r .used) (g .few) w;
             to = l;
           }

@@ -17,43 +17,43 @@ use Rattle.items.specs.Quick as items
 use Rattle.heads.specs.Meet.{peek, Past}
 use Rattle.tally.specs.declared.Sizes.{Sizes}
 use Rattle.tally.specs.declared.Walked.{Walked}
-use Rattle.tally.specs.declared.quick.Quick.{Quick}
+use Rattle.tally.specs.declared.quick.Stage.{Stage}
 use Rattle.tally.specs.declared.Walked.the-variants.{Good, Bad}
-use Rattle.tally.specs.Meet.{plusSizes, total, any, weightOfEntry, weightOfPack, markTag, stepAt, levelWalk, seriesWalk, Few}
+use Rattle.tally.specs.Meet.{plusSizes, total, any, weightOfEntry, weightOfPack, askedTag, stepAt, levelWalk, seriesWalk, Few}
 
 -- what was walked so far, and the rest from p
 abbrev pub resume : {X : Type 0} → (X → Sizes) → (X → Bool) → Sizes → Bool → ℕ → Ans (Got (List X)) → Walked
-resume weight mark a m p (ok rs) = Good (plusSizes a (total weight (rs .val))) (m || any mark (rs .val))
-resume weight mark a m p (refused n q) = Bad n (p + q)
+resume weight held a m p (ok rs) = Good (plusSizes a (total weight (rs .val))) (m || any held (rs .val))
+resume weight held a m p (refused n q) = Bad n (p + q)
 
-pub record Going {X : Type 0} (look : List ℕ → Got ℕ) (more : List ℕ → Bool) (weight : X → Sizes) (mark : X → Bool) (key : X → ℕ) (step : Step X) (whole : Walked) (s : List ℕ) (p : ℕ)
+pub record Going {X : Type 0} (look : List ℕ → Got ℕ) (more : List ℕ → Bool) (weight : X → Sizes) (held : X → Bool) (key : X → ℕ) (step : Step X) (whole : Walked) (s : List ℕ) (p : ℕ)
     (a : Sizes) (m : Bool) (top low : ℕ) : Type 0 where
   pub seen : List ℕ
   pub past : Past look s p top low seen
-  pub rest : whole ≡ resume weight mark a m p (skip more key step seen 0 (drop p s))
+  pub rest : whole ≡ resume weight held a m p (skip more key step seen 0 (drop p s))
   pub few : Few a p
   pub to : p ≤ length s
 
 -- the item walk of a level
 abbrev pub LevelGoing : Bool → Form → List ℕ → ℕ → Sizes → Bool → ℕ → ℕ → Type 0
 LevelGoing b f s p a m top low =
-    Going (peek false false b) always (weightOfEntry (levelOf b)) (λ e. eqb (tagOfEntry e) (markTag (levelOf b))) tagOfEntry (stepAt (levelOf b) f) (levelWalk (levelOf b) f s) s p a m top low
+    Going (peek false false b) always (weightOfEntry (levelOf b)) (λ e. eqb (tagOfEntry e) (askedTag (levelOf b))) tagOfEntry (stepAt (levelOf b) f) (levelWalk (levelOf b) f s) s p a m top low
 
 -- the pack walk of a series
 abbrev pub SeriesGoing : Form → List ℕ → ℕ → Sizes → ℕ → ℕ → Type 0
 SeriesGoing f s p a top low = Going (peek false true false) always weightOfPack (λ p. false) idOfPack (onePack f) (seriesWalk f s) s p a false top low
 
 -- where a walk goes on, and what was walked till there
-abbrev pub quickAt : ℕ → Sizes → Bool → ℕ → ℕ → Quick
-quickAt p a m top low = record { at = p; sizes = a; mark = m; top = top; low = low }
+abbrev pub stageAt : ℕ → Sizes → Bool → ℕ → ℕ → Stage
+stageAt p a m top low = record { at = p; sizes = a; held = m; top = top; low = low }
 
 -- a tag may stand at p, if that is where the level begins
 abbrev pub Begun : Bool → Form → ℕ → ℕ → Type 0
 Begun b f p tag = not (isSet (levelOf b)) || not (isAlone f) || not (eqb p 0) || eqb tag 2 ≡ true
 
 -- an item at p that is told at a glance, with a byte each for its tag and its length, and whose tag is above top
-pub record Glance (b : Bool) (f : Form) (s : List ℕ) (p top n : ℕ) : Type 0 where
-  pub quick : items.Quick (levelOf b) f (getD s p 0) n (getD s (p + 2) 0)
+pub record ItemGlanced (b : Bool) (f : Form) (s : List ℕ) (p top n : ℕ) : Type 0 where
+  pub quick : items.Glanced (levelOf b) f (getD s p 0) n (getD s (p + 2) 0)
   pub small : getD s p 0 < 128
   pub few : n < 128
   pub above : top < getD s p 0
@@ -62,8 +62,8 @@ pub record Glance (b : Bool) (f : Form) (s : List ℕ) (p top n : ℕ) : Type 0 
   pub begins : Begun b f p (getD s p 0)
 
 -- there is one, if next, where its length says that it ends, is no further than the level's end
-abbrev pub Glanced : Bool → Form → List ℕ → ℕ → ℕ → ℕ → Type 0
-Glanced b f s p top next = (n : ℕ) × (next ≡ p + 2 + n) × (0 < n) × (p + 2 < length s) × (next ≤ length s → Glance b f s p top n)
+abbrev pub GlancedTo : Bool → Form → List ℕ → ℕ → ℕ → ℕ → Type 0
+GlancedTo b f s p top next = (n : ℕ) × (next ≡ p + 2 + n) × (0 < n) × (p + 2 < length s) × (next ≤ length s → ItemGlanced b f s p top n)
 
 -- a key that is told to be new where no key before p is above top or below low
 abbrev pub New : ℕ → ℕ → ℕ → ℕ → Type 0

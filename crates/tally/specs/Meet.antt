@@ -60,8 +60,8 @@ total weight [] = noSizes
 total weight (x ∷ xs) = plusSizes (weight x) (total weight xs)
 
 unfoldable pub any : {X : Type 0} → (X → Bool) → List X → Bool
-any mark [] = false
-any mark (x ∷ xs) = mark x || any mark xs
+any held [] = false
+any held (x ∷ xs) = held x || any held xs
 
 -- of what a sheet says
 abbrev pub weightOfVal : Level → Val → Sizes
@@ -95,17 +95,17 @@ deepenAt pack f i = ok (got (plain (i .val)) (i .used))
 unfoldable pub stepAt : Level → Form → Step Entry
 stepAt l f seen s = item l f seen s >>= λ i. deepenAt l f i
 
--- what marks a level: the set's checksum, a pack's location
-abbrev pub markTag : Level → ℕ
-markTag set = 1
-markTag pack = 17
+-- the tag that is asked for at a level's end: the set's checksum, a pack's location
+abbrev pub askedTag : Level → ℕ
+askedTag set = 1
+askedTag pack = 17
 
 abbrev pub walkedOf : {X : Type 0} → (X → Sizes) → (X → Bool) → Ans (Got (List X)) → Walked
-walkedOf weight mark (ok rs) = Good (total weight (rs .val)) (any mark (rs .val))
-walkedOf weight mark (refused n p) = Bad n p
+walkedOf weight held (ok rs) = Good (total weight (rs .val)) (any held (rs .val))
+walkedOf weight held (refused n p) = Bad n p
 
 unfoldable pub levelWalk : Level → Form → List ℕ → Walked
-levelWalk l f s = walkedOf (weightOfEntry l) (λ e. eqb (tagOfEntry e) (markTag l)) (run always tagOfEntry (stepAt l f) s)
+levelWalk l f s = walkedOf (weightOfEntry l) (λ e. eqb (tagOfEntry e) (askedTag l)) (run always tagOfEntry (stepAt l f) s)
 
 unfoldable pub seriesWalk : Form → List ℕ → Walked
 seriesWalk f s = walkedOf weightOfPack (λ p. false) (run always idOfPack (onePack f) s)

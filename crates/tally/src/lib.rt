@@ -4,7 +4,7 @@ ghost use Prim.Native.Nat.{_≤_};
 ghost use mathlib.Core.Bool.{_&&_};
 ghost use lib.Dec.{eqb};
 ghost use Rattle.items.specs.Meet.{levelOf};
-ghost use Rattle.tally.specs.Meet.{itemSizes, stopAt, laterBy, seriesFrom, markTag, Within};
+ghost use Rattle.tally.specs.Meet.{itemSizes, stopAt, laterBy, seriesFrom, askedTag, Within};
 
 // An item that may stand where it does: its tag, where its value begins, its length, and its shortest length; or the refusal's number.
 pub enum Piece {
@@ -27,9 +27,9 @@ pub struct Sizes {
 
 // ---- walks
 
-// What was walked, and whether it holds what marks its level; or the first fault, from the start of what was walked.
+// What was walked, and whether it holds the tag that is asked for at its end; or the first fault, from the start of what was walked.
 pub enum Walked {
-    Good { sizes: Sizes, mark: bool },
+    Good { sizes: Sizes, held: bool },
     Bad { number: u64, place: usize },
 }
 
@@ -58,7 +58,7 @@ pub fn later(w: Walked, k: usize) -> Walked
     ensures { λ r. ⌜ r ≡ laterBy k w ⌝ }
 {
     match w {
-        Walked::Good { sizes, mark } => Walked::Good { sizes, mark },
+        Walked::Good { sizes, held } => Walked::Good { sizes, held },
         Walked::Bad { number, place } => Walked::Bad {
             number,
             place: k + place,
@@ -84,27 +84,27 @@ pub fn is_series(set: bool, tag: u64) -> bool
     if set { tag == 101 } else { false }
 }
 
-// The tag that marks a level: the set's checksum, a pack's location.
-fn mark_tag(set: bool) -> u64
-    ensures { λ r. ⌜ r ≡ markTag (levelOf set) ⌝ }
+// The tag that is asked for at a level's end: the set's checksum, a pack's location.
+fn asked_tag(set: bool) -> u64
+    ensures { λ r. ⌜ r ≡ askedTag (levelOf set) ⌝ }
 {
     if set { 1 } else { 17 }
 }
 
-pub fn is_mark(set: bool, tag: u64) -> bool
-    ensures { λ r. ⌜ r ≡ eqb tag (markTag (levelOf set)) ⌝ }
+pub fn is_asked(set: bool, tag: u64) -> bool
+    ensures { λ r. ⌜ r ≡ eqb tag (askedTag (levelOf set)) ⌝ }
 {
-    tag == mark_tag(set)
+    tag == asked_tag(set)
 }
 
 // An item that is no series.
 pub fn one_item(set: bool, tag: u64, n: usize) -> Walked
     requires { ⌜ (tag ≤ 16383) × (n ≤ 65536) ⌝ }
-    ensures { λ r. ⌜ r ≡ Walked.Good (itemSizes (levelOf set) tag n) (eqb tag (markTag (levelOf set))) ⌝ }
+    ensures { λ r. ⌜ r ≡ Walked.Good (itemSizes (levelOf set) tag n) (eqb tag (askedTag (levelOf set))) ⌝ }
 {
     Walked::Good {
         sizes: weights::plain_sizes(set, tag, n),
-        mark: is_mark(set, tag),
+        held: is_asked(set, tag),
     }
 }
 
@@ -114,9 +114,9 @@ pub fn series_of(w: Walked, k: usize) -> Walked
     ensures { λ r. ⌜ r ≡ seriesFrom k w ⌝ }
 {
     match w {
-        Walked::Good { sizes, mark: _ } => Walked::Good {
+        Walked::Good { sizes, held: _ } => Walked::Good {
             sizes: weights::series_sizes(sizes),
-            mark: false,
+            held: false,
         },
         Walked::Bad { number, place } => Walked::Bad {
             number,

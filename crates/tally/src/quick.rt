@@ -6,7 +6,7 @@ ghost use Prim.Native.Nat.{_+_, _*_, _-_, _≤_, _<_};
 ghost use lib.ListN.{length, getD};
 ghost use Rattle.items.specs.Meet.{formOf, glanceTable};
 ghost use Rattle.tally.specs.Meet.{noSizes, sizes, seriesSizes, plusSizes, Small};
-ghost use Rattle.tally.specs.Going.{LevelGoing, quickAt, Begun, Glanced, New, Plain};
+ghost use Rattle.tally.specs.Going.{LevelGoing, stageAt, Begun, GlancedTo, New, Plain};
 use super::Sizes;
 use super::Walked;
 use heads::Head;
@@ -26,7 +26,7 @@ pub fn span(s: &[u8], set: bool, alone: bool) -> usize
 }
 
 // Where such an item at p ends by its length, its tag above top; 0 where it is no such item.
-pub fn glance(
+pub fn glance_item(
     glances: &[u32],
     s: &[u8],
     p: usize,
@@ -36,7 +36,7 @@ pub fn glance(
     top: u64,
 ) -> usize
     requires { ⌜ (now glances ≡ glanceTable) × (length (now s) ≤ 8192) × (most ≤ length (now s) - 2) × (0 < most → Begun set (formOf alone) 0 (getD (now s) 0 0)) ⌝ }
-    ensures { λ r. ⌜ (0 < r → Glanced set (formOf alone) (now (s .entry)) p top r) ⌝ }
+    ensures { λ r. ⌜ (0 < r → GlancedTo set (formOf alone) (now (s .entry)) p top r) ⌝ }
 {
     if most <= p {
         return 0;
@@ -46,17 +46,17 @@ pub fn glance(
         return 0;
     }
     let n = coding::wide(s[p + 1]);
-    if items::quick::is_quick(glances, set, alone, tag, n, s[p + 2]) {
+    if items::quick::is_glanced(glances, set, alone, tag, n, s[p + 2]) {
         return p + 2 + (n as usize);
     }
     0
 }
 
 // Where the item walk goes on, and what was walked till there.
-pub struct Quick {
+pub struct Stage {
     pub at: usize,
     pub sizes: Sizes,
-    pub mark: bool,
+    pub held: bool,
     pub top: u64,
     pub low: u64,
 }
@@ -101,26 +101,26 @@ pub fn told_sizes(count: usize, p: usize) -> Sizes
 }
 
 // The items told at a glance, one after another. If the last goes past the end, which is seen once for all, the walk begins anew.
-pub fn run(glances: &[u32], s: &[u8], set: bool, alone: bool) -> Quick
+pub fn glance_items(glances: &[u32], s: &[u8], set: bool, alone: bool) -> Stage
     requires { ⌜ (now glances ≡ glanceTable) × (length (now s) ≤ 8192) ⌝ }
-    ensures { λ r. ⌜ LevelGoing set (formOf alone) (now (s .entry)) (r .at) (r .sizes) (r .mark) (r .top) (r .low) × (r .sizes ≡ sizes (4 * (r .sizes .rows) + r .at) (r .sizes .rows) (r .at) 0) ⌝ }
+    ensures { λ r. ⌜ LevelGoing set (formOf alone) (now (s .entry)) (r .at) (r .sizes) (r .held) (r .top) (r .low) × (r .sizes ≡ sizes (4 * (r .sizes .rows) + r .at) (r .sizes .rows) (r .at) 0) ⌝ }
 {
     let most = span(s, set, alone);
     let low = first_tag(s);
     let mut p: usize = 0;
     let mut count: usize = 0;
-    let mut mark = false;
+    let mut held = false;
     let mut top: u64 = 0;
     loop {
-        let next = glance(glances, s, p, most, set, alone, top);
+        let next = glance_item(glances, s, p, most, set, alone, top);
         if next == 0 {
             if s.len() < p {
                 return stands(0, nothing(), false, 0, low);
             }
-            return stands(p, told_sizes(count, p), mark, top, low);
+            return stands(p, told_sizes(count, p), held, top, low);
         }
         let tag = coding::wide(s[p]);
-        mark = coding::either(mark, super::is_mark(set, tag));
+        held = coding::either(held, super::is_asked(set, tag));
         top = tag;
         count += 1;
         p = next;
@@ -130,34 +130,34 @@ pub fn run(glances: &[u32], s: &[u8], set: bool, alone: bool) -> Quick
 // ---- on from there
 
 // Where a walk goes on.
-pub fn stands(at: usize, sizes: Sizes, mark: bool, top: u64, low: u64) -> Quick
-    ensures { λ r. ⌜ r ≡ quickAt at sizes mark top low ⌝ }
+pub fn stands(at: usize, sizes: Sizes, held: bool, top: u64, low: u64) -> Stage
+    ensures { λ r. ⌜ r ≡ stageAt at sizes held top low ⌝ }
 {
-    Quick {
+    Stage {
         at,
         sizes,
-        mark,
+        held,
         top,
         low,
     }
 }
 
 // Where the set goes on after its series, whose packs or targets have these sizes.
-pub fn after_series(q: Quick, next: usize, sizes: Sizes) -> Quick
+pub fn after_series(q: Stage, next: usize, sizes: Sizes) -> Stage
     requires { ⌜ Small sizes × Small (q .sizes) × Small (seriesSizes sizes) ⌝ }
-    ensures { λ r. ⌜ (r .low ≤ q .low) × (r .low ≤ 101) × (r ≡ quickAt next (plusSizes (q .sizes) (seriesSizes sizes)) (q .mark) 101 (r .low)) ⌝ }
+    ensures { λ r. ⌜ (r .low ≤ q .low) × (r .low ≤ 101) × (r ≡ stageAt next (plusSizes (q .sizes) (seriesSizes sizes)) (q .held) 101 (r .low)) ⌝ }
 {
     let sum = super::weights::plus(q.sizes, super::weights::series_sizes(sizes));
-    stands(next, sum, q.mark, 101, super::smaller(q.low, 101))
+    stands(next, sum, q.held, 101, super::smaller(q.low, 101))
 }
 
 // What was walked till there.
-pub fn walked(q: Quick) -> Walked
-    ensures { λ r. ⌜ r ≡ Walked.Good (q .sizes) (q .mark) ⌝ }
+pub fn walked(q: Stage) -> Walked
+    ensures { λ r. ⌜ r ≡ Walked.Good (q .sizes) (q .held) ⌝ }
 {
     let sizes = q.sizes;
-    let mark = q.mark;
-    Walked::Good { sizes, mark }
+    let held = q.held;
+    Walked::Good { sizes, held }
 }
 
 // Whether a key is told to be new without a look back: no key before p is above top or below low.
@@ -190,9 +190,9 @@ pub fn is_plain(set: bool, alone: bool, p: usize, top: u64, low: u64, tag: u64, 
 }
 
 // The items after those of the quick way that are such, one after another.
-pub fn onward(s: &[u8], set: bool, alone: bool, q: Quick) -> Quick
-    requires { ⌜ (length (now s) ≤ 8192) × LevelGoing set (formOf alone) (now s) (q .at) (q .sizes) (q .mark) (q .top) (q .low) ⌝ }
-    ensures { λ r. ⌜ LevelGoing set (formOf alone) (now (s .entry)) (r .at) (r .sizes) (r .mark) (r .top) (r .low) ⌝ }
+pub fn onward(s: &[u8], set: bool, alone: bool, q: Stage) -> Stage
+    requires { ⌜ (length (now s) ≤ 8192) × LevelGoing set (formOf alone) (now s) (q .at) (q .sizes) (q .held) (q .top) (q .low) ⌝ }
+    ensures { λ r. ⌜ LevelGoing set (formOf alone) (now (s .entry)) (r .at) (r .sizes) (r .held) (r .top) (r .low) ⌝ }
 {
     let mut p = q.at;
     let mut sum = q.sizes;
@@ -201,7 +201,7 @@ pub fn onward(s: &[u8], set: bool, alone: bool, q: Quick) -> Quick
     while p < s.len() {
         // the series is no such item
         if super::is_series(set, coding::wide(s[p])) {
-            return stands(p, sum, q.mark, top, low);
+            return stands(p, sum, q.held, top, low);
         }
         let h = heads::item_head(&s[p..], set);
         let Head::Whole {
@@ -211,15 +211,15 @@ pub fn onward(s: &[u8], set: bool, alone: bool, q: Quick) -> Quick
             size,
         } = h
         else {
-            return stands(p, sum, q.mark, top, low);
+            return stands(p, sum, q.held, top, low);
         };
         if !is_plain(set, alone, p, top, low, key, size) {
-            return stands(p, sum, q.mark, top, low);
+            return stands(p, sum, q.held, top, low);
         }
         sum = super::weights::plus(sum, super::weights::plain_sizes(set, key, size));
         top = super::larger(top, key);
         low = super::smaller(low, key);
         p = p + used + width + size;
     }
-    stands(p, sum, q.mark, top, low)
+    stands(p, sum, q.held, top, low)
 }

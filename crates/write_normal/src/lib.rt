@@ -114,14 +114,14 @@ pub fn pack_normal(
         let from = p + width + used;
         let next = p + width + size;
         let w = check_items::item_walk(table, glances, &s[from..next], false, alone, bits);
-        let Walked::Good { sizes, mark: _ } = w else {
+        let Walked::Good { sizes, held: _ } = w else {
             return k;
         };
         let n = used + sizes.normal;
         let m = put_pack(out, k, n, key);
         // No item grows, so items that keep their size are in normal form.
         k = if n == size {
-            stores::copy_run(out, m, &s[from..next])
+            stores::copy_all(out, m, &s[from..next])
         } else {
             m
                 + item_normal(

@@ -149,7 +149,7 @@ fn put_head(out: &mut [u8], at: usize, n: usize, id: u64) -> usize
         out[a] = id as u8;
         return a + 1;
     }
-    out[a] = store_coded::marked7(coding::widths::above7(id));
+    out[a] = store_coded::more7(coding::widths::above7(id));
     out[a + 1] = store_coded::low7(id);
     a + 2
 }

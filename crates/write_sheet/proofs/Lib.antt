@@ -1,5 +1,5 @@
 pub mod Records
 pub mod Turns
-pub mod Glances
+pub mod Smalls
 pub mod Packet
 pub mod Begun

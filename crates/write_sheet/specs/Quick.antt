@@ -24,7 +24,7 @@ SeriesPassed f s out₀ out p k = Writing always (λ (_ : Unit {0}). flatAll pac
 
 -- an item of a pack at p that is told at a glance, with a byte each for its tag and its length n, and whose value is shortest: it has one byte, or
 -- does not begin with 0
-pub record Glanced (s : List ℕ) (p n : ℕ) : Type 0 where
+pub record SmallItem (s : List ℕ) (p n : ℕ) : Type 0 where
   pub here : p + 2 < length s
   pub small : getD s p 0 < 128
   pub size-is : n ≡ getD s (p + 1) 0

@@ -106,7 +106,7 @@ fn pack_items(table: &[u32], s: &[u8], alone: bool, out: &mut [u8]) -> usize
     requires { ⌜ (now table ≡ itemTable) × ((length (now s) ≤ 8192) × Ran (levelRun pack (formOf alone) (now s)) × (length (levelSheet pack (formOf alone) (now s)) ≤ length (now out))) ⌝ }
     ensures { λ r. ⌜ (r ≡ length (levelSheet pack (formOf alone) (now (s .entry)))) × (now (out .exit) ≡ sets (now (out .entry)) 0 (levelSheet pack (formOf alone) (now (s .entry)))) ⌝ }
 {
-    let q = quick::run(s, alone, out);
+    let q = quick::small_items(s, alone, out);
     let p = q.used;
     if s.len() <= p {
         return q.wrote;

@@ -5,16 +5,16 @@ ghost use lib.ListN.{length};
 ghost use Rattle.format.specs.Table.{pack};
 ghost use Rattle.items.specs.Meet.{formOf};
 ghost use Rattle.write_sheet.specs.Meet.{levelSheet, seriesSheet};
-ghost use Rattle.write_sheet.specs.Quick.{LevelPassed, SeriesPassed, Glanced};
+ghost use Rattle.write_sheet.specs.Quick.{LevelPassed, SeriesPassed, SmallItem};
 ghost use Rattle.tally.specs.Runs.{Ran, levelRun, seriesRun};
 ghost use mathlib.Core.Bool.{false};
 use heads::Head;
 use stores::Passed;
 
 // How many bytes the value of such an item at p has; 0 where it is no such item.
-fn glance(s: &[u8], p: usize) -> usize
+fn small_size(s: &[u8], p: usize) -> usize
     requires { ⌜ (p ≤ length (now s)) × (length (now s) ≤ 8192) ⌝ }
-    ensures { λ r. ⌜ (0 < r → Glanced (now (s .entry)) p r) ⌝ }
+    ensures { λ r. ⌜ (0 < r → SmallItem (now (s .entry)) p r) ⌝ }
 {
     if s.len() < p + 3 {
         return 0;
@@ -38,14 +38,14 @@ fn glance(s: &[u8], p: usize) -> usize
 }
 
 // The records of such items, one after another.
-pub fn run(s: &[u8], alone: bool, out: &mut [u8]) -> Passed
+pub fn small_items(s: &[u8], alone: bool, out: &mut [u8]) -> Passed
     requires { ⌜ (length (now s) ≤ 8192) × Ran (levelRun pack (formOf alone) (now s)) × (length (levelSheet pack (formOf alone) (now s)) ≤ length (now out)) ⌝ }
     ensures { λ r. ⌜ LevelPassed false (formOf alone) (now (s .entry)) (now (out .entry)) (now (out .exit)) (r .used) (r .wrote) ⌝ }
 {
     let mut p: usize = 0;
     let mut k: usize = 0;
     loop {
-        let n = glance(s, p);
+        let n = small_size(s, p);
         if n == 0 {
             return Passed { used: p, wrote: k };
         }
@@ -79,7 +79,7 @@ pub fn packs(s: &[u8], alone: bool, out: &mut [u8]) -> Passed
         let from = p + width + used;
         let next = p + width + size;
         let m = super::put_target(out, k, key);
-        let q = run(&s[from..next], alone, &mut out[m..]);
+        let q = small_items(&s[from..next], alone, &mut out[m..]);
         if q.used < next - from {
             return Passed { used: p, wrote: k };
         }

@@ -39,7 +39,7 @@ use Rattle.tally.proofs.weights.plus.Reads as plus-reads
 use Rattle.tally.proofs.quick.onward.Reads as onward-reads
 use Rattle.quick_packs.proofs.packs.Reads as packs-reads
 use Rattle.quick_packs.proofs.noted.Reads as noted-reads
-use Rattle.tally.proofs.quick.run.Reads as run-reads
+use Rattle.tally.proofs.quick.glance_items.Reads as glance-items-reads
 use Rattle.tally.proofs.series_of.Reads as series-of-reads
 use Rattle.tally.proofs.smaller.Reads as smaller-reads
 use Rattle.tally.proofs.stop.Reads as stop-reads
@@ -72,19 +72,19 @@ abbrev item-claims : ℕ → item-rest-lts.Claims
 item-claims t = (onward-reads.Asked, onward-reads.Learnt, item-at-reads.Asked, item-at-reads.Learnt, stop-reads.Asked, stop-reads.Learnt, is-series-reads.Asked, is-series-reads.Learnt, packs-reads.Asked, packs-reads.Learnt, pack-walk-below t, pack-walk.Post, series-of-reads.Asked, series-of-reads.Learnt, one-item-reads.Asked, one-item-reads.Learnt, later-reads.Asked, later-reads.Learnt, plus-reads.Asked, plus-reads.Learnt, either-reads.Asked, either-reads.Learnt, after-reads.Asked, after-reads.Learnt, larger-reads.Asked, larger-reads.Learnt, smaller-reads.Asked, smaller-reads.Learnt)
 
 abbrev pack-claims : ℕ → pack-walk-lts.Claims
-pack-claims t = (noted-reads.Asked, noted-reads.Learnt, quick-pack-head-reads.Asked, quick-pack-head-reads.Learnt, piece-fault-reads.Asked, piece-fault-reads.Learnt, stop-reads.Asked, stop-reads.Learnt, is-seen-reads.Asked, is-seen-reads.Learnt, run-reads.Asked, run-reads.Learnt, item-rest-below t, item-rest.Post, later-reads.Asked, later-reads.Learnt, either-reads.Asked, either-reads.Learnt, pack-sizes-reads.Asked, pack-sizes-reads.Learnt, plus-reads.Asked, plus-reads.Learnt, after-reads.Asked, after-reads.Learnt, larger-reads.Asked, larger-reads.Learnt, smaller-reads.Asked, smaller-reads.Learnt)
+pack-claims t = (noted-reads.Asked, noted-reads.Learnt, quick-pack-head-reads.Asked, quick-pack-head-reads.Learnt, piece-fault-reads.Asked, piece-fault-reads.Learnt, stop-reads.Asked, stop-reads.Learnt, is-seen-reads.Asked, is-seen-reads.Learnt, glance-items-reads.Asked, glance-items-reads.Learnt, item-rest-below t, item-rest.Post, later-reads.Asked, later-reads.Learnt, either-reads.Asked, either-reads.Learnt, pack-sizes-reads.Asked, pack-sizes-reads.Learnt, plus-reads.Asked, plus-reads.Learnt, after-reads.Asked, after-reads.Learnt, larger-reads.Asked, larger-reads.Learnt, smaller-reads.Asked, smaller-reads.Learnt)
 
 -- ---- the item walk
 
 abbrev item-rest-Inv-loop : item-rest-lts.InvT-loop
-item-rest-Inv-loop table glances s set alone bits₀ p₀ sum₀ mark₀ top₀ low₀ clear₀ bits p sum mark top low clear = LevelGoing set (formOf alone) s p sum mark top low × Clear (peek false false set) s clear
+item-rest-Inv-loop table glances s set alone bits₀ p₀ sum₀ held₀ top₀ low₀ clear₀ bits p sum held top low clear = LevelGoing set (formOf alone) s p sum held top low × Clear (peek false false set) s clear
 
 abbrev item-rest-μ-loop : item-rest-lts.MeasureT-loop
-item-rest-μ-loop table glances s set alone bits₀ p₀ sum₀ mark₀ top₀ low₀ clear₀ bits p sum mark top low clear = length s - p
+item-rest-μ-loop table glances s set alone bits₀ p₀ sum₀ held₀ top₀ low₀ clear₀ bits p sum held top low clear = length s - p
 
 -- an item, where it was read
 item-here : (t : ℕ) (a : item-rest-lts.After-a (item-claims t) (item-rest-at t) item-rest.Post item-rest-Inv-loop item-rest-μ-loop)
-    → ItemAt (a .before .before .before .before .before .before .before .before .before .before .args .set) (formOf (a .before .before .before .before .before .before .before .before .before .before .args .alone)) (a .before .before .before .before .before .before .before .before .before .before .args .s .now) (a .before .before .before .before .loop .p) (a .before .before .before .before .loop .sum) (a .before .before .before .before .loop .mark) (a .before .before .before .before .loop .top) (a .before .before .before .before .loop .low) (a .a .given .0 .0) (a .a .given .0 .1 .0) (a .a .given .0 .1 .1 .0) (a .a .given .0 .1 .1 .1 .0)
+    → ItemAt (a .before .before .before .before .before .before .before .before .before .before .args .set) (formOf (a .before .before .before .before .before .before .before .before .before .before .args .alone)) (a .before .before .before .before .before .before .before .before .before .before .args .s .now) (a .before .before .before .before .loop .p) (a .before .before .before .before .loop .sum) (a .before .before .before .before .loop .held) (a .before .before .before .before .loop .top) (a .before .before .before .before .loop .low) (a .a .given .0 .0) (a .a .given .0 .1 .0) (a .a .given .0 .1 .1 .0) (a .a .given .0 .1 .1 .1 .0)
 item-here t a = record {
   going = a .before .before .before .before .loop .inv .0;
   here = a .before .before .before .loop-test .taken;
@@ -303,13 +303,13 @@ pack-walk-part-items-start t c = omega (arith, pack-room t (c .before .before .b
 pack-walk-part-items-end : (t : ℕ) → pack-walk-lts.Need-part-items-end (pack-claims t) (pack-walk-at t) pack-walk.Post pack-walk-Inv-loop pack-walk-μ-loop
 pack-walk-part-items-end t c = omega (arith, pack-room t (c .before .before .before))
 
-pack-walk-run-requires : (t : ℕ) → pack-walk-lts.Need-run-requires (pack-claims t) (pack-walk-at t) pack-walk.Post pack-walk-Inv-loop pack-walk-μ-loop
-pack-walk-run-requires t c κs = (c .before .before .before .before .before .before .before .before .before .before .before .before .before .before .before .before .pre .1 .3, omega (arith, lent-long (pack-here t (c .before .before .before .before)) (c .before .before .is-seen .ensures) (c .before .if1 .left), pack-room t (c .before .before .before .before)))
+pack-walk-glance-items-requires : (t : ℕ) → pack-walk-lts.Need-glance-items-requires (pack-claims t) (pack-walk-at t) pack-walk.Post pack-walk-Inv-loop pack-walk-μ-loop
+pack-walk-glance-items-requires t c κs = (c .before .before .before .before .before .before .before .before .before .before .before .before .before .before .before .before .pre .1 .3, omega (arith, lent-long (pack-here t (c .before .before .before .before)) (c .before .before .is-seen .ensures) (c .before .if1 .left), pack-room t (c .before .before .before .before)))
 
 pack-walk-item-rest-requires : (t : ℕ) → pack-walk-lts.Need-item-rest-requires (pack-claims t) (pack-walk-at t) pack-walk.Post pack-walk-Inv-loop pack-walk-μ-loop
 pack-walk-item-rest-requires t c κs =
-    let (a, b) = pack-walk-run-requires t (c .before .before) (κs .0, (κs .1 .0, tt)) in
-    (omega (arith, c .before .before .before .before .before .before .before .before .before .before .before .before .before .before .before .before .before .before .pre .0), (c .before .before .before .before .before .before .before .before .before .before .before .before .before .before .before .before .before .before .pre .1 .0, b, c .before .run .ensures .0, a))
+    let (a, b) = pack-walk-glance-items-requires t (c .before .before) (κs .0, (κs .1 .0, tt)) in
+    (omega (arith, c .before .before .before .before .before .before .before .before .before .before .before .before .before .before .before .before .before .before .pre .0), (c .before .before .before .before .before .before .before .before .before .before .before .before .before .before .before .before .before .before .pre .1 .0, b, c .before .glance-items .ensures .0, a))
 
 pack-walk-enum-known-w : (t : ℕ) → pack-walk-lts.Need-enum-known-w (pack-claims t) (pack-walk-at t) pack-walk.Post pack-walk-Inv-loop pack-walk-μ-loop
 pack-walk-enum-known-w t c = search needs
@@ -370,7 +370,7 @@ pub +item-rest+pack-walk-spec : {M : Type 1} → statement M
     (pack-walk-piece-fault-requires t) (pack-walk-stop-requires t) (pack-walk-returns t) (pack-walk-is-seen-requires t)
     (pack-walk-returns-2 t) (pack-walk-add-from t) (pack-walk-add-from-2 t) (pack-walk-add-next t)
     (pack-walk-add-next-2 t) (pack-walk-sub-items t) (pack-walk-part-items-start t) (pack-walk-part-items-end t)
-    (pack-walk-run-requires t) (pack-walk-item-rest-requires t) (pack-walk-enum-known-w t) (pack-walk-enum-told-2 t) (pack-walk-later-requires t)
+    (pack-walk-glance-items-requires t) (pack-walk-item-rest-requires t) (pack-walk-enum-known-w t) (pack-walk-enum-told-2 t) (pack-walk-later-requires t)
     (pack-walk-returns-3 t) (pack-walk-either-requires t) (pack-walk-pack-sizes-requires t) (pack-walk-plus-requires t)
     (pack-walk-after-requires t) (pack-walk-larger-requires t) (pack-walk-smaller-requires t) (pack-walk-loop-less t)
     (pack-walk-loop-again t) (pack-walk-returns-4 t) (pack-walk-returns-5 t))

@@ -2,14 +2,14 @@
 use Rattle.check_items.proofs.item_walk.Statement.{statement}
 use Rattle.check_items.proofs.item_walk.Tie as tie
 
-run-requires : tie.Need-run-requires
-run-requires c κs = (c .before .before .before .pre .2, c .before .before .before .pre .1)
+glance-items-requires : tie.Need-glance-items-requires
+glance-items-requires c κs = (c .before .before .before .pre .2, c .before .before .before .pre .1)
 
 item-rest-requires : tie.Need-item-rest-requires
-item-rest-requires c κs = (c .before .before .before .before .before .pre .0, c .before .before .before .before .before .pre .1, c .before .run .ensures .0, c .before .before .before .before .before .pre .2)
+item-rest-requires c κs = (c .before .before .before .before .before .pre .0, c .before .before .before .before .before .pre .1, c .before .glance-items .ensures .0, c .before .before .before .before .before .pre .2)
 
 returns : tie.Need-returns
 returns c = c .item-rest .ensures
 
 pub item-walk-spec : {M : Type 1} → statement M
-item-walk-spec = tie.close (tie.spec run-requires item-rest-requires returns)
+item-walk-spec = tie.close (tie.spec glance-items-requires item-rest-requires returns)

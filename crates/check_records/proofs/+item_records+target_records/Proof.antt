@@ -35,7 +35,7 @@ use Rattle.repeats.proofs.clear.after.Reads as after-reads
 use Rattle.heads.proofs.records.is_mark.Reads as is-mark-reads
 use Rattle.quick_records.proofs.goes_on.Reads as goes-on-reads
 use Rattle.check_records.proofs.higher.Reads as higher-reads
-use Rattle.quick_records.proofs.quick.run.Reads as run-reads
+use Rattle.quick_records.proofs.quick.glance_records.Reads as glance-records-reads
 use Rattle.quick_records.proofs.targets.strewn.Reads as strewn-reads
 use Rattle.tally.proofs.later.Reads as later-reads
 use Rattle.check_records.proofs.part_at.Reads as part-at-reads
@@ -92,17 +92,17 @@ abbrev item-claims : ℕ → item-records-lts.Claims
 item-claims t = (goes-on-reads.Asked, goes-on-reads.Learnt, part-at-reads.Asked, part-at-reads.Learnt, stop-reads.Asked, stop-reads.Learnt, is-series-reads.Asked, is-series-reads.Learnt, target-records-below t, target-records.Post, series-of-reads.Asked, series-of-reads.Learnt, one-item-reads.Asked, one-item-reads.Learnt, later-reads.Asked, later-reads.Learnt, plus-reads.Asked, plus-reads.Learnt, either-reads.Asked, either-reads.Learnt, after-reads.Asked, after-reads.Learnt, larger-reads.Asked, larger-reads.Learnt, smaller-reads.Asked, smaller-reads.Learnt)
 
 abbrev target-claims : ℕ → target-records-lts.Claims
-target-claims t = (strewn-reads.Asked, strewn-reads.Learnt, is-mark-reads.Asked, is-mark-reads.Learnt, target-at-reads.Asked, target-at-reads.Learnt, stop-reads.Asked, stop-reads.Learnt, run-reads.Asked, run-reads.Learnt, goes-on-reads.Asked, goes-on-reads.Learnt, item-records-below t, item-records.Post, later-reads.Asked, later-reads.Learnt, either-reads.Asked, either-reads.Learnt, oid-width-reads.Asked, oid-width-reads.Learnt, pack-sizes-reads.Asked, pack-sizes-reads.Learnt, plus-reads.Asked, plus-reads.Learnt, after-reads.Asked, after-reads.Learnt, higher-reads.Asked, higher-reads.Learnt, smaller-reads.Asked, smaller-reads.Learnt)
+target-claims t = (strewn-reads.Asked, strewn-reads.Learnt, is-mark-reads.Asked, is-mark-reads.Learnt, target-at-reads.Asked, target-at-reads.Learnt, stop-reads.Asked, stop-reads.Learnt, glance-records-reads.Asked, glance-records-reads.Learnt, goes-on-reads.Asked, goes-on-reads.Learnt, item-records-below t, item-records.Post, later-reads.Asked, later-reads.Learnt, either-reads.Asked, either-reads.Learnt, oid-width-reads.Asked, oid-width-reads.Learnt, pack-sizes-reads.Asked, pack-sizes-reads.Learnt, plus-reads.Asked, plus-reads.Learnt, after-reads.Asked, after-reads.Learnt, higher-reads.Asked, higher-reads.Learnt, smaller-reads.Asked, smaller-reads.Learnt)
 
 abbrev item-records-Inv-loop : item-records-lts.InvT-loop
-item-records-Inv-loop table glances s set alone bits₀ p₀ sum₀ mark₀ top₀ low₀ clear₀ bits p sum mark top low clear = RecordsGoing set (formOf alone) s p sum mark top low × Clear (peek true false set) s clear
+item-records-Inv-loop table glances s set alone bits₀ p₀ sum₀ held₀ top₀ low₀ clear₀ bits p sum held top low clear = RecordsGoing set (formOf alone) s p sum held top low × Clear (peek true false set) s clear
 
 abbrev item-records-μ-loop : item-records-lts.MeasureT-loop
-item-records-μ-loop table glances s set alone bits₀ p₀ sum₀ mark₀ top₀ low₀ clear₀ bits p sum mark top low clear = length s - p
+item-records-μ-loop table glances s set alone bits₀ p₀ sum₀ held₀ top₀ low₀ clear₀ bits p sum held top low clear = length s - p
 
 -- a record, where it was read
 part-here : (t : ℕ) (a : item-records-lts.After-a (item-claims t) (item-records-at t) item-records.Post item-records-Inv-loop item-records-μ-loop)
-    → PartAt (a .before .before .before .before .before .before .before .before .before .before .args .set) (formOf (a .before .before .before .before .before .before .before .before .before .before .args .alone)) (a .before .before .before .before .before .before .before .before .before .before .args .s .now) (a .before .before .before .before .before .before .loop .p) (a .before .before .before .before .before .before .loop .sum) (a .before .before .before .before .before .before .loop .mark) (a .before .before .before .before .before .before .loop .top) (a .before .before .before .before .before .before .loop .low) (a .a .given .0 .0) (a .a .given .0 .1 .0) (a .a .given .0 .1 .1 .0) (a .a .given .0 .1 .1 .1 .0)
+    → PartAt (a .before .before .before .before .before .before .before .before .before .before .args .set) (formOf (a .before .before .before .before .before .before .before .before .before .before .args .alone)) (a .before .before .before .before .before .before .before .before .before .before .args .s .now) (a .before .before .before .before .before .before .loop .p) (a .before .before .before .before .before .before .loop .sum) (a .before .before .before .before .before .before .loop .held) (a .before .before .before .before .before .before .loop .top) (a .before .before .before .before .before .before .loop .low) (a .a .given .0 .0) (a .a .given .0 .1 .0) (a .a .given .0 .1 .1 .0) (a .a .given .0 .1 .1 .1 .0)
 part-here t a = record {
   going = a .before .before .before .before .before .before .loop .inv .0;
   here = a .before .before .before .before .before .loop-test .taken;
@@ -306,8 +306,8 @@ target-records-part-items-end t c =
     let a = c .before in
     omega (arith, target-room (target-here t a) .0, a .before .before .before .before .before .before .before .before .before .before .before .before .before .pre .1 .1)
 
-target-records-run-requires : (t : ℕ) → target-records-lts.Need-run-requires (target-claims t) (target-records-at t) target-records.Post target-records-Inv-loop target-records-μ-loop
-target-records-run-requires t c κs =
+target-records-glance-records-requires : (t : ℕ) → target-records-lts.Need-glance-records-requires (target-claims t) (target-records-at t) target-records.Post target-records-Inv-loop target-records-μ-loop
+target-records-glance-records-requires t c κs =
     let a = c .before .before in
     (a .before .before .before .before .before .before .before .before .before .before .before .before .before .pre .1 .2, target-turns.lent-small (target-here t a), refl)
 
@@ -321,11 +321,11 @@ target-records-item-records-requires t c κs =
 
 -- what the records of a target say, whichever way they were walked
 target-told : (t : ℕ) (j : target-records-lts.Joined2 (target-claims t) (target-records-at t) target-records.Post target-records-Inv-loop target-records-μ-loop)
-    → (Good (j .if2 .sizes) (j .if2 .mark) ≡ recordsWalk pack (formOf (j .before .before .before .before .before .before .before .before .before .before .before .before .before .before .before .before .before .before .before .args .alone)) (target-turns.lent (target-here t (j .before .before .before .before .before .before)))) × Within (Good (j .if2 .sizes) (j .if2 .mark)) (length (target-turns.lent (target-here t (j .before .before .before .before .before .before))))
+    → (Good (j .if2 .sizes) (j .if2 .held) ≡ recordsWalk pack (formOf (j .before .before .before .before .before .before .before .before .before .before .before .before .before .before .before .before .before .before .before .args .alone)) (target-turns.lent (target-here t (j .before .before .before .before .before .before)))) × Within (Good (j .if2 .sizes) (j .if2 .held)) (length (target-turns.lent (target-here t (j .before .before .before .before .before .before))))
 target-told t j =
     ⊎-elim
     (λ x. told-as _ (same-good (x .7) (x .8) ∙ sym (x .4 .given .1)) (x .2 .ensures))
-    (λ x. told-as _ (same-good (x .2) (x .3)) (records-over (j .before .before .before .run .ensures .0) (sym (j .before .goes-on .ensures) ∙ x .0 .left)))
+    (λ x. told-as _ (same-good (x .2) (x .3)) (records-over (j .before .before .before .glance-records .ensures .0) (sym (j .before .goes-on .ensures) ∙ x .0 .left)))
     (j .if2 .came)
 
 target-records-enum-known-w : (t : ℕ) → target-records-lts.Need-enum-known-w (target-claims t) (target-records-at t) target-records.Post target-records-Inv-loop target-records-μ-loop
@@ -410,7 +410,7 @@ pub +item-records+target-records-spec : {M : Type 1} → statement M
     (target-records-strewn-requires t) (target-records-loop-holds t) (target-records-is-mark-requires t) (target-records-returns t) (target-records-target-at-requires t)
     (target-records-enum-known-a t) (target-records-enum-told t) (target-records-stop-requires t) (target-records-returns-2 t)
     (target-records-add-from t) (target-records-sub-items t) (target-records-part-items-start t) (target-records-part-items-end t)
-    (target-records-run-requires t) (target-records-goes-on-requires t)
+    (target-records-glance-records-requires t) (target-records-goes-on-requires t)
     (target-records-item-records-requires t) (target-records-enum-known-w t) (target-records-enum-told-2 t) (target-records-later-requires t)
     (target-records-returns-3 t) (target-records-either-requires t) (target-records-oid-width-requires t) (target-records-pack-sizes-requires t)
     (target-records-plus-requires t) (target-records-after-requires t) (target-records-higher-requires t) (target-records-smaller-requires t) (target-records-add-p t)

@@ -9,7 +9,7 @@ use Rattle.check_sheet.proofs.SetTurns.{SeriesAt, room, series-asks, se
 use Rattle.check_sheet.proofs.series.Statement.{statement}
 use Rattle.check_sheet.proofs.series.Tie as tie
 
-here : (j : tie.Else3) → SeriesAt (formOf (j .before .before .before .before .before .before .before .args .alone)) (j .before .before .before .before .before .before .before .args .s .now) (j .before .before .before .before .before .before .before .args .q .at) (j .before .before .before .before .before .before .before .args .q .sizes) (j .before .before .before .before .before .before .before .args .q .mark) (j .before .before .before .before .before .before .before .args .q .top) (j .before .before .before .before .before .before .before .args .q .low)
+here : (j : tie.Else3) → SeriesAt (formOf (j .before .before .before .before .before .before .before .args .alone)) (j .before .before .before .before .before .before .before .args .s .now) (j .before .before .before .before .before .before .before .args .q .at) (j .before .before .before .before .before .before .before .args .q .sizes) (j .before .before .before .before .before .before .before .args .q .held) (j .before .before .before .before .before .before .before .args .q .top) (j .before .before .before .before .before .before .before .args .q .low)
 here j = record {
   going = j .before .before .before .before .before .before .before .pre .2;
   marked = sym (j .before .before .before .before .is-mark .ensures) ∙ not-false _ (j .before .before .before .if1 .left);

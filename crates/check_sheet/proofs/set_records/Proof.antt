@@ -7,14 +7,14 @@ use Rattle.tally.proofs.Turns.{turn-done, told-as}
 use Rattle.check_sheet.proofs.set_records.Statement.{statement}
 use Rattle.check_sheet.proofs.set_records.Tie as tie
 
-glanced-requires : tie.Need-glanced-requires
-glanced-requires c κs = search needs
+set-glanced-requires : tie.Need-set-glanced-requires
+set-glanced-requires c κs = search needs
 
 walked-requires : tie.Need-walked-requires
 walked-requires c κs = search needs
 
 returns : tie.Need-returns
-returns c = told-as (length (c .before .before .before .before .before .before .args .s .now)) (c .walked .ensures) (turn-done (c .before .before .before .glanced .ensures) (omega (arith, c .before .if1 .taken)))
+returns c = told-as (length (c .before .before .before .before .before .before .args .s .now)) (c .walked .ensures) (turn-done (c .before .before .before .set-glanced .ensures) (omega (arith, c .before .if1 .taken)))
 
 sub-set-anew : tie.Need-sub-set-anew
 sub-set-anew c = search needs
@@ -35,7 +35,7 @@ pub set-records-spec : {M : Type 1} → statement M
 set-records-spec =
     tie.close
     (tie.spec
-    glanced-requires
+    set-glanced-requires
     walked-requires
     returns
     sub-set-anew

@@ -20,17 +20,17 @@ put-item-requires c κs =
     let x = changeOf (i .removal) (i .v .now) in
     (tag-high (formOf (i .alone)) (i .set) (i .id) (i .tag) x (i .s .now) (i .p) e, puttable (formOf (i .alone)) (i .set) (i .id) (i .tag) x (i .s .now) (i .p) e, t, item-behind (formOf (i .alone)) (i .set) (i .id) (i .tag) x (i .s .now) (i .p) e (i .out .now) room en (c .before .before .before .put-front .ensures))
 
-sub-copy-run : tie.Need-sub-copy-run
-sub-copy-run c = search needs
+sub-copy-all : tie.Need-sub-copy-all
+sub-copy-all c = search needs
 
-part-copy-run-start : tie.Need-part-copy-run-start
-part-copy-run-start c = search needs
+part-copy-all-start : tie.Need-part-copy-all-start
+part-copy-all-start c = search needs
 
-part-copy-run-end : tie.Need-part-copy-run-end
-part-copy-run-end c = search needs
+part-copy-all-end : tie.Need-part-copy-all-end
+part-copy-all-end c = search needs
 
-copy-run-requires : tie.Need-copy-run-requires
-copy-run-requires c κs =
+copy-all-requires : tie.Need-copy-all-requires
+copy-all-requires c κs =
     let i = c .before .before .before .before .before .before .before .before .before .before .before .before .before .args in
     let (t, e, room, en) = c .before .before .before .before .before .before .before .before .before .before .before .before .before .pre in
     let x = changeOf (i .removal) (i .v .now) in
@@ -44,7 +44,7 @@ returns c =
     let i = c .before .before .before .before .before .before .before .before .before .before .before .before .before .before .before .before .args in
     let (t, e, room, en) = c .before .before .before .before .before .before .before .before .before .before .before .before .before .before .before .before .pre in
     let x = changeOf (i .removal) (i .v .now) in
-    edited-stored (formOf (i .alone)) (i .set) (i .id) (i .tag) x (i .s .now) (i .p) e (i .out .now) room en (c .before .before .before .before .before .before .before .before .before .before .before .put-front .ensures) (c .before .before .before .before .before .before .before .put-item .ensures) (c .before .before .copy-run .ensures)
+    edited-stored (formOf (i .alone)) (i .set) (i .id) (i .tag) x (i .s .now) (i .p) e (i .out .now) room en (c .before .before .before .before .before .before .before .before .before .before .before .put-front .ensures) (c .before .before .before .before .before .before .before .put-item .ensures) (c .before .before .copy-all .ensures)
 
 pub put-edited-spec : {M : Type 1} → statement M
 put-edited-spec =
@@ -52,9 +52,9 @@ put-edited-spec =
     (tie.spec
     put-front-requires
     put-item-requires
-    sub-copy-run
-    part-copy-run-start
-    part-copy-run-end
-    copy-run-requires
+    sub-copy-all
+    part-copy-all-start
+    part-copy-all-end
+    copy-all-requires
     same-length
     returns)

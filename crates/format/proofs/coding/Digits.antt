@@ -1,4 +1,4 @@
--- Numbers and their digits, once over the base, the mark and the count.
+-- Numbers and their digits, once over the base, the flag and the count.
 use mathlib.Core.Path.{_≡_, refl, sym, _∙_}
 use Prim.Native.Nat.{ℕ, zero, suc, _+_, _-_, _*_, _/_, _%_, _≤_, _<_, _^_}
 use native.Mathlib.Nat.{div-add-mod', zero-div, zero-add, sub-zero, add-zero, mul-add-div-right, mul-add-mod-self-right, mod-eq-of-lt, div-eq-of-lt, div-lt-iff-lt-mul, pow-suc, pow-zero, suc-mul}
@@ -14,7 +14,7 @@ abbrev pub Fits : ℕ → ℕ → ℕ → Type 0
 Fits b zero n = n ≡ 0
 Fits b (suc k) n = Fits b k (n / b)
 
--- a digit of a base, with its mark
+-- a digit of a base, with its flag
 abbrev pub Digit : ℕ → ℕ → ℕ → Type 0
 Digit b m d = (m ≤ d) × (d - m < b)
 
@@ -64,20 +64,20 @@ bytes-digits (d ∷ ds) h = let l : d < 256 = h 0 in ((omega arith, omega arith)
 -- ---- the digits of a number
 
 module _ (b m : ℕ) where
-  -- every digit bears the mark
-  abbrev pub Marked : List ℕ → Type 0
-  Marked [] = Unit {0}
-  Marked (d ∷ ds) = (m ≤ d) × Marked ds
+  -- every digit bears the flag
+  abbrev pub Flagged : List ℕ → Type 0
+  Flagged [] = Unit {0}
+  Flagged (d ∷ ds) = (m ≤ d) × Flagged ds
 
-  marked-snoc : (ds : List ℕ) (d : ℕ) → Marked ds → m ≤ d → Marked (ds ++ (d ∷ []))
-  marked-snoc [] d h g = (g, tt)
-  marked-snoc (x ∷ ds) d h g = (h .0, marked-snoc ds d (h .1) g)
+  flagged-snoc : (ds : List ℕ) (d : ℕ) → Flagged ds → m ≤ d → Flagged (ds ++ (d ∷ []))
+  flagged-snoc [] d h g = (g, tt)
+  flagged-snoc (x ∷ ds) d h g = (h .0, flagged-snoc ds d (h .1) g)
 
-  pub digits-marked : (k n : ℕ) → Marked (digits b m k n)
+  pub digits-flagged : (k n : ℕ) → Flagged (digits b m k n)
   unfolding digits
-  digits-marked zero n = tt
-  digits-marked (suc k) zero = tt
-  digits-marked (suc k) (suc n) = marked-snoc (digits b m k (suc n / b)) _ (digits-marked k (suc n / b)) (omega arith)
+  digits-flagged zero n = tt
+  digits-flagged (suc k) zero = tt
+  digits-flagged (suc k) (suc n) = flagged-snoc (digits b m k (suc n / b)) _ (digits-flagged k (suc n / b)) (omega arith)
 
   pub digits-number : (k n : ℕ) → Fits b k n → number b m 0 (digits b m k n) ≡ n
   unfolding number digits
@@ -111,7 +111,7 @@ module _ (b m : ℕ) where
   digits-pos k zero p = absurd (omega arith)
   digits-pos k (suc n) p = refl
 
-  -- the first is no bare mark
+  -- the first is no bare flag
   pub digits-head : (k n : ℕ) (t : List ℕ) → Fits b k n → 0 < n → getD (digits b m k n ++ t) 0 0 ≡ m → ⊥
   unfolding digits
   digits-head zero n t h p e = omega arith
@@ -132,7 +132,7 @@ module _ (b m : ℕ) where
           omega arith
       go ih (suc q) z = ih (omega arith)
 
-  -- marked digits after a number that is not 0 are the digits of what they spell
+  -- flagged digits after a number that is not 0 are the digits of what they spell
   pub digits-acc : (k acc : ℕ) (ds : List ℕ) → 0 < acc → All (Digit b m) ds → digits b m (length ds + k) (number b m acc ds) ≡ digits b m k acc ++ ds
   unfolding number
   digits-acc k acc [] p g = rw (zero-add, append-nil)

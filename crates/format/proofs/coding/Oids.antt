@@ -14,7 +14,7 @@ use Rattle.format.specs.Coding.{Bytes, number, digits, oidGo, oid, tagOf
 use Rattle.format.specs.Valid.{All}
 use Rattle.format.proofs.words.Answers.{never, bind-then, need-then, ok-inj}
 use Rattle.format.proofs.words.Bytes.{Took}
-use Rattle.format.proofs.coding.Digits.{Fits, Digit, Marked, fits-more, number-fits, digits-marked, digits-number, digits-few, digits-zero, digits-pos, digits-head, digits-acc}
+use Rattle.format.proofs.coding.Digits.{Fits, Digit, Flagged, fits-more, number-fits, digits-flagged, digits-number, digits-few, digits-zero, digits-pos, digits-head, digits-acc}
 
 pub oid-some : (n : ℕ) → 0 < length (oidBytes n)
 unfolding oidBytes
@@ -22,7 +22,7 @@ oid-some n = simp length-append (omega arith)
 
 -- ---- written, then read
 
-oidGo-digits : (k bad n acc : ℕ) (ds t : List ℕ) → Marked 128 128 ds
+oidGo-digits : (k bad n acc : ℕ) (ds t : List ℕ) → Flagged 128 128 ds
     → oidGo (length ds + k) bad n acc (ds ++ t) ≡ oidGo k bad (n + length ds) (number 128 128 acc ds) t
 unfolding oidGo number
 oidGo-digits k bad n acc [] t h = simp (zero-add, add-zero)
@@ -47,7 +47,7 @@ oidGo-back k bad n t h q =
     rw (
       append-assoc,
       e,
-      oidGo-digits (suc j) bad 0 0 ds (n % 128 ∷ t) (digits-marked 128 128 8 (n / 128)),
+      oidGo-digits (suc j) bad 0 0 ds (n % 128 ∷ t) (digits-flagged 128 128 8 (n / 128)),
       oidGo-last j bad (0 + length ds) (number 128 128 0 ds) (n % 128) t (omega arith),
       v,
       div-add-mod' n 128,
@@ -80,7 +80,7 @@ tag-back n t p h = rw (oid-back 1 4 n t (omega arith) (omega arith), lt-ltb 0 n 
 
 -- ---- read, then written
 
--- marked digits, the first no bare mark, are the digits of their number
+-- flagged digits, the first no bare flag, are the digits of their number
 oid-digits : (ds t : List ℕ) → All (Digit 128 128) ds → length ds ≤ 8 → (getD (ds ++ t) 0 0 ≡ 128 → ⊥) → digits 128 128 8 (number 128 128 0 ds) ≡ ds
 unfolding number
 oid-digits [] t g l f = digits-zero 128 128 8
@@ -100,7 +100,7 @@ record Shape (k n acc : ℕ) (s : List ℕ) (r : Got ℕ) : Type 0 where
   last : ℕ
   rest : List ℕ
   whole : s ≡ ds ++ (last ∷ rest)
-  marked : All (Digit 128 128) ds
+  flagged : All (Digit 128 128) ds
   small : last < 128
   few : length ds < k
   val : r .val ≡ number 128 128 acc ds * 128 + last
@@ -121,7 +121,7 @@ oidGo-says (suc k) bad n acc (b ∷ s) r h e = go (λ z. oidGo-says k bad (suc n
           last = b;
           rest = s;
           whole = refl;
-          marked = tt;
+          flagged = tt;
           small = ltb-true b 128 z;
           few = omega arith;
           val = refl;
@@ -136,7 +136,7 @@ oidGo-says (suc k) bad n acc (b ∷ s) r h e = go (λ z. oidGo-says k bad (suc n
           last = c .last;
           rest = c .rest;
           whole = ap (λ x. b ∷ x) (c .whole);
-          marked = ((g, omega arith), c .marked);
+          flagged = ((g, omega arith), c .flagged);
           small = c .small;
           few = omega arith;
           val = c .val;
@@ -151,7 +151,7 @@ shape-fits : (k : ℕ) (s : List ℕ) (r : Got ℕ) → Shape k 0 0 s r → Fits
 shape-fits zero s r c = absurd (omega (arith, c .few))
 shape-fits (suc k) s r c =
     let q : r .val / 128 ≡ number 128 128 0 (c .ds) = omega (arith, c .val, c .small) in
-    rw q (fits-more 128 (length (c .ds) + 0) k (number 128 128 0 (c .ds)) (number-fits 128 128 0 0 (c .ds) refl (c .marked)) (omega (arith, c .few)))
+    rw q (fits-more 128 (length (c .ds) + 0) k (number 128 128 0 (c .ds)) (number-fits 128 128 0 0 (c .ds) refl (c .flagged)) (omega (arith, c .few)))
 
 shape-says : (k : ℕ) (s : List ℕ) (r : Got ℕ) → Shape k 0 0 s r → k ≤ 9 → (getD s 0 0 ≡ 128 → ⊥) → OidSaid k s r
 unfolding oidBytes
@@ -160,7 +160,7 @@ shape-says k s r c l f =
     let whole : s ≡ p ++ c .rest = c .whole ∙ sym (append-assoc (c .ds) (c .last ∷ []) (c .rest)) in
     let q : r .val / 128 ≡ number 128 128 0 (c .ds) = omega (arith, c .val, c .small) in
     let m : r .val % 128 ≡ c .last = omega (arith, c .val, c .small) in
-    let dg : digits 128 128 8 (number 128 128 0 (c .ds)) ≡ c .ds = oid-digits (c .ds) (c .last ∷ c .rest) (c .marked) (omega arith) (rw (c .whole) at f) in
+    let dg : digits 128 128 8 (number 128 128 0 (c .ds)) ≡ c .ds = oid-digits (c .ds) (c .last ∷ c .rest) (c .flagged) (omega arith) (rw (c .whole) at f) in
     let o : oidBytes (r .val) ≡ p = rw (q, m, dg) in
     let u : length p ≡ r .used = simp length-append (omega arith) in
     let d : drop (r .used) s ≡ c .rest = rw whole (drop-at p (c .rest) (r .used) u) in (

@@ -45,8 +45,8 @@ returns-2 c =
     let a = z .before .before in
     packs-short (normal-packs _ _ (a .before .before .check .ensures) (λ i. a .before .before .before .before .before .before .shared-slice-known .given i .fits) (a .c .given .1) (z .frame-size .ensures)) _ (normal-within _ _ (a .before .before .check .ensures) (λ i. a .before .before .before .before .before .before .shared-slice-known .given i .fits) (a .c .given .1) (z .frame-size .ensures)) (c .before .if1 .taken) (c .answer-of .ensures)
 
-copy-run-requires : tie.Need-copy-run-requires
-copy-run-requires c κs = omega (arith, c .before .before .if1 .left, c .before .if2 .taken)
+copy-all-requires : tie.Need-copy-all-requires
+copy-all-requires c κs = omega (arith, c .before .before .if1 .left, c .before .if2 .taken)
 
 answer-of-requires-2 : tie.Need-answer-of-requires-2
 answer-of-requires-2 c κs = search needs
@@ -61,7 +61,7 @@ returns-3 c =
     let z = q .before .before in
     let a = z .before .before in
     packs-done (normal-packs _ _ (a .before .before .check .ensures) (λ i. a .before .before .before .before .before .before .shared-slice-known .given i .fits) (a .c .given .1) (z .frame-size .ensures)) _ (normal-within _ _ (a .before .before .check .ensures) (λ i. a .before .before .before .before .before .before .shared-slice-known .given i .fits) (a .c .given .1) (z .frame-size .ensures)) (q .before .if1 .left)
-    (normal-copied _ _ (a .before .before .check .ensures) (λ i. a .before .before .before .before .before .before .shared-slice-known .given i .fits) (a .c .given .1) (z .frame-size .ensures) _ (q .if2 .taken) (p .copy-run .ensures .1)) (c .answer-of2 .ensures)
+    (normal-copied _ _ (a .before .before .check .ensures) (λ i. a .before .before .before .before .before .before .shared-slice-known .given i .fits) (a .c .given .1) (z .frame-size .ensures) _ (q .if2 .taken) (p .copy-all .ensures .1)) (c .answer-of2 .ensures)
 
 set-start-requires : tie.Need-set-start-requires
 set-start-requires c κs =
@@ -178,7 +178,7 @@ normalise-spec =
     frame-size-requires
     answer-of-requires
     returns-2
-    copy-run-requires
+    copy-all-requires
     answer-of-requires-2
     same-length
     returns-3

@@ -36,11 +36,11 @@ use Rattle.quick_packs.proofs.model_of.Reads as model-of-reads
 use Rattle.quick_packs.proofs.unmodelled.Reads as unmodelled-reads
 
 abbrev Inv-loop : tie.InvT-loop
-Inv-loop glances s alone bits₀ p₀ rows₀ more₀ top₀ low₀ marks₀ m₀ misses₀ bits p rows more top low marks m misses =
-    SeriesGoing (formOf alone) s p (packedSizes p rows more) top low × (p ≡ 0 → low ≡ 18446744073709551615) × (0 < p → low ≤ top) × Modelled alone marks s m × (m .from ≤ p) × (misses ≤ p) × Noted (peek false true false) s bits p × (length bits ≡ length bits₀)
+Inv-loop glances s alone bits₀ p₀ rows₀ more₀ top₀ low₀ masks₀ m₀ misses₀ bits p rows more top low masks m misses =
+    SeriesGoing (formOf alone) s p (packedSizes p rows more) top low × (p ≡ 0 → low ≡ 18446744073709551615) × (0 < p → low ≤ top) × Modelled alone masks s m × (m .from ≤ p) × (misses ≤ p) × Noted (peek false true false) s bits p × (length bits ≡ length bits₀)
 
 abbrev μ-loop : tie.MeasureT-loop
-μ-loop glances s alone bits₀ p₀ rows₀ more₀ top₀ low₀ marks₀ m₀ misses₀ bits p rows more top low marks m misses =
+μ-loop glances s alone bits₀ p₀ rows₀ more₀ top₀ low₀ masks₀ m₀ misses₀ bits p rows more top low masks m misses =
     length s - p
 
 abbrev claims : lts.Claims
@@ -85,7 +85,7 @@ fresh j =
     (j .if1 .came)
 
 -- the model then, as which this pack's items are told
-model : (j : lts.Joined5 claims reads.Pre reads.Post Inv-loop μ-loop) → Modelled (j .before .before .before .before .before .before .before .before .before .before .before .before .before .before .before .before .before .before .before .args .alone) (j .if5 .marks) (j .before .before .before .before .before .before .before .before .before .before .before .before .before .before .before .before .before .before .before .args .s .now) (j .if5 .m) × (j .if5 .m .from ≤ j .before .before .before .before .before .before .before .before .before .before .before .before .before .before .loop .p + j .before .before .before .before .before .before .before .before .before .h .given .0 .1 .1 .0 + j .before .before .before .before .before .before .before .before .before .h .given .0 .1 .0) × Told (j .before .before .before .before .before .before .before .before .before .before .before .before .before .before .before .before .before .before .before .args .alone) (take (j .before .before .before .before .before .before .before .before .before .before .before .before .before .before .loop .p + j .before .before .before .before .before .before .before .before .before .h .given .0 .1 .1 .0 + j .before .before .before .before .before .before .before .before .before .h .given .0 .1 .1 .1 .0 - (j .before .before .before .before .before .before .before .before .before .before .before .before .before .before .loop .p + j .before .before .before .before .before .before .before .before .before .h .given .0 .1 .1 .0 + j .before .before .before .before .before .before .before .before .before .h .given .0 .1 .0)) (drop (j .before .before .before .before .before .before .before .before .before .before .before .before .before .before .loop .p + j .before .before .before .before .before .before .before .before .before .h .given .0 .1 .1 .0 + j .before .before .before .before .before .before .before .before .before .h .given .0 .1 .0) (j .before .before .before .before .before .before .before .before .before .before .before .before .before .before .before .before .before .before .before .args .s .now))) (j .if5 .m .rows) × (j .if5 .misses ≤ j .before .before .before .before .before .before .before .before .before .before .before .before .before .before .loop .p + 1)
+model : (j : lts.Joined5 claims reads.Pre reads.Post Inv-loop μ-loop) → Modelled (j .before .before .before .before .before .before .before .before .before .before .before .before .before .before .before .before .before .before .before .args .alone) (j .if5 .masks) (j .before .before .before .before .before .before .before .before .before .before .before .before .before .before .before .before .before .before .before .args .s .now) (j .if5 .m) × (j .if5 .m .from ≤ j .before .before .before .before .before .before .before .before .before .before .before .before .before .before .loop .p + j .before .before .before .before .before .before .before .before .before .h .given .0 .1 .1 .0 + j .before .before .before .before .before .before .before .before .before .h .given .0 .1 .0) × Told (j .before .before .before .before .before .before .before .before .before .before .before .before .before .before .before .before .before .before .before .args .alone) (take (j .before .before .before .before .before .before .before .before .before .before .before .before .before .before .loop .p + j .before .before .before .before .before .before .before .before .before .h .given .0 .1 .1 .0 + j .before .before .before .before .before .before .before .before .before .h .given .0 .1 .1 .1 .0 - (j .before .before .before .before .before .before .before .before .before .before .before .before .before .before .loop .p + j .before .before .before .before .before .before .before .before .before .h .given .0 .1 .1 .0 + j .before .before .before .before .before .before .before .before .before .h .given .0 .1 .0)) (drop (j .before .before .before .before .before .before .before .before .before .before .before .before .before .before .loop .p + j .before .before .before .before .before .before .before .before .before .h .given .0 .1 .1 .0 + j .before .before .before .before .before .before .before .before .before .h .given .0 .1 .0) (j .before .before .before .before .before .before .before .before .before .before .before .before .before .before .before .before .before .before .before .args .s .now))) (j .if5 .m .rows) × (j .if5 .misses ≤ j .before .before .before .before .before .before .before .before .before .before .before .before .before .before .loop .p + 1)
 model j =
     let a = j .before .before .before .before .before .before .before .before .before in
     let i = j .before .before .before .before .before .before .before .before .before .before .before .before .before .before .loop .inv in

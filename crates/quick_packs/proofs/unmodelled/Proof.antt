@@ -7,17 +7,17 @@ use borrow.Author.Needs.{needs}
 use Rattle.quick_packs.proofs.unmodelled.Statement.{statement}
 use Rattle.quick_packs.proofs.unmodelled.Tie as tie
 
-sub-run : tie.Need-sub-run
-sub-run c = search needs
+sub-glance-items : tie.Need-sub-glance-items
+sub-glance-items c = search needs
 
-part-run-start : tie.Need-part-run-start
-part-run-start c = search needs
+part-glance-items-start : tie.Need-part-glance-items-start
+part-glance-items-start c = search needs
 
-part-run-end : tie.Need-part-run-end
-part-run-end c = search needs
+part-glance-items-end : tie.Need-part-glance-items-end
+part-glance-items-end c = search needs
 
-run-requires : tie.Need-run-requires
-run-requires c κs = search needs
+glance-items-requires : tie.Need-glance-items-requires
+glance-items-requires c κs = search needs
 
 sub-if1 : tie.Need-sub-if1
 sub-if1 c = search needs
@@ -44,16 +44,16 @@ returns-3 : tie.Need-returns-3
 returns-3 c =
     let a = c .before .before .before .before .before .before .before .before .before in
     let long = part-long (a .args .s .now) (a .args .from) (a .args .next) (a .pre .1) (a .pre .2) in
-    (refl, refl, λ _. run-told (a .args .alone) (c .before .before .before .before .before .run .ensures) (omega (arith, long, c .before .before .before .if1 .left)) (sym (c .before .before .either .ensures) ∙ not-false _ (c .before .if2 .left)))
+    (refl, refl, λ _. run-told (a .args .alone) (c .before .before .before .before .before .glance-items .ensures) (omega (arith, long, c .before .before .before .if1 .left)) (sym (c .before .before .either .ensures) ∙ not-false _ (c .before .if2 .left)))
 
 pub unmodelled-spec : {M : Type 1} → statement M
 unmodelled-spec =
     tie.close
     (tie.spec
-    sub-run
-    part-run-start
-    part-run-end
-    run-requires
+    sub-glance-items
+    part-glance-items-start
+    part-glance-items-end
+    glance-items-requires
     sub-if1
     no-model-requires
     returns

@@ -55,8 +55,8 @@ loop-holds c = (le-refl _, rw (c .above7 .ensures) (digits-start 128 128 _ _ 8 _
 sub-i-2 : tie.Need-sub-i-2 Inv-loop μ-loop
 sub-i-2 c = omega arith
 
-marked7-requires : tie.Need-marked7-requires Inv-loop μ-loop
-marked7-requires c κs = search needs
+more7-requires : tie.Need-more7-requires Inv-loop μ-loop
+more7-requires c κs = search needs
 
 add-out-2 : tie.Need-add-out-2 Inv-loop μ-loop
 add-out-2 c = omega arith
@@ -71,7 +71,7 @@ loop-less : tie.Need-loop-less Inv-loop μ-loop
 loop-less c = omega arith
 
 loop-again : tie.Need-loop-again Inv-loop μ-loop
-loop-again c = (omega arith, digits-step 128 128 _ _ _ _ _ _ (c .before .before .before .loop .inv .1) (omega arith) (c .before .marked7 .ensures) (c .above72 .ensures))
+loop-again c = (omega arith, digits-step 128 128 _ _ _ _ _ _ (c .before .before .before .loop .inv .1) (omega arith) (c .before .more7 .ensures) (c .above72 .ensures))
 
 add-result-2 : tie.Need-add-result-2 Inv-loop μ-loop
 add-result-2 c = omega arith
@@ -101,7 +101,7 @@ put-oid-spec =
     above7-requires
     loop-holds
     sub-i-2
-    marked7-requires
+    more7-requires
     add-out-2
     slice-write-out-3
     above7-requires-2

@@ -74,23 +74,23 @@ same-length-4 c = search needs
 returns-5 : tie.Need-returns-5
 returns-5 c = (refl, copy-done (copy-ends (begun (c .before .before .before .before .before .before .before .before .before .before .before .before .before .before)) 8 (omega arith) (c .before .before .before .before .before .before .move-eight .ensures) (c .before .before .move-eight2 .ensures)) (omega arith))
 
-sub-copy-run : tie.Need-sub-copy-run
-sub-copy-run c = search needs
+sub-copy-all : tie.Need-sub-copy-all
+sub-copy-all c = search needs
 
-part-copy-run-start : tie.Need-part-copy-run-start
-part-copy-run-start c = search needs
+part-copy-all-start : tie.Need-part-copy-all-start
+part-copy-all-start c = search needs
 
-part-copy-run-end : tie.Need-part-copy-run-end
-part-copy-run-end c = search needs
+part-copy-all-end : tie.Need-part-copy-all-end
+part-copy-all-end c = search needs
 
-copy-run-requires : tie.Need-copy-run-requires
-copy-run-requires c κs = search needs
+copy-all-requires : tie.Need-copy-all-requires
+copy-all-requires c κs = search needs
 
 same-length-5 : tie.Need-same-length-5
 same-length-5 c = search needs
 
 returns-6 : tie.Need-returns-6
-returns-6 c = rw (tail-part 0 (c .before .before .before .before .before .before .before .before .before .before .before .args .s .now)) at (c .before .before .copy-run .ensures)
+returns-6 c = rw (tail-part 0 (c .before .before .before .before .before .before .before .before .before .before .before .args .s .now)) at (c .before .before .copy-all .ensures)
 
 pub copy-spec : {M : Type 1} → statement M
 copy-spec =
@@ -117,9 +117,9 @@ copy-spec =
     add-result-4
     same-length-4
     returns-5
-    sub-copy-run
-    part-copy-run-start
-    part-copy-run-end
-    copy-run-requires
+    sub-copy-all
+    part-copy-all-start
+    part-copy-all-end
+    copy-all-requires
     same-length-5
     returns-6)

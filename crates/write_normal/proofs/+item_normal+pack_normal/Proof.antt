@@ -23,7 +23,7 @@ use Rattle.heads.proofs.quick_pack_head.Reads as quick-pack-head-reads
 use Rattle.write_normal.proofs.put_normal.Reads as put-normal-reads
 use Rattle.write_normal.proofs.put_pack.Reads as put-pack-reads
 use Rattle.write_normal.proofs.put_series.Reads as put-series-reads
-use Rattle.stores.proofs.copy_run.Reads as copy-run-reads
+use Rattle.stores.proofs.copy_all.Reads as copy-all-reads
 use Rattle.tally.proofs.is_series.Reads as is-series-reads
 use Rattle.check_items.proofs.item_walk.Reads as item-walk-reads
 use Rattle.write_normal.proofs.+item_normal+pack_normal.{statement}
@@ -53,7 +53,7 @@ abbrev item-claims : ℕ → item-normal-lts.Claims
 item-claims t = (item-head-reads.Asked, item-head-reads.Learnt, is-series-reads.Asked, is-series-reads.Learnt, put-series-reads.Asked, put-series-reads.Learnt, pack-normal-below t, pack-normal.Post, put-normal-reads.Asked, put-normal-reads.Learnt)
 
 abbrev pack-claims : ℕ → pack-normal-lts.Claims
-pack-claims t = (quick-pack-head-reads.Asked, quick-pack-head-reads.Learnt, item-walk-reads.Asked, item-walk-reads.Learnt, put-pack-reads.Asked, put-pack-reads.Learnt, copy-run-reads.Asked, copy-run-reads.Learnt, item-normal-below t, item-normal.Post)
+pack-claims t = (quick-pack-head-reads.Asked, quick-pack-head-reads.Learnt, item-walk-reads.Asked, item-walk-reads.Learnt, put-pack-reads.Asked, put-pack-reads.Learnt, copy-all-reads.Asked, copy-all-reads.Learnt, item-normal-below t, item-normal.Post)
 
 -- ---- the item walk
 
@@ -269,17 +269,17 @@ pack-normal-add-n t c = omega (arith, body-few (pack-at t (c .before .before .be
 pack-normal-put-pack-requires : (t : ℕ) → pack-normal-lts.Need-put-pack-requires (pack-claims t) (pack-normal-at t) pack-normal.Post pack-normal-Inv-loop pack-normal-μ-loop
 pack-normal-put-pack-requires t c κs = pack-asked (pack-at t (c .before .before .before .before .before .before .before .before .before)) (c .before .before .before .before .before .item-walk .ensures) (c .before .before .before .w .given .1)
 
-pack-normal-sub-copy-run : (t : ℕ) → pack-normal-lts.Need-sub-copy-run (pack-claims t) (pack-normal-at t) pack-normal.Post pack-normal-Inv-loop pack-normal-μ-loop
-pack-normal-sub-copy-run t c = omega (arith, pack-room (pack-at t (c .before .before .before .before .before .before .before .before .before .before .before .before .before .before)))
+pack-normal-sub-copy-all : (t : ℕ) → pack-normal-lts.Need-sub-copy-all (pack-claims t) (pack-normal-at t) pack-normal.Post pack-normal-Inv-loop pack-normal-μ-loop
+pack-normal-sub-copy-all t c = omega (arith, pack-room (pack-at t (c .before .before .before .before .before .before .before .before .before .before .before .before .before .before)))
 
-pack-normal-part-copy-run-start : (t : ℕ) → pack-normal-lts.Need-part-copy-run-start (pack-claims t) (pack-normal-at t) pack-normal.Post pack-normal-Inv-loop pack-normal-μ-loop
-pack-normal-part-copy-run-start t c = omega (arith, pack-room (pack-at t (c .before .before .before .before .before .before .before .before .before .before .before .before .before .before)))
+pack-normal-part-copy-all-start : (t : ℕ) → pack-normal-lts.Need-part-copy-all-start (pack-claims t) (pack-normal-at t) pack-normal.Post pack-normal-Inv-loop pack-normal-μ-loop
+pack-normal-part-copy-all-start t c = omega (arith, pack-room (pack-at t (c .before .before .before .before .before .before .before .before .before .before .before .before .before .before)))
 
-pack-normal-part-copy-run-end : (t : ℕ) → pack-normal-lts.Need-part-copy-run-end (pack-claims t) (pack-normal-at t) pack-normal.Post pack-normal-Inv-loop pack-normal-μ-loop
-pack-normal-part-copy-run-end t c = omega (arith, pack-room (pack-at t (c .before .before .before .before .before .before .before .before .before .before .before .before .before .before)))
+pack-normal-part-copy-all-end : (t : ℕ) → pack-normal-lts.Need-part-copy-all-end (pack-claims t) (pack-normal-at t) pack-normal.Post pack-normal-Inv-loop pack-normal-μ-loop
+pack-normal-part-copy-all-end t c = omega (arith, pack-room (pack-at t (c .before .before .before .before .before .before .before .before .before .before .before .before .before .before)))
 
-pack-normal-copy-run-requires : (t : ℕ) → pack-normal-lts.Need-copy-run-requires (pack-claims t) (pack-normal-at t) pack-normal.Post pack-normal-Inv-loop pack-normal-μ-loop
-pack-normal-copy-run-requires t c κs = copy-asked (pack-at t (c .before .before .before .before .before .before .before .before .before .before .before .before .before .before .before)) (c .before .before .before .before .before .before .before .before .before .before .before .item-walk .ensures) (c .before .before .before .before .before .before .before .before .before .w .given .1) (c .before .before .before .before .before .put-pack .ensures) (c .before .before .if1 .taken)
+pack-normal-copy-all-requires : (t : ℕ) → pack-normal-lts.Need-copy-all-requires (pack-claims t) (pack-normal-at t) pack-normal.Post pack-normal-Inv-loop pack-normal-μ-loop
+pack-normal-copy-all-requires t c κs = copy-asked (pack-at t (c .before .before .before .before .before .before .before .before .before .before .before .before .before .before .before)) (c .before .before .before .before .before .before .before .before .before .before .before .item-walk .ensures) (c .before .before .before .before .before .before .before .before .before .w .given .1) (c .before .before .before .before .before .put-pack .ensures) (c .before .before .if1 .taken)
 
 pack-normal-sub-item-normal : (t : ℕ) → pack-normal-lts.Need-sub-item-normal (pack-claims t) (pack-normal-at t) pack-normal.Post pack-normal-Inv-loop pack-normal-μ-loop
 pack-normal-sub-item-normal t c = omega (arith, pack-room (pack-at t (c .before .before .before .before .before .before .before .before .before .before .before .before .before)))
@@ -309,7 +309,7 @@ pack-normal-loop-less : (t : ℕ) → pack-normal-lts.Need-loop-less (pack-claim
 pack-normal-loop-less t c = omega (arith, pack-room (pack-at t (c .before .before .before .before .before .before .before .before .before .before .before .before .before .before .before .before .before .before)))
 
 pack-normal-loop-again : (t : ℕ) → pack-normal-lts.Need-loop-again (pack-claims t) (pack-normal-at t) pack-normal.Post pack-normal-Inv-loop pack-normal-μ-loop
-pack-normal-loop-again t c = copied-more (pack-at t (c .before .before .before .before .before .before .before .before .before .before .before .before .before .before .before .before .before .before)) (c .before .before .before .before .before .before .before .before .before .before .before .before .before .before .item-walk .ensures) (c .before .before .before .before .before .before .before .before .before .before .before .before .w .given .1) (c .before .before .before .before .before .before .before .before .put-pack .ensures) (c .before .before .before .before .before .if1 .taken) (c .before .before .copy-run .ensures)
+pack-normal-loop-again t c = copied-more (pack-at t (c .before .before .before .before .before .before .before .before .before .before .before .before .before .before .before .before .before .before)) (c .before .before .before .before .before .before .before .before .before .before .before .before .before .before .item-walk .ensures) (c .before .before .before .before .before .before .before .before .before .before .before .before .w .given .1) (c .before .before .before .before .before .before .before .before .put-pack .ensures) (c .before .before .before .before .before .if1 .taken) (c .before .before .copy-all .ensures)
 
 pack-normal-loop-less-2 : (t : ℕ) → pack-normal-lts.Need-loop-less-2 (pack-claims t) (pack-normal-at t) pack-normal.Post pack-normal-Inv-loop pack-normal-μ-loop
 pack-normal-loop-less-2 t c = omega (arith, pack-room (pack-at t (c .before .before .before .before .before .before .before .before .before .before .before .before .before .before .before .before .before .before .before)))
@@ -341,8 +341,8 @@ pub +item-normal+pack-normal-spec : {M : Type 1} → statement M
     (pack-normal-returns t) (pack-normal-add-from t) (pack-normal-add-from-2 t) (pack-normal-add-next t)
     (pack-normal-add-next-2 t) (pack-normal-sub-item-walk t) (pack-normal-part-item-walk-start t) (pack-normal-part-item-walk-end t)
     (pack-normal-item-walk-requires t) (pack-normal-enum-known-w t) (pack-normal-enum-told-2 t) (pack-normal-same-length-2 t)
-    (pack-normal-returns-2 t) (pack-normal-add-n t) (pack-normal-put-pack-requires t) (pack-normal-sub-copy-run t)
-    (pack-normal-part-copy-run-start t) (pack-normal-part-copy-run-end t) (pack-normal-copy-run-requires t) (pack-normal-sub-item-normal t)
+    (pack-normal-returns-2 t) (pack-normal-add-n t) (pack-normal-put-pack-requires t) (pack-normal-sub-copy-all t)
+    (pack-normal-part-copy-all-start t) (pack-normal-part-copy-all-end t) (pack-normal-copy-all-requires t) (pack-normal-sub-item-normal t)
     (pack-normal-part-item-normal-start t) (pack-normal-part-item-normal-end t) (pack-normal-sub-item-normal-2 t) (pack-normal-part-item-normal-start-2 t)
     (pack-normal-part-item-normal-end-2 t) (pack-normal-item-normal-requires t) (pack-normal-add-k t) (pack-normal-loop-less t)
     (pack-normal-loop-again t) (pack-normal-loop-less-2 t) (pack-normal-loop-again-2 t) (pack-normal-same-length-3 t)

@@ -53,8 +53,8 @@ returns-3 c = short-head (c .before .before .before .before .args .n) (c .before
 above7-requires : tie.Need-above7-requires
 above7-requires c κs = search needs
 
-marked7-requires : tie.Need-marked7-requires
-marked7-requires c κs = search needs
+more7-requires : tie.Need-more7-requires
+more7-requires c κs = search needs
 
 slice-write-out-3 : tie.Need-slice-write-out-3
 slice-write-out-3 c =
@@ -81,7 +81,7 @@ same-length-4 c = search needs
 returns-4 : tie.Need-returns-4
 returns-4 c =
     let i = c .before .before .before .before .before .before .before in
-    short-head (i .args .n) (i .args .id) (i .args .out .now) (i .args .at) (omega arith) (two-oid _ _ _ (omega arith) (omega arith) (c .before .before .above7 .ensures) (c .before .marked7 .ensures) (c .low7 .ensures))
+    short-head (i .args .n) (i .args .id) (i .args .out .now) (i .args .at) (omega arith) (two-oid _ _ _ (omega arith) (omega arith) (c .before .before .above7 .ensures) (c .before .more7 .ensures) (c .low7 .ensures))
 
 pub put-head-spec : {M : Type 1} → statement M
 put-head-spec =
@@ -102,7 +102,7 @@ put-head-spec =
     same-length-3
     returns-3
     above7-requires
-    marked7-requires
+    more7-requires
     slice-write-out-3
     low7-requires
     add-out

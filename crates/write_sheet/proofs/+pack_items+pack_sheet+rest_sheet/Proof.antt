@@ -26,7 +26,7 @@ use Rattle.write_sheet.proofs.pack_sheet.Kinds as pack-sheet-kinds
 use Rattle.write_sheet.proofs.+pack_items+pack_sheet+rest_sheet.Lts-pack_sheet as pack-sheet-lts
 use Rattle.heads.proofs.item_head.Reads as item-head-reads
 use Rattle.heads.proofs.quick_pack_head.Reads as quick-pack-head-reads
-use Rattle.write_sheet.proofs.quick.run.Reads as run-reads
+use Rattle.write_sheet.proofs.quick.small_items.Reads as small-items-reads
 use Rattle.write_sheet.proofs.quick.packs.Reads as packs-reads
 use Rattle.write_sheet.proofs.put_plain.Reads as put-plain-reads
 use Rattle.write_sheet.proofs.put_target.Reads as put-target-reads
@@ -68,7 +68,7 @@ abbrev rest-claims : ℕ → rest-sheet-lts.Claims
 rest-claims t = (item-head-reads.Asked, item-head-reads.Learnt, is-series-reads.Asked, is-series-reads.Learnt, put-number-reads.Asked, put-number-reads.Learnt, pack-sheet-below t, pack-sheet.Post, put-plain-reads.Asked, put-plain-reads.Learnt)
 
 abbrev items-claims : ℕ → pack-items-lts.Claims
-items-claims t = (run-reads.Asked, run-reads.Learnt, rest-sheet-below t, rest-sheet.Post)
+items-claims t = (small-items-reads.Asked, small-items-reads.Learnt, rest-sheet-below t, rest-sheet.Post)
 
 abbrev pack-claims : ℕ → pack-sheet-lts.Claims
 pack-claims t = (packs-reads.Asked, packs-reads.Learnt, quick-pack-head-reads.Asked, quick-pack-head-reads.Learnt, put-target-reads.Asked, put-target-reads.Learnt, pack-items-below t, pack-items.Post)
@@ -200,27 +200,27 @@ rest-sheet-returns-2 t c = (level-done (c .before .loop .inv (c .before .before 
 -- ---- the items of a pack
 
 -- where the quick way stopped
-gone : (t : ℕ) (a : pack-items-lts.After-run (items-claims t) (pack-items-at t) pack-items.Post)
-    → LevelSheets false (formOf (a .before .before .before .before .before .args .alone)) (a .before .before .before .before .before .args .s .now) (a .before .before .before .before .before .args .out .now) (a .run .last .1 .1 .0) (a .run .result .used) (a .run .result .wrote)
-gone t a = record { writes = a .run .ensures }
+gone : (t : ℕ) (a : pack-items-lts.After-small-items (items-claims t) (pack-items-at t) pack-items.Post)
+    → LevelSheets false (formOf (a .before .before .before .before .before .args .alone)) (a .before .before .before .before .before .args .s .now) (a .before .before .before .before .before .args .out .now) (a .small-items .last .1 .1 .0) (a .small-items .result .used) (a .small-items .result .wrote)
+gone t a = record { writes = a .small-items .ensures }
 
-pack-items-run-requires : (t : ℕ) → pack-items-lts.Need-run-requires (items-claims t) (pack-items-at t) pack-items.Post
-pack-items-run-requires t c κs = c .before .before .before .before .pre .1 .1
+pack-items-small-items-requires : (t : ℕ) → pack-items-lts.Need-small-items-requires (items-claims t) (pack-items-at t) pack-items.Post
+pack-items-small-items-requires t c κs = c .before .before .before .before .pre .1 .1
 
 pack-items-same-length : (t : ℕ) → pack-items-lts.Need-same-length (items-claims t) (pack-items-at t) pack-items.Post
-pack-items-same-length t c = c .before .before .before .run .ensures .same
+pack-items-same-length t c = c .before .before .before .small-items .ensures .same
 
 pack-items-returns : (t : ℕ) → pack-items-lts.Need-returns (items-claims t) (pack-items-at t) pack-items.Post
 pack-items-returns t c = level-done (gone t (c .before .before .before)) (c .if1 .taken)
 
 pack-items-rest-sheet-requires : (t : ℕ) → pack-items-lts.Need-rest-sheet-requires (items-claims t) (pack-items-at t) pack-items.Post
-pack-items-rest-sheet-requires t c κs = (omega (arith, c .before .before .before .before .before .before .before .before .before .pre .0), (c .before .before .before .before .before .before .before .before .before .pre .1 .0, (c .before .before .before .before .before .before .before .before .before .pre .1 .1 .0, omega (arith, c .before .before .before .before .before .before .before .before .before .pre .1 .1 .2, c .before .before .before .before .run .ensures .same), (c .before .before .before .before .before .before .before .before .before .args .out .now, c .before .before .before .before .run .ensures))))
+pack-items-rest-sheet-requires t c κs = (omega (arith, c .before .before .before .before .before .before .before .before .before .pre .0), (c .before .before .before .before .before .before .before .before .before .pre .1 .0, (c .before .before .before .before .before .before .before .before .before .pre .1 .1 .0, omega (arith, c .before .before .before .before .before .before .before .before .before .pre .1 .1 .2, c .before .before .before .before .small-items .ensures .same), (c .before .before .before .before .before .before .before .before .before .args .out .now, c .before .before .before .before .small-items .ensures))))
 
 pack-items-same-length-2 : (t : ℕ) → pack-items-lts.Need-same-length-2 (items-claims t) (pack-items-at t) pack-items.Post
-pack-items-same-length-2 t c = ap length (c .before .before .rest-sheet .ensures .1 (c .before .before .before .before .before .before .before .before .before .before .before .before .args .out .now) (c .before .before .before .before .before .before .before .run .ensures)) ∙ simp length-sets
+pack-items-same-length-2 t c = ap length (c .before .before .rest-sheet .ensures .1 (c .before .before .before .before .before .before .before .before .before .before .before .before .args .out .now) (c .before .before .before .before .before .before .before .small-items .ensures)) ∙ simp length-sets
 
 pack-items-returns-2 : (t : ℕ) → pack-items-lts.Need-returns-2 (items-claims t) (pack-items-at t) pack-items.Post
-pack-items-returns-2 t c = (c .before .before .rest-sheet .ensures .0, c .before .before .rest-sheet .ensures .1 (c .before .before .before .before .before .before .before .before .before .before .before .before .args .out .now) (c .before .before .before .before .before .before .before .run .ensures))
+pack-items-returns-2 t c = (c .before .before .rest-sheet .ensures .0, c .before .before .rest-sheet .ensures .1 (c .before .before .before .before .before .before .before .before .before .before .before .before .args .out .now) (c .before .before .before .before .before .before .before .small-items .ensures))
 
 -- ---- the pack walk
 
@@ -335,7 +335,7 @@ pub +pack-items+pack-sheet+rest-sheet-spec : {M : Type 1} → statement M
 +pack-items+pack-sheet+rest-sheet-spec =
     close μ-pack-items μ-pack-sheet μ-rest-sheet
     (λ t. pack-items-lts.spec (items-claims t) (pack-items-at t) pack-items.Post
-    (pack-items-run-requires t) (pack-items-same-length t) (pack-items-returns t) (pack-items-rest-sheet-requires t) (pack-items-same-length-2 t) (pack-items-returns-2 t))
+    (pack-items-small-items-requires t) (pack-items-same-length t) (pack-items-returns t) (pack-items-rest-sheet-requires t) (pack-items-same-length-2 t) (pack-items-returns-2 t))
     (λ t. pack-sheet-lts.spec (pack-claims t) (pack-sheet-at t) pack-sheet.Post pack-sheet-Inv-loop pack-sheet-μ-loop
     (pack-sheet-packs-requires t) (pack-sheet-loop-holds t) (pack-sheet-sub-quick-pack-head t) (pack-sheet-part-quick-pack-head-start t) (pack-sheet-part-quick-pack-head-end t) (pack-sheet-quick-pack-head-requires t) (pack-sheet-enum-known-h t)
     (pack-sheet-enum-told t) (pack-sheet-same-length t) (pack-sheet-returns t) (pack-sheet-add-from t) (pack-sheet-add-from-2 t) (pack-sheet-add-next t)

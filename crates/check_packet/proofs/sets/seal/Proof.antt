@@ -22,7 +22,7 @@ use Rattle.tally.proofs.weights.plus.Reads as plus-reads
 abbrev Head-read : Type 0
 Head-read = lts.After-h (head-at-reads.Asked, head-at-reads.Learnt, is-seal-next-reads.Asked, is-seal-next-reads.Learnt, plain-sizes-reads.Asked, plain-sizes-reads.Learnt, plus-reads.Asked, plus-reads.Learnt, larger-reads.Asked, larger-reads.Learnt, stands-reads.Asked, stands-reads.Learnt) reads.Pre reads.Post
 
-here : (a : Head-read) → HeadAt (formOf (a .before .before .before .before .args .alone)) (a .before .before .before .before .args .s .now) (a .before .before .before .before .args .q .at) (a .before .before .before .before .args .q .sizes) (a .before .before .before .before .args .q .mark) (a .before .before .before .before .args .q .top) (a .before .before .before .before .args .q .low) (a .h .given .0 .0) (a .h .given .0 .1 .0) (a .h .given .0 .1 .1 .0) (a .h .given .0 .1 .1 .1 .0)
+here : (a : Head-read) → HeadAt (formOf (a .before .before .before .before .args .alone)) (a .before .before .before .before .args .s .now) (a .before .before .before .before .args .q .at) (a .before .before .before .before .args .q .sizes) (a .before .before .before .before .args .q .held) (a .before .before .before .before .args .q .top) (a .before .before .before .before .args .q .low) (a .h .given .0 .0) (a .h .given .0 .1 .0) (a .h .given .0 .1 .1 .0) (a .h .given .0 .1 .1 .1 .0)
 here a = record {
   going = a .before .before .before .before .pre .1;
   it = a .before .before .head-at .result;

@@ -27,7 +27,7 @@ claims = (head-at-reads.Asked, head-at-reads.Learnt, is-series-next-reads.Asked,
 abbrev Head-read : Type 0
 Head-read = lts.After-h claims reads.Pre reads.Post
 
-here : (a : Head-read) → HeadAt (formOf (a .before .before .before .before .before .args .alone)) (a .before .before .before .before .before .args .s .now) (a .before .before .before .before .before .args .q .at) (a .before .before .before .before .before .args .q .sizes) (a .before .before .before .before .before .args .q .mark) (a .before .before .before .before .before .args .q .top) (a .before .before .before .before .before .args .q .low) (a .h .given .0 .0) (a .h .given .0 .1 .0) (a .h .given .0 .1 .1 .0) (a .h .given .0 .1 .1 .1 .0)
+here : (a : Head-read) → HeadAt (formOf (a .before .before .before .before .before .args .alone)) (a .before .before .before .before .before .args .s .now) (a .before .before .before .before .before .args .q .at) (a .before .before .before .before .before .args .q .sizes) (a .before .before .before .before .before .args .q .held) (a .before .before .before .before .before .args .q .top) (a .before .before .before .before .before .args .q .low) (a .h .given .0 .0) (a .h .given .0 .1 .0) (a .h .given .0 .1 .1 .0) (a .h .given .0 .1 .1 .1 .0)
 here a = record {
   going = a .before .before .before .before .before .pre .2;
   it = a .before .before .head-at .result;

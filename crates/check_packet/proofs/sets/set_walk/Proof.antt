@@ -7,11 +7,11 @@ use Rattle.tally.proofs.Turns.{turn-done, told-as}
 use Rattle.check_packet.proofs.sets.set_walk.Statement.{statement}
 use Rattle.check_packet.proofs.sets.set_walk.Tie as tie
 
-run-requires : tie.Need-run-requires
-run-requires c κs = c .before .before .pre
+glance-items-requires : tie.Need-glance-items-requires
+glance-items-requires c κs = c .before .before .pre
 
 series-requires : tie.Need-series-requires
-series-requires c κs = (c .before .before .before .pre .0, c .before .before .before .pre .1, c .run .ensures .0)
+series-requires c κs = (c .before .before .before .pre .0, c .before .before .before .pre .1, c .glance-items .ensures .0)
 
 walked-requires : tie.Need-walked-requires
 walked-requires c κs = search needs
@@ -38,7 +38,7 @@ pub set-walk-spec : {M : Type 1} → statement M
 set-walk-spec =
     tie.close
     (tie.spec
-    run-requires
+    glance-items-requires
     series-requires
     walked-requires
     returns

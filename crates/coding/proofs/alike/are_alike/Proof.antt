@@ -12,10 +12,10 @@ use Rattle.coding.proofs.alike.are_alike.Statement.{statement}
 use Rattle.coding.proofs.alike.are_alike.Tie as tie
 
 abbrev Inv-loop : tie.InvT-loop
-Inv-loop marks a b n i₀ i = (i ≤ length b) × (i ≤ n + 31) × AlikeTo marks a b i
+Inv-loop masks a b n i₀ i = (i ≤ length b) × (i ≤ n + 31) × AlikeTo masks a b i
 
 abbrev μ-loop : tie.MeasureT-loop
-μ-loop marks a b n i₀ i = n + 32 - i
+μ-loop masks a b n i₀ i = n + 32 - i
 
 loop-holds : tie.Need-loop-holds Inv-loop μ-loop
 loop-holds c = (omega arith, omega arith, alike-none _ _ _)
@@ -72,7 +72,7 @@ loop-less c = search needs
 loop-again : tie.Need-loop-again Inv-loop μ-loop
 loop-again c =
     let x = c .before .before .before .before .before .before .before .before .before .before .before .args in
-    let m = x .marks .now in
+    let m = x .masks .now in
     let a = x .a .now in
     let b = x .b .now in
     (omega arith, omega arith, alike-on (c .before .before .before .before .before .before .before .loop .inv .2) _ (omega arith) (rw (tail-part _ m, tail-part _ a, tail-part _ b) at (c .before .some-alike .ensures (not-false _ (c .if2 .left)))))

@@ -11,10 +11,10 @@ use Rattle.coding.proofs.alike.some_alike.Statement.{statement}
 use Rattle.coding.proofs.alike.some_alike.Tie as tie
 
 abbrev Inv-loop : tie.InvT-loop
-Inv-loop marks a b alike₀ i₀ alike i = (i ≤ 32) × (alike ≡ true → AlikeTo marks a b i)
+Inv-loop masks a b alike₀ i₀ alike i = (i ≤ 32) × (alike ≡ true → AlikeTo masks a b i)
 
 abbrev μ-loop : tie.MeasureT-loop
-μ-loop marks a b alike₀ i₀ alike i = 32 - i
+μ-loop masks a b alike₀ i₀ alike i = 32 - i
 
 loop-holds : tie.Need-loop-holds Inv-loop μ-loop
 loop-holds c = (omega arith, λ _. alike-none _ _ _)

@@ -1,4 +1,4 @@
--- `check_records::part_next` meets its contract, by the mark.
+-- `heads::records::part_next` meets its contract, by the mark.
 use mathlib.Core.Path.{sym, _∙_}
 use mathlib.Core.Bool.{true}
 use native.Mathlib.Omega.{arith}

@@ -1,4 +1,4 @@
--- `check_records::record_size` meets its contract, by the mark.
+-- `heads::records::record_size` meets its contract, by the mark.
 use mathlib.Core.Path.{sym, _∙_}
 use native.Mathlib.Omega.{arith}
 use borrow.Author.Needs.{needs}

@@ -1,4 +1,4 @@
--- `quick_records::targets::lay` meets its contract: each turn is one of `quick::run`, for whatever is laid out so far as the records are.
+-- `quick_records::targets::lay` meets its contract: each turn is one of `quick::glance_records`, for whatever is laid out so far as the records are.
 use mathlib.Core.Path.{_≡_, refl, _∙_}
 use mathlib.Core.Logic.{⊎-elim}
 use mathlib.Core.Bool.{false}
@@ -7,35 +7,35 @@ use native.Mathlib.Omega.{arith}
 use lib.ListN.{length}
 use borrow.Author.Needs.{needs}
 use Rattle.items.specs.Meet.{formOf}
-use Rattle.quick_records.specs.Going.{Glanced}
+use Rattle.quick_records.specs.Going.{RecordGlanced}
 use Rattle.quick_records.proofs.PartTurns.{records-start}
 use Rattle.quick_records.proofs.Glances.{glance-next}
-use Rattle.quick_records.proofs.Alikes.{Laying, Remarked, laying-more}
+use Rattle.quick_records.proofs.Alikes.{Laying, Remasked, laying-more}
 use Rattle.quick_records.proofs.targets.lay.Statement.{statement}
 use Rattle.quick_records.proofs.targets.lay.Tie as tie
 use Rattle.quick_records.proofs.targets.lay.Reads as reads
 use Rattle.quick_records.proofs.targets.lay.Lts as lts
-use Rattle.coding.proofs.alike.mark_item.Reads as mark-item-reads
+use Rattle.coding.proofs.alike.mask_item.Reads as mask-item-reads
 use Rattle.coding.proofs.either.Reads as either-reads
-use Rattle.items.proofs.quick.first_mark.Reads as first-mark-reads
-use Rattle.quick_records.proofs.quick.glance.Reads as glance-reads
+use Rattle.items.proofs.quick.first_mask.Reads as first-mask-reads
+use Rattle.quick_records.proofs.quick.glance_record.Reads as glance-record-reads
 use Rattle.quick_records.proofs.quick.told_sizes.Reads as told-sizes-reads
-use Rattle.tally.proofs.is_mark.Reads as is-mark-reads
+use Rattle.tally.proofs.is_asked.Reads as is-asked-reads
 use Rattle.tally.proofs.quick.stands.Reads as stands-reads
 
 abbrev Inv-loop : tie.InvT-loop
-Inv-loop glances s alone marks₀ p₀ count₀ mark₀ top₀ marks p count mark top = Laying (formOf alone) marks s p count mark top
+Inv-loop glances s alone masks₀ p₀ count₀ held₀ top₀ masks p count held top = Laying (formOf alone) masks s p count held top
 
 abbrev μ-loop : tie.MeasureT-loop
-μ-loop glances s alone marks₀ p₀ count₀ mark₀ top₀ marks p count mark top = length s - p
+μ-loop glances s alone masks₀ p₀ count₀ held₀ top₀ masks p count held top = length s - p
 
 -- its tag, and its length, as the code found them
-told : (j : lts.Joined2 (glance-reads.Asked, glance-reads.Learnt, told-sizes-reads.Asked, told-sizes-reads.Learnt, stands-reads.Asked, stands-reads.Learnt, first-mark-reads.Asked, first-mark-reads.Learnt, mark-item-reads.Asked, mark-item-reads.Learnt, is-mark-reads.Asked, is-mark-reads.Learnt, either-reads.Asked, either-reads.Learnt) reads.Pre reads.Post Inv-loop μ-loop) → Glanced false (formOf (j .before .before .before .before .before .before .before .args .alone)) (j .before .before .before .before .before .before .before .args .s .now) (j .before .before .before .before .loop .p) (j .before .before .before .before .loop .top) (j .before .before .before .glance .result .tag) (j .before .before .before .glance .result .next - (j .before .before .before .before .loop .p + 6))
-told j = j .before .before .before .glance .ensures (omega (arith, j .before .if1 .left))
+told : (j : lts.Joined2 (glance-record-reads.Asked, glance-record-reads.Learnt, told-sizes-reads.Asked, told-sizes-reads.Learnt, stands-reads.Asked, stands-reads.Learnt, first-mask-reads.Asked, first-mask-reads.Learnt, mask-item-reads.Asked, mask-item-reads.Learnt, is-asked-reads.Asked, is-asked-reads.Learnt, either-reads.Asked, either-reads.Learnt) reads.Pre reads.Post Inv-loop μ-loop) → RecordGlanced false (formOf (j .before .before .before .before .before .before .before .args .alone)) (j .before .before .before .before .before .before .before .args .s .now) (j .before .before .before .before .loop .p) (j .before .before .before .before .loop .top) (j .before .before .before .glance-record .result .tag) (j .before .before .before .glance-record .result .next - (j .before .before .before .before .loop .p + 6))
+told j = j .before .before .before .glance-record .ensures (omega (arith, j .before .if1 .left))
 
--- it was marked, if there is room
-marked : (j : lts.Joined2 (glance-reads.Asked, glance-reads.Learnt, told-sizes-reads.Asked, told-sizes-reads.Learnt, stands-reads.Asked, stands-reads.Learnt, first-mark-reads.Asked, first-mark-reads.Learnt, mark-item-reads.Asked, mark-item-reads.Learnt, is-mark-reads.Asked, is-mark-reads.Learnt, either-reads.Asked, either-reads.Learnt) reads.Pre reads.Post Inv-loop μ-loop) → (length (j .if2 .marks) ≡ 160) × (j .before .before .before .before .loop .p < 128 → Remarked (formOf (j .before .before .before .before .before .before .before .args .alone)) (j .before .before .before .before .loop .marks) (j .if2 .marks) (j .before .before .before .before .loop .p) (j .before .before .before .glance .result .tag) (j .before .before .before .glance .result .next - (j .before .before .before .before .loop .p + 6)))
-marked j =
+-- it was masked, if there is room
+masked : (j : lts.Joined2 (glance-record-reads.Asked, glance-record-reads.Learnt, told-sizes-reads.Asked, told-sizes-reads.Learnt, stands-reads.Asked, stands-reads.Learnt, first-mask-reads.Asked, first-mask-reads.Learnt, mask-item-reads.Asked, mask-item-reads.Learnt, is-asked-reads.Asked, is-asked-reads.Learnt, either-reads.Asked, either-reads.Learnt) reads.Pre reads.Post Inv-loop μ-loop) → (length (j .if2 .masks) ≡ 160) × (j .before .before .before .before .loop .p < 128 → Remasked (formOf (j .before .before .before .before .before .before .before .args .alone)) (j .before .before .before .before .loop .masks) (j .if2 .masks) (j .before .before .before .before .loop .p) (j .before .before .before .glance-record .result .tag) (j .before .before .before .glance-record .result .next - (j .before .before .before .before .loop .p + 6)))
+masked j =
     ⊎-elim
     (λ x. rw (x .5) (x .4 .ensures .long ∙ j .before .before .before .before .loop .inv .long, λ _. record { first = _; item = x .4 .ensures; any = x .2 .ensures }))
     (λ y. rw (y .1) (j .before .before .before .before .loop .inv .long, λ h. absurd (omega (arith, h, y .0 .left))))
@@ -44,8 +44,8 @@ marked j =
 loop-holds : tie.Need-loop-holds Inv-loop μ-loop
 loop-holds c = record { long = c .before .before .pre .2; own = records-start _ _ _; few = omega arith; walked = λ _ b _ _ _ _. records-start _ _ _ }
 
-glance-requires : tie.Need-glance-requires Inv-loop μ-loop
-glance-requires c κs = (c .before .before .before .pre .0, c .before .before .before .pre .1, c .loop .inv .own .to)
+glance-record-requires : tie.Need-glance-record-requires Inv-loop μ-loop
+glance-record-requires c κs = (c .before .before .before .pre .0, c .before .before .before .pre .1, c .loop .inv .own .to)
 
 told-sizes-requires : tie.Need-told-sizes-requires Inv-loop μ-loop
 told-sizes-requires c κs = let l = c .before .before .before .loop in (l .inv .few, omega (arith, l .inv .own .to, c .before .before .before .before .before .before .pre .1))
@@ -60,16 +60,16 @@ add-n : tie.Need-add-n Inv-loop μ-loop
 add-n c = omega (arith, c .if2 .taken)
 
 sub-n : tie.Need-sub-n Inv-loop μ-loop
-sub-n c = omega (arith, glance-next (c .before .before .before .before .glance .ensures (omega (arith, c .before .before .if1 .left))))
+sub-n c = omega (arith, glance-next (c .before .before .before .before .glance-record .ensures (omega (arith, c .before .before .if1 .left))))
 
-first-mark-requires : tie.Need-first-mark-requires Inv-loop μ-loop
-first-mark-requires c κs = c .before .before .before .before .before .before .before .before .pre .0
+first-mask-requires : tie.Need-first-mask-requires Inv-loop μ-loop
+first-mask-requires c κs = c .before .before .before .before .before .before .before .before .pre .0
 
-mark-item-requires : tie.Need-mark-item-requires Inv-loop μ-loop
-mark-item-requires c κs = (omega (arith, c .before .before .before .if2 .taken), c .before .before .before .before .before .before .before .loop .inv .long)
+mask-item-requires : tie.Need-mask-item-requires Inv-loop μ-loop
+mask-item-requires c κs = (omega (arith, c .before .before .before .if2 .taken), c .before .before .before .before .before .before .before .loop .inv .long)
 
-is-mark-requires : tie.Need-is-mark-requires Inv-loop μ-loop
-is-mark-requires c κs = search needs
+is-asked-requires : tie.Need-is-asked-requires Inv-loop μ-loop
+is-asked-requires c κs = search needs
 
 either-requires : tie.Need-either-requires Inv-loop μ-loop
 either-requires c κs = search needs
@@ -81,7 +81,7 @@ loop-less : tie.Need-loop-less Inv-loop μ-loop
 loop-less c = omega (arith, glance-next (told (c .before .before)))
 
 loop-again : tie.Need-loop-again Inv-loop μ-loop
-loop-again c = laying-more (c .before .before .before .before .before .before .loop .inv) (told (c .before .before)) (λ i. c .before .before .before .before .before .before .before .shared-slice-known2 .given i .fits) (c .before .before .before .before .before .before .before .before .before .pre .1) (marked (c .before .before) .0) (marked (c .before .before) .1) (c .before .is-mark .ensures) (c .either .ensures)
+loop-again c = laying-more (c .before .before .before .before .before .before .loop .inv) (told (c .before .before)) (λ i. c .before .before .before .before .before .before .before .shared-slice-known2 .given i .fits) (c .before .before .before .before .before .before .before .before .before .pre .1) (masked (c .before .before) .0) (masked (c .before .before) .1) (c .before .is-asked .ensures) (c .either .ensures)
 
 pub lay-spec : {M : Type 1} → statement M
 lay-spec =
@@ -90,15 +90,15 @@ lay-spec =
     Inv-loop
     μ-loop
     loop-holds
-    glance-requires
+    glance-record-requires
     told-sizes-requires
     stands-requires
     returns
     add-n
     sub-n
-    first-mark-requires
-    mark-item-requires
-    is-mark-requires
+    first-mask-requires
+    mask-item-requires
+    is-asked-requires
     either-requires
     add-count
     loop-less

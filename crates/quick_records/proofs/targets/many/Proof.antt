@@ -16,7 +16,7 @@ use Rattle.repeats.specs.Notes.{Noting}
 use Rattle.repeats.proofs.Noted.{Noted, noted-none, noted-new, noted-more}
 use Rattle.tally.specs.declared.Piece.the-variants as piece
 use Rattle.tally.specs.Meet.{sizes}
-use Rattle.tally.specs.Going.{quickAt}
+use Rattle.tally.specs.Going.{stageAt}
 use Rattle.tally.proofs.Turns.{going-wide, Fresh, reached-fresh, fresh-within, reach-first, reach-over, reach-under}
 use Rattle.quick_records.specs.Going.{TargetsGoing, TargetsPassed}
 use Rattle.quick_records.specs.Targets.{Held, Over, Modelled}
@@ -38,10 +38,10 @@ use Rattle.quick_records.proofs.targets.passed.Reads as passed-reads
 use Rattle.quick_packs.proofs.no_model.Reads as no-model-reads
 
 abbrev Inv-loop : tie.InvT-loop
-Inv-loop glances s alone bits₀ p₀ rows₀ normal₀ top₀ low₀ marks₀ m₀ bits p rows normal top low marks m = TargetsGoing (formOf alone) s p (sizes p rows normal 0) top low × (p < length s → is TG (drop p s) ≡ true) × (p ≡ 0 → low ≡ 18446744073709551615) × (0 < p → low ≤ top) × (top ≤ 16383) × Modelled alone marks s m × (m .from ≤ p) × Noted (peek true true false) s bits p × (length bits ≡ length bits₀)
+Inv-loop glances s alone bits₀ p₀ rows₀ normal₀ top₀ low₀ masks₀ m₀ bits p rows normal top low masks m = TargetsGoing (formOf alone) s p (sizes p rows normal 0) top low × (p < length s → is TG (drop p s) ≡ true) × (p ≡ 0 → low ≡ 18446744073709551615) × (0 < p → low ≤ top) × (top ≤ 16383) × Modelled alone masks s m × (m .from ≤ p) × Noted (peek true true false) s bits p × (length bits ≡ length bits₀)
 
 abbrev μ-loop : tie.MeasureT-loop
-μ-loop glances s alone bits₀ p₀ rows₀ normal₀ top₀ low₀ marks₀ m₀ bits p rows normal top low marks m = length s - p
+μ-loop glances s alone bits₀ p₀ rows₀ normal₀ top₀ low₀ masks₀ m₀ bits p rows normal top low masks m = length s - p
 
 abbrev claims : lts.Claims
 claims = (no-model-reads.Asked, no-model-reads.Learnt, is-mark-reads.Asked, is-mark-reads.Learnt, passed-reads.Asked, passed-reads.Learnt, eight-of-reads.Asked, eight-of-reads.Learnt, is-unnoted-reads.Asked, is-unnoted-reads.Learnt, note-reads.Asked, note-reads.Learnt, is-target-as-reads.Asked, is-target-as-reads.Learnt, model-of-reads.Asked, model-of-reads.Learnt, oid-width-reads.Asked, oid-width-reads.Learnt)
@@ -60,7 +60,7 @@ opens : (l : At-loop) → is TG (l .before .before .before .before .before .befo
 opens l = sym (l .before .before .is-mark .ensures) ∙ not-false _ (l .before .if1 .left)
 
 -- where the loop stands, the walk may go on
-stays : (l : At-loop) → TargetsPassed (formOf (l .before .before .before .before .before .before .before .args .alone)) (l .before .before .before .before .before .before .before .args .s .now) (quickAt (l .loop .p) (sizes (l .loop .p) (l .loop .rows) (l .loop .normal) 0) false (l .loop .top) (l .loop .low))
+stays : (l : At-loop) → TargetsPassed (formOf (l .before .before .before .before .before .before .before .args .alone)) (l .before .before .before .before .before .before .before .args .s .now) (stageAt (l .loop .p) (sizes (l .loop .p) (l .loop .rows) (l .loop .normal) 0) false (l .loop .top) (l .loop .low))
 stays l = (l .loop .inv .0, omega (arith, l .loop .inv .4), refl, λ _. opens l)
 
 -- an id is new, and between the bounds that the code has then
@@ -80,7 +80,7 @@ fresh j =
     (j .if4 .came)
 
 -- and with these bounds
-widened : (j : Id-new) → TargetsPassed (formOf (j .before .before .before .before .before .before .before .before .before .before .before .before .args .alone)) (j .before .before .before .before .before .before .before .before .before .before .before .before .args .s .now) (quickAt (j .before .before .before .before .before .loop .p) (sizes (j .before .before .before .before .before .loop .p) (j .before .before .before .before .before .loop .rows) (j .before .before .before .before .before .loop .normal) 0) false (j .if4 .top) (j .if4 .low))
+widened : (j : Id-new) → TargetsPassed (formOf (j .before .before .before .before .before .before .before .before .before .before .before .before .args .alone)) (j .before .before .before .before .before .before .before .before .before .before .before .before .args .s .now) (stageAt (j .before .before .before .before .before .loop .p) (sizes (j .before .before .before .before .before .loop .p) (j .before .before .before .before .before .loop .rows) (j .before .before .before .before .before .loop .normal) 0) false (j .if4 .top) (j .if4 .low))
 widened j = let (r, most) = fresh j in (going-wide (j .before .before .before .before .before .loop .inv .0) (r .over .0) (r .under .0), omega (arith, most), refl, λ _. opens (j .before .before .before .before .before))
 
 room : (j : Id-new) → (j .before .before .before .before .before .loop .p + 10 ≤ length (j .before .before .before .before .before .before .before .before .before .before .before .before .args .s .now)) × (length (j .before .before .before .before .before .before .before .before .before .before .before .before .args .s .now) ≤ 65536)
@@ -99,7 +99,7 @@ here j = record {
 }
 
 -- the model then, as which this target holds its records, and where they are over
-model : (v : Model-had) → Modelled (v .before .before .before .before .before .before .before .before .before .before .before .before .before .before .before .before .before .before .before .args .alone) (v .if8 .marks) (v .before .before .before .before .before .before .before .before .before .before .before .before .before .before .before .before .before .before .before .args .s .now) (v .if8 .m) × (v .if8 .m .from ≤ v .before .before .before .before .before .before .before .before .before .before .before .before .loop .p + 10) × Held (v .before .before .before .before .before .before .before .before .before .before .before .before .before .before .before .before .before .before .before .args .alone) (drop (v .before .before .before .before .before .before .before .before .before .before .before .before .loop .p + 10) (v .before .before .before .before .before .before .before .before .before .before .before .before .before .before .before .before .before .before .before .args .s .now)) (v .if8 .m .size) (v .if8 .m .rows) × Over (v .before .before .before .before .before .before .before .before .before .before .before .before .before .before .before .before .before .before .before .args .s .now) (v .before .before .before .before .before .before .before .before .before .before .before .before .loop .p + 10 + v .if8 .m .size)
+model : (v : Model-had) → Modelled (v .before .before .before .before .before .before .before .before .before .before .before .before .before .before .before .before .before .before .before .args .alone) (v .if8 .masks) (v .before .before .before .before .before .before .before .before .before .before .before .before .before .before .before .before .before .before .before .args .s .now) (v .if8 .m) × (v .if8 .m .from ≤ v .before .before .before .before .before .before .before .before .before .before .before .before .loop .p + 10) × Held (v .before .before .before .before .before .before .before .before .before .before .before .before .before .before .before .before .before .before .before .args .alone) (drop (v .before .before .before .before .before .before .before .before .before .before .before .before .loop .p + 10) (v .before .before .before .before .before .before .before .before .before .before .before .before .before .before .before .before .before .before .before .args .s .now)) (v .if8 .m .size) (v .if8 .m .rows) × Over (v .before .before .before .before .before .before .before .before .before .before .before .before .before .before .before .before .before .before .before .args .s .now) (v .before .before .before .before .before .before .before .before .before .before .before .before .loop .p + 10 + v .if8 .m .size)
 model v =
     let i = v .before .before .before .before .before .before .before .before .before .before .before .before .loop .inv in
     ⊎-elim

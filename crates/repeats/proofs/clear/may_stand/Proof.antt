@@ -7,11 +7,11 @@ use Rattle.repeats.proofs.clear.may_stand.Tie as tie
 returns : tie.Need-returns
 returns c = λ e z. absurd (c .if1 .taken z)
 
-is-marked-requires : tie.Need-is-marked-requires
-is-marked-requires c κs = search needs
+is-noted-part-requires : tie.Need-is-noted-part-requires
+is-noted-part-requires c κs = search needs
 
 returns-2 : tie.Need-returns-2
-returns-2 c = λ e z. sym (c .is-marked .ensures) ∙ e
+returns-2 c = λ e z. sym (c .is-noted-part .ensures) ∙ e
 
 pub may-stand-spec : {M : Type 1} → statement M
-may-stand-spec = tie.close (tie.spec returns is-marked-requires returns-2)
+may-stand-spec = tie.close (tie.spec returns is-noted-part-requires returns-2)

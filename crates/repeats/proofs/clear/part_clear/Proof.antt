@@ -1,4 +1,4 @@
--- `clear::part_clear` meets its contract: the loop passes one head after the other, and marks its key.
+-- `clear::part_clear` meets its contract: the loop passes one head after the other, and notes its key.
 use mathlib.Core.Path.{refl, sym}
 use Prim.Native.Nat.{_-_}
 use lib.ListN.{length}
@@ -11,10 +11,10 @@ use Rattle.repeats.proofs.clear.part_clear.Statement.{statement}
 use Rattle.repeats.proofs.clear.part_clear.Tie as tie
 
 abbrev Inv-loop : tie.InvT-loop
-Inv-loop s part sheet ids set marks₀ q₀ marks q = Clearing part (peek sheet ids set) s marks q
+Inv-loop s part sheet ids set bits₀ q₀ bits q = Clearing part (peek sheet ids set) s bits q
 
 abbrev μ-loop : tie.MeasureT-loop
-μ-loop s part sheet ids set marks₀ q₀ marks q = length s - q
+μ-loop s part sheet ids set bits₀ q₀ bits q = length s - q
 
 loop-holds : tie.Need-loop-holds Inv-loop μ-loop
 loop-holds c = clearing-start _ _ _ _ refl
@@ -46,13 +46,13 @@ may-stand-requires c κs = c .before .before .before .before .before .before .be
 returns-3 : tie.Need-returns-3 Inv-loop μ-loop
 returns-3 c = c .before .before .before .before .before .before .before .before .before .before .before .loop .inv .clear
 
-mark-requires : tie.Need-mark-requires Inv-loop μ-loop
-mark-requires c κs = c .before .before .before .before .before .before .before .before .before .before .before .before .loop .inv .long
+note-part-requires : tie.Need-note-part-requires Inv-loop μ-loop
+note-part-requires c κs = c .before .before .before .before .before .before .before .before .before .before .before .before .loop .inv .long
 
 loop-again : tie.Need-loop-again Inv-loop μ-loop
 loop-again c =
     let a = c .before .before .before .before .before .before .before in
-    clearing-more _ _ _ _ _ (a .before .before .before .before .before .before .before .loop .inv) (peek-room _ _ _) _ _ (a .before .before .next-of .ensures) (omega (arith, a .if2 .left)) (c .before .before .before .before .may-stand .ensures (c .before .before .before .if3 .left)) _ (c .before .mark .ensures)
+    clearing-more _ _ _ _ _ (a .before .before .before .before .before .before .before .loop .inv) (peek-room _ _ _) _ _ (a .before .before .next-of .ensures) (omega (arith, a .if2 .left)) (c .before .before .before .before .may-stand .ensures (c .before .before .before .if3 .left)) _ (c .before .note-part .ensures)
 
 add-q : tie.Need-add-q Inv-loop μ-loop
 add-q c = omega (arith, loop-again c .within, c .before .before .before .before .before .before .before .before .before .before .before .before .before .before .before .before .before .good)
@@ -79,7 +79,7 @@ part-clear-spec =
     returns-2
     may-stand-requires
     returns-3
-    mark-requires
+    note-part-requires
     add-q
     loop-less
     loop-again

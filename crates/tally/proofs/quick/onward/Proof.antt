@@ -22,13 +22,13 @@ use Rattle.tally.proofs.weights.plain_sizes.Reads as plain-sizes-reads
 use Rattle.tally.proofs.weights.plus.Reads as plus-reads
 
 abbrev Inv-loop : tie.InvT-loop
-Inv-loop s set alone q p₀ sum₀ top₀ low₀ p sum top low = LevelGoing set (formOf alone) s p sum (q .mark) top low
+Inv-loop s set alone q p₀ sum₀ top₀ low₀ p sum top low = LevelGoing set (formOf alone) s p sum (q .held) top low
 
 abbrev μ-loop : tie.MeasureT-loop
 μ-loop s set alone q p₀ sum₀ top₀ low₀ p sum top low = length s - p
 
 here : (a : lts.Else2 (wide-reads.Asked, wide-reads.Learnt, is-series-reads.Asked, is-series-reads.Learnt, stands-reads.Asked, stands-reads.Learnt, item-head-reads.Asked, item-head-reads.Learnt, is-plain-reads.Asked, is-plain-reads.Learnt, plain-sizes-reads.Asked, plain-sizes-reads.Learnt, plus-reads.Asked, plus-reads.Learnt, larger-reads.Asked, larger-reads.Learnt, smaller-reads.Asked, smaller-reads.Learnt) reads.Pre reads.Post Inv-loop μ-loop)
-    → PlainAt (a .before .before .before .before .before .before .before .before .before .before .before .before .before .before .before .args .set) (formOf (a .before .before .before .before .before .before .before .before .before .before .before .before .before .before .before .args .alone)) (a .before .before .before .before .before .before .before .before .before .before .before .before .before .before .before .args .s .now) (a .before .before .before .before .before .before .before .before .before .before .before .before .loop .p) (a .before .before .before .before .before .before .before .before .before .before .before .before .loop .sum) (a .before .before .before .before .before .before .before .before .before .before .before .before .before .before .before .args .q .mark) (a .before .before .before .before .before .before .before .before .before .before .before .before .loop .top) (a .before .before .before .before .before .before .before .before .before .before .before .before .loop .low) (a .before .before .before .h .given .0 .0) (a .before .before .before .h .given .0 .1 .0) (a .before .before .before .h .given .0 .1 .1 .0) (a .before .before .before .h .given .0 .1 .1 .1 .0)
+    → PlainAt (a .before .before .before .before .before .before .before .before .before .before .before .before .before .before .before .args .set) (formOf (a .before .before .before .before .before .before .before .before .before .before .before .before .before .before .before .args .alone)) (a .before .before .before .before .before .before .before .before .before .before .before .before .before .before .before .args .s .now) (a .before .before .before .before .before .before .before .before .before .before .before .before .loop .p) (a .before .before .before .before .before .before .before .before .before .before .before .before .loop .sum) (a .before .before .before .before .before .before .before .before .before .before .before .before .before .before .before .args .q .held) (a .before .before .before .before .before .before .before .before .before .before .before .before .loop .top) (a .before .before .before .before .before .before .before .before .before .before .before .before .loop .low) (a .before .before .before .h .given .0 .0) (a .before .before .before .h .given .0 .1 .0) (a .before .before .before .h .given .0 .1 .1 .0) (a .before .before .before .h .given .0 .1 .1 .1 .0)
 here a = record {
   going = a .before .before .before .before .before .before .before .before .before .before .before .before .loop .inv;
   here = a .before .before .before .before .before .before .before .before .before .before .before .loop-test .taken;

@@ -20,7 +20,7 @@ use Rattle.write_sheet.proofs.quick.packs.Reads as reads
 use Rattle.write_sheet.proofs.quick.packs.Lts as lts
 use Rattle.heads.proofs.short_pack_head.Reads as short-pack-head-reads
 use Rattle.write_sheet.proofs.put_target.Reads as put-target-reads
-use Rattle.write_sheet.proofs.quick.run.Reads as run-reads
+use Rattle.write_sheet.proofs.quick.small_items.Reads as small-items-reads
 
 abbrev Inv-loop : tie.InvT-loop
 Inv-loop s alone out₀ p₀ k₀ out p k = SeriesSheets (formOf alone) s out₀ out p k
@@ -29,7 +29,7 @@ abbrev μ-loop : tie.MeasureT-loop
 μ-loop s alone out₀ p₀ k₀ out p k = length s - p
 
 abbrev Head-read : Type 0
-Head-read = lts.After-h (short-pack-head-reads.Asked, short-pack-head-reads.Learnt, put-target-reads.Asked, put-target-reads.Learnt, run-reads.Asked, run-reads.Learnt) reads.Pre reads.Post Inv-loop μ-loop
+Head-read = lts.After-h (short-pack-head-reads.Asked, short-pack-head-reads.Learnt, put-target-reads.Asked, put-target-reads.Learnt, small-items-reads.Asked, small-items-reads.Learnt) reads.Pre reads.Post Inv-loop μ-loop
 
 told : (a : Head-read) → PackHeadIf (heads.Whole (a .h .given .0 .0) (a .h .given .0 .1 .0) (a .h .given .0 .1 .1 .0) (a .h .given .0 .1 .1 .1 .0)) (take (length (a .before .before .before .before .before .before .before .args .s .now) - a .before .before .before .before .loop .p) (drop (a .before .before .before .before .loop .p) (a .before .before .before .before .before .before .before .args .s .now)))
 told a = pack-head-if _ (a .h .given .1) (a .before .before .short-pack-head .ensures)
@@ -89,44 +89,44 @@ add-next-2 c = omega (arith, pack-room (here (c .before)))
 put-target-requires : tie.Need-put-target-requires Inv-loop μ-loop
 put-target-requires c κs = target-room (here (c .before .before))
 
-sub-run : tie.Need-sub-run Inv-loop μ-loop
-sub-run c = omega (arith, pack-room (here (c .before .before .before .before .before)))
+sub-small-items : tie.Need-sub-small-items Inv-loop μ-loop
+sub-small-items c = omega (arith, pack-room (here (c .before .before .before .before .before)))
 
-part-run-start : tie.Need-part-run-start Inv-loop μ-loop
-part-run-start c = omega (arith, pack-room (here (c .before .before .before .before .before)))
+part-small-items-start : tie.Need-part-small-items-start Inv-loop μ-loop
+part-small-items-start c = omega (arith, pack-room (here (c .before .before .before .before .before)))
 
-part-run-end : tie.Need-part-run-end Inv-loop μ-loop
-part-run-end c = omega (arith, pack-room (here (c .before .before .before .before .before)))
+part-small-items-end : tie.Need-part-small-items-end Inv-loop μ-loop
+part-small-items-end c = omega (arith, pack-room (here (c .before .before .before .before .before)))
 
-sub-run-2 : tie.Need-sub-run-2 Inv-loop μ-loop
-sub-run-2 c = items-behind (here (c .before .before .before .before .before .before)) (c .before .before .before .put-target .ensures)
+sub-small-items-2 : tie.Need-sub-small-items-2 Inv-loop μ-loop
+sub-small-items-2 c = items-behind (here (c .before .before .before .before .before .before)) (c .before .before .before .put-target .ensures)
 
-part-run-start-2 : tie.Need-part-run-start-2 Inv-loop μ-loop
-part-run-start-2 c = items-behind (here (c .before .before .before .before .before .before)) (c .before .before .before .put-target .ensures)
+part-small-items-start-2 : tie.Need-part-small-items-start-2 Inv-loop μ-loop
+part-small-items-start-2 c = items-behind (here (c .before .before .before .before .before .before)) (c .before .before .before .put-target .ensures)
 
-part-run-end-2 : tie.Need-part-run-end-2 Inv-loop μ-loop
-part-run-end-2 c = search needs
+part-small-items-end-2 : tie.Need-part-small-items-end-2 Inv-loop μ-loop
+part-small-items-end-2 c = search needs
 
-run-requires : tie.Need-run-requires Inv-loop μ-loop
-run-requires c κs = level-asked (here (c .before .before .before .before .before .before .before)) (c .before .before .before .before .put-target .ensures)
+small-items-requires : tie.Need-small-items-requires Inv-loop μ-loop
+small-items-requires c κs = level-asked (here (c .before .before .before .before .before .before .before)) (c .before .before .before .before .put-target .ensures)
 
 sub-if1 : tie.Need-sub-if1 Inv-loop μ-loop
 sub-if1 c = omega (arith, pack-room (here (c .before .before .before .before .before .before .before .before .before .before)))
 
 same-length-2 : tie.Need-same-length-2 Inv-loop μ-loop
-same-length-2 c = items-begun (here (c .before .before .before .before .before .before .before .before .before .before .before .before)) (c .before .before .before .before .before .before .before .before .before .put-target .ensures) (c .before .before .before .before .run .ensures) .writes .same
+same-length-2 c = items-begun (here (c .before .before .before .before .before .before .before .before .before .before .before .before)) (c .before .before .before .before .before .before .before .before .before .put-target .ensures) (c .before .before .before .before .small-items .ensures) .writes .same
 
 returns-2 : tie.Need-returns-2 Inv-loop μ-loop
-returns-2 c = items-begun (here (c .before .before .before .before .before .before .before .before .before .before .before .before)) (c .before .before .before .before .before .before .before .before .before .put-target .ensures) (c .before .before .before .before .run .ensures) .writes
+returns-2 c = items-begun (here (c .before .before .before .before .before .before .before .before .before .before .before .before)) (c .before .before .before .before .before .before .before .before .before .put-target .ensures) (c .before .before .before .before .small-items .ensures) .writes
 
 add-k : tie.Need-add-k Inv-loop μ-loop
-add-k c = omega (arith, items-passed (here (c .before .before .before .before .before .before .before .before .before .before .before .before .before)) (c .before .before .before .before .before .before .before .before .before .before .put-target .ensures) (c .before .before .before .before .before .run .ensures) (c .before .if1 .left) .writes .sum, c .before .before .before .before .before .before .before .before .before .before .before .before .before .before .before .before .before .before .before .before .pre .2, c .before .before .before .before .before .before .before .before .before .before .before .before .before .before .before .before .before .before .before .before .good)
+add-k c = omega (arith, items-passed (here (c .before .before .before .before .before .before .before .before .before .before .before .before .before)) (c .before .before .before .before .before .before .before .before .before .before .put-target .ensures) (c .before .before .before .before .before .small-items .ensures) (c .before .if1 .left) .writes .sum, c .before .before .before .before .before .before .before .before .before .before .before .before .before .before .before .before .before .before .before .before .pre .2, c .before .before .before .before .before .before .before .before .before .before .before .before .before .before .before .before .before .before .before .before .good)
 
 loop-less : tie.Need-loop-less Inv-loop μ-loop
 loop-less c = omega (arith, pack-room (here (c .before .before .before .before .before .before .before .before .before .before .before .before .before)))
 
 loop-again : tie.Need-loop-again Inv-loop μ-loop
-loop-again c = items-passed (here (c .before .before .before .before .before .before .before .before .before .before .before .before .before)) (c .before .before .before .before .before .before .before .before .before .before .put-target .ensures) (c .before .before .before .before .before .run .ensures) (c .before .if1 .left)
+loop-again c = items-passed (here (c .before .before .before .before .before .before .before .before .before .before .before .before .before)) (c .before .before .before .before .before .before .before .before .before .before .put-target .ensures) (c .before .before .before .before .before .small-items .ensures) (c .before .if1 .left)
 
 pub packs-spec : {M : Type 1} → statement M
 packs-spec =
@@ -148,13 +148,13 @@ packs-spec =
     add-next
     add-next-2
     put-target-requires
-    sub-run
-    part-run-start
-    part-run-end
-    sub-run-2
-    part-run-start-2
-    part-run-end-2
-    run-requires
+    sub-small-items
+    part-small-items-start
+    part-small-items-end
+    sub-small-items-2
+    part-small-items-start-2
+    part-small-items-end-2
+    small-items-requires
     sub-if1
     same-length-2
     returns-2

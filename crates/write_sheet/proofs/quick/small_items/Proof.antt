@@ -1,4 +1,4 @@
--- `write_sheet::quick::run` meets its contract: each turn is a turn of the item walk.
+-- `write_sheet::quick::small_items` meets its contract: each turn is a turn of the item walk.
 use Prim.Native.Nat.{_-_}
 use native.Mathlib.Omega.{arith}
 use mathlib.Core.Bool.{false}
@@ -10,14 +10,14 @@ use Rattle.write_laws.proofs.Writing.{each}
 use Rattle.write_laws.proofs.Entries.{level-start}
 use Rattle.write_sheet.specs.Meet.{entrySheet}
 use Rattle.write_sheet.specs.Quick.{LevelPassed}
-use Rattle.write_sheet.proofs.Glances.{Turn, turn-fits, turn-room, turn-more}
-use Rattle.write_sheet.proofs.quick.run.Statement.{statement}
-use Rattle.write_sheet.proofs.quick.run.Tie as tie
-use Rattle.write_sheet.proofs.quick.run.Reads as reads
-use Rattle.write_sheet.proofs.quick.run.Lts as lts
+use Rattle.write_sheet.proofs.Smalls.{Turn, turn-fits, turn-room, turn-more}
+use Rattle.write_sheet.proofs.quick.small_items.Statement.{statement}
+use Rattle.write_sheet.proofs.quick.small_items.Tie as tie
+use Rattle.write_sheet.proofs.quick.small_items.Reads as reads
+use Rattle.write_sheet.proofs.quick.small_items.Lts as lts
 use Rattle.coding.proofs.wide.Reads as wide-reads
 use Rattle.write_sheet.proofs.put_item.Reads as put-item-reads
-use Rattle.write_sheet.proofs.quick.glance.Reads as glance-reads
+use Rattle.write_sheet.proofs.quick.small_size.Reads as small-size-reads
 
 abbrev Inv-loop : tie.InvT-loop
 Inv-loop s alone out₀ p₀ k₀ out p k = LevelPassed false (formOf alone) s out₀ out p k
@@ -26,11 +26,11 @@ abbrev μ-loop : tie.MeasureT-loop
 μ-loop s alone out₀ p₀ k₀ out p k = length s - p
 
 -- the turn at an item told at a glance
-turn : (a : lts.Else1 (glance-reads.Asked, glance-reads.Learnt, wide-reads.Asked, wide-reads.Learnt, put-item-reads.Asked, put-item-reads.Learnt) reads.Pre reads.Post Inv-loop μ-loop)
-    → Turn (formOf (a .before .before .before .before .before .args .alone)) (a .before .before .before .before .before .args .s .now) (a .before .before .before .before .before .args .out .now) (a .before .before .loop .out) (a .before .before .loop .p) (a .before .before .loop .k) (a .before .glance .result)
+turn : (a : lts.Else1 (small-size-reads.Asked, small-size-reads.Learnt, wide-reads.Asked, wide-reads.Learnt, put-item-reads.Asked, put-item-reads.Learnt) reads.Pre reads.Post Inv-loop μ-loop)
+    → Turn (formOf (a .before .before .before .before .before .args .alone)) (a .before .before .before .before .before .args .s .now) (a .before .before .before .before .before .args .out .now) (a .before .before .loop .out) (a .before .before .loop .p) (a .before .before .loop .k) (a .before .small-size .result)
 turn a = record {
   passed = a .before .before .loop .inv;
-  glanced = a .before .glance .ensures (omega (arith, a .if1 .left));
+  glanced = a .before .small-size .ensures (omega (arith, a .if1 .left));
   bytes = λ i. a .before .before .before .before .shared-slice-known .given i .fits;
   most = a .before .before .before .before .before .pre .0;
   room = a .before .before .before .before .before .pre .2;
@@ -39,8 +39,8 @@ turn a = record {
 loop-holds : tie.Need-loop-holds Inv-loop μ-loop
 loop-holds c = level-start (each (entrySheet pack)) false _ tt _ _ (c .before .before .pre .1) .writes
 
-glance-requires : tie.Need-glance-requires Inv-loop μ-loop
-glance-requires c κs = (c .loop .inv .to, c .before .before .before .pre .0)
+small-size-requires : tie.Need-small-size-requires Inv-loop μ-loop
+small-size-requires c κs = (c .loop .inv .to, c .before .before .before .pre .0)
 
 same-length : tie.Need-same-length Inv-loop μ-loop
 same-length c = c .before .before .loop .inv .same
@@ -78,14 +78,14 @@ loop-less c = omega (arith, turn-fits (turn (c .before .before .before .before .
 loop-again : tie.Need-loop-again Inv-loop μ-loop
 loop-again c = turn-more (turn (c .before .before .before .before .before .before .before)) (c .before .before .before .before .before .wide .ensures .0) (c .before .before .put-item .ensures)
 
-pub run-spec : {M : Type 1} → statement M
-run-spec =
+pub small-items-spec : {M : Type 1} → statement M
+small-items-spec =
     tie.close
     (tie.spec
     Inv-loop
     μ-loop
     loop-holds
-    glance-requires
+    small-size-requires
     same-length
     returns
     add-first

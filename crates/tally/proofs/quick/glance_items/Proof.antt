@@ -1,4 +1,4 @@
--- `tally::quick::run` meets its contract: each turn is a turn of the item walk. Tags rise, so the first is the lowest.
+-- `tally::quick::glance_items` meets its contract: each turn is a turn of the item walk. Tags rise, so the first is the lowest.
 use mathlib.Core.Path.{refl}
 use Prim.Native.Nat.{_-_, _≤_, _<_}
 use native.Mathlib.Omega.{arith}
@@ -7,17 +7,17 @@ use borrow.Author.Needs.{needs}
 use Rattle.items.specs.Meet.{formOf}
 use Rattle.tally.specs.Going.{LevelGoing}
 use Rattle.tally.proofs.ItemTurns.{level-start}
-use Rattle.tally.proofs.Glances.{quickSizes, glanced-next, glanced-low, glanced-more}
-use Rattle.tally.proofs.quick.run.Statement.{statement}
-use Rattle.tally.proofs.quick.run.Tie as tie
+use Rattle.tally.proofs.Glances.{toldSizes, glanced-next, glanced-low, glanced-more}
+use Rattle.tally.proofs.quick.glance_items.Statement.{statement}
+use Rattle.tally.proofs.quick.glance_items.Tie as tie
 
 -- past the end nothing is said
 abbrev Inv-loop : tie.InvT-loop
-Inv-loop glances s set alone most low p₀ count₀ mark₀ top₀ p count mark top =
-    (p ≤ length s → LevelGoing set (formOf alone) s p (quickSizes count p) mark top low) × (p < length s → top < getD s p 0 → getD s p 0 < 128 → low ≤ getD s p 0)
+Inv-loop glances s set alone most low p₀ count₀ held₀ top₀ p count held top =
+    (p ≤ length s → LevelGoing set (formOf alone) s p (toldSizes count p) held top low) × (p < length s → top < getD s p 0 → getD s p 0 < 128 → low ≤ getD s p 0)
 
 abbrev μ-loop : tie.MeasureT-loop
-μ-loop glances s set alone most low p₀ count₀ mark₀ top₀ p count mark top = length s - p
+μ-loop glances s set alone most low p₀ count₀ held₀ top₀ p count held top = length s - p
 
 span-requires : tie.Need-span-requires Inv-loop μ-loop
 span-requires c κs = search needs
@@ -28,8 +28,8 @@ first-tag-requires c κs = search needs
 loop-holds : tie.Need-loop-holds Inv-loop μ-loop
 loop-holds c = (λ _. level-start _ _ _, λ h l m. omega (arith, c .first-tag .ensures h m))
 
-glance-requires : tie.Need-glance-requires Inv-loop μ-loop
-glance-requires c κs = (c .before .before .before .before .before .pre .0, c .before .before .before .before .before .pre .1, c .before .before .span .ensures .0, c .before .before .span .ensures .1)
+glance-item-requires : tie.Need-glance-item-requires Inv-loop μ-loop
+glance-item-requires c κs = (c .before .before .before .before .before .pre .0, c .before .before .before .before .before .pre .1, c .before .before .span .ensures .0, c .before .before .span .ensures .1)
 
 nothing-requires : tie.Need-nothing-requires Inv-loop μ-loop
 nothing-requires c κs = search needs
@@ -50,35 +50,35 @@ returns-2 : tie.Need-returns-2 Inv-loop μ-loop
 returns-2 c = rw (c .stands2 .ensures, c .before .told-sizes .ensures) (c .before .before .before .before .before .loop .inv .0 (omega (arith, c .before .before .if2 .left)), refl)
 
 shared-slice-read-wide : tie.Need-shared-slice-read-wide Inv-loop μ-loop
-shared-slice-read-wide c = omega (arith, glanced-next (c .before .before .glance .ensures (omega (arith, c .before .if1 .left))))
+shared-slice-read-wide c = omega (arith, glanced-next (c .before .before .glance-item .ensures (omega (arith, c .before .if1 .left))))
 
 wide-requires : tie.Need-wide-requires Inv-loop μ-loop
 wide-requires c κs = search needs
 
-is-mark-requires : tie.Need-is-mark-requires Inv-loop μ-loop
-is-mark-requires c κs = search needs
+is-asked-requires : tie.Need-is-asked-requires Inv-loop μ-loop
+is-asked-requires c κs = search needs
 
 either-requires : tie.Need-either-requires Inv-loop μ-loop
 either-requires c κs = search needs
 
 add-count : tie.Need-add-count Inv-loop μ-loop
 add-count c =
-    let n = glanced-next (c .before .before .before .before .before .glance .ensures (omega (arith, c .before .before .before .before .if1 .left))) in
+    let n = glanced-next (c .before .before .before .before .before .glance-item .ensures (omega (arith, c .before .before .before .before .if1 .left))) in
     let i = c .before .before .before .before .before .before .loop .inv .0 (omega (arith, n)) in
     omega (arith, i .few .rows, n, c .before .before .before .before .before .before .before .before .before .before .before .pre .1)
 
 loop-less : tie.Need-loop-less Inv-loop μ-loop
-loop-less c = omega (arith, glanced-next (c .before .before .before .before .before .glance .ensures (omega (arith, c .before .before .before .before .if1 .left))))
+loop-less c = omega (arith, glanced-next (c .before .before .before .before .before .glance-item .ensures (omega (arith, c .before .before .before .before .if1 .left))))
 
 loop-again : tie.Need-loop-again Inv-loop μ-loop
 loop-again c =
-    let g = c .before .before .before .before .before .glance .ensures (omega (arith, c .before .before .before .before .if1 .left)) in
+    let g = c .before .before .before .before .before .glance-item .ensures (omega (arith, c .before .before .before .before .if1 .left)) in
     let i = c .before .before .before .before .before .before .loop .inv in
     let x = c .before .before .wide .ensures .0 in
-    (λ r. glanced-more g r (i .0 (omega (arith, glanced-next g))) (λ i. c .before .before .before .before .before .before .before .before .before .shared-slice-known2 .given i .fits) (c .before .before .before .before .before .before .before .before .before .before .before .pre .1) x (c .before .is-mark .ensures) (c .either .ensures) (glanced-low g r (i .1) x), λ h m _. omega (arith, glanced-low g (omega (arith, h)) (i .1) x, m))
+    (λ r. glanced-more g r (i .0 (omega (arith, glanced-next g))) (λ i. c .before .before .before .before .before .before .before .before .before .shared-slice-known2 .given i .fits) (c .before .before .before .before .before .before .before .before .before .before .before .pre .1) x (c .before .is-asked .ensures) (c .either .ensures) (glanced-low g r (i .1) x), λ h m _. omega (arith, glanced-low g (omega (arith, h)) (i .1) x, m))
 
-pub run-spec : {M : Type 1} → statement M
-run-spec =
+pub glance-items-spec : {M : Type 1} → statement M
+glance-items-spec =
     tie.close
     (tie.spec
     Inv-loop
@@ -86,7 +86,7 @@ run-spec =
     span-requires
     first-tag-requires
     loop-holds
-    glance-requires
+    glance-item-requires
     nothing-requires
     stands-requires
     returns
@@ -95,7 +95,7 @@ run-spec =
     returns-2
     shared-slice-read-wide
     wide-requires
-    is-mark-requires
+    is-asked-requires
     either-requires
     add-count
     loop-less

@@ -1,10 +1,10 @@
--- `items::quick::is_quick` meets its contract: the row at a tag's place has the bits of its rule.
+-- `items::quick::is_glanced` meets its contract: the row at a tag's place has the bits of its rule.
 use native.Mathlib.Omega.{arith}
 use borrow.Author.Needs.{needs}
 use Rattle.format.proofs.words.Answers.{no-bool}
 use Rattle.items.proofs.Glances.{glances-long, row-in, quick-from, quick-other}
-use Rattle.items.proofs.quick.is_quick.Statement.{statement}
-use Rattle.items.proofs.quick.is_quick.Tie as tie
+use Rattle.items.proofs.quick.is_glanced.Statement.{statement}
+use Rattle.items.proofs.quick.is_glanced.Tie as tie
 
 most-tag-requires : tie.Need-most-tag-requires
 most-tag-requires c κs = search needs
@@ -42,8 +42,8 @@ returns-3 c =
     let p = r .before .before .before .before in
     quick-from (p .args .set) _ (r .before .before .most-tag .ensures) (r .before .if1 .left) (r .rows-from .ensures) (p .args .alone) (c .before .before .least-row .ensures) _ (p .pre) (c .before .if2 .left) _ _ (c .fits2 .ensures)
 
-pub is-quick-spec : {M : Type 1} → statement M
-is-quick-spec =
+pub is-glanced-spec : {M : Type 1} → statement M
+is-glanced-spec =
     tie.close
     (tie.spec
     most-tag-requires

@@ -24,7 +24,7 @@ use Rattle.heads.proofs.Heads.{mid-part, item-head-tag, item-head-over, item-he
 use Rattle.stores.proofs.Puts.{Puts}
 use Rattle.write_laws.proofs.Entries.{valueAt, value-long, entry-fault, entry-room}
 use Rattle.write_sheet.specs.Meet.{itemSheet, levelSheet}
-use Rattle.write_sheet.specs.Quick.{LevelPassed, Glanced}
+use Rattle.write_sheet.specs.Quick.{LevelPassed, SmallItem}
 use Rattle.write_sheet.proofs.Records.{val-long}
 use Rattle.write_sheet.proofs.Turns.{LevelSheets, SheetEntry, one-room, one-more}
 
@@ -57,13 +57,13 @@ zero-tag (b ∷ s) h e = rw e
 -- the turn at such an item
 pub record Turn (f : Form) (s out₀ out : List ℕ) (p k n : ℕ) : Type 0 where
   pub passed : LevelPassed false f s out₀ out p k
-  pub glanced : Glanced s p n
+  pub glanced : SmallItem s p n
   pub bytes : Bytes s
   pub most : length s ≤ 8192
   pub room : length (levelSheet pack f s) ≤ length out₀
 
 module _ {f : Form} {s out₀ out : List ℕ} {p k n : ℕ} (i : Turn f s out₀ out p k n) where
-  abbrev q : Glanced s p n
+  abbrev q : SmallItem s p n
   q = i .glanced
 
   abbrev tag : ℕ

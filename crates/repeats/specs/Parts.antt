@@ -12,14 +12,14 @@ use Rattle.repeats.specs.Notes.{noted}
 abbrev pub quarter : ℕ → ℕ
 quarter k = k / 4096 % 4
 
-unfoldable pub marked : List ℕ → ℕ → Bool
-marked marks k = noted marks (k % 4096)
+unfoldable pub notedPart : List ℕ → ℕ → Bool
+notedPart bits k = noted bits (k % 4096)
 
--- key is marked, if it is of the part, and what was marked
-pub record Marked (before after : List ℕ) (key part : ℕ) : Type 0 where
+-- key is noted, if it is of the part, and what was noted
+pub record NotedPart (before after : List ℕ) (key part : ℕ) : Type 0 where
   pub long : length after ≡ length before
-  pub new : quarter key ≡ part → marked after key ≡ true
-  pub kept : (k : ℕ) → marked before k ≡ true → marked after k ≡ true
+  pub new : quarter key ≡ part → notedPart after key ≡ true
+  pub kept : (k : ℕ) → notedPart before k ≡ true → notedPart after k ≡ true
 
 -- `Clear`, of the keys of the part
 abbrev pub ClearIn : ℕ → (List ℕ → Got ℕ) → List ℕ → ℕ → Type 0

@@ -1,9 +1,9 @@
--- `tally::quick::glance` meets its contract: each 0 says nothing.
+-- `tally::quick::glance_item` meets its contract: each 0 says nothing.
 use native.Mathlib.Omega.{arith}
 use borrow.Author.Needs.{needs}
 use Rattle.tally.proofs.Glances.{glance-from}
-use Rattle.tally.proofs.quick.glance.Statement.{statement}
-use Rattle.tally.proofs.quick.glance.Tie as tie
+use Rattle.tally.proofs.quick.glance_item.Statement.{statement}
+use Rattle.tally.proofs.quick.glance_item.Tie as tie
 
 returns : tie.Need-returns
 returns c = λ h. absurd (omega arith)
@@ -26,14 +26,14 @@ shared-slice-read-wide-2 c = search needs
 wide-requires-2 : tie.Need-wide-requires-2
 wide-requires-2 c κs = search needs
 
-add-is-quick : tie.Need-add-is-quick
-add-is-quick c = search needs
+add-is-glanced : tie.Need-add-is-glanced
+add-is-glanced c = search needs
 
-shared-slice-read-is-quick : tie.Need-shared-slice-read-is-quick
-shared-slice-read-is-quick c = search needs
+shared-slice-read-is-glanced : tie.Need-shared-slice-read-is-glanced
+shared-slice-read-is-glanced c = search needs
 
-is-quick-requires : tie.Need-is-quick-requires
-is-quick-requires c κs = search needs
+is-glanced-requires : tie.Need-is-glanced-requires
+is-glanced-requires c κs = search needs
 
 add-result : tie.Need-add-result
 add-result c = search needs
@@ -45,13 +45,13 @@ returns-3 : tie.Need-returns-3
 returns-3 c =
     let i = c .before .before .before .before .before .before .before .before .if1 .left in
     let pre = c .before .before .before .before .before .before .before .before .before .before .before .pre in
-    λ h. glance-from _ _ _ _ _ (c .before .before .before .before .before .before .wide .ensures .0) (c .before .before .before .wide2 .ensures .0) (λ l. omega (arith, c .before .before .before .before .before .if2 .left, l)) (omega (arith, i, pre .2)) (pre .3 (omega (arith, i))) (c .before .is-quick .ensures (c .if3 .taken))
+    λ h. glance-from _ _ _ _ _ (c .before .before .before .before .before .before .wide .ensures .0) (c .before .before .before .wide2 .ensures .0) (λ l. omega (arith, c .before .before .before .before .before .if2 .left, l)) (omega (arith, i, pre .2)) (pre .3 (omega (arith, i))) (c .before .is-glanced .ensures (c .if3 .taken))
 
 returns-4 : tie.Need-returns-4
 returns-4 c = λ h. absurd (omega arith)
 
-pub glance-spec : {M : Type 1} → statement M
-glance-spec =
+pub glance-item-spec : {M : Type 1} → statement M
+glance-item-spec =
     tie.close
     (tie.spec
     returns
@@ -61,9 +61,9 @@ glance-spec =
     add-wide
     shared-slice-read-wide-2
     wide-requires-2
-    add-is-quick
-    shared-slice-read-is-quick
-    is-quick-requires
+    add-is-glanced
+    shared-slice-read-is-glanced
+    is-glanced-requires
     add-result
     add-result-2
     returns-3

@@ -1,10 +1,10 @@
--- `quick_records::quick::glance` meets its contract: where it has nothing to tell it says nothing.
+-- `quick_records::quick::glance_record` meets its contract: where it has nothing to tell it says nothing.
 use mathlib.Core.Path.{refl}
 use native.Mathlib.Omega.{arith}
 use borrow.Author.Needs.{needs}
 use Rattle.quick_records.proofs.Glances.{head-fits, size-from, glance-from}
-use Rattle.quick_records.proofs.quick.glance.Statement.{statement}
-use Rattle.quick_records.proofs.quick.glance.Tie as tie
+use Rattle.quick_records.proofs.quick.glance_record.Statement.{statement}
+use Rattle.quick_records.proofs.quick.glance_record.Tie as tie
 
 add-from : tie.Need-add-from
 add-from c = search needs
@@ -68,15 +68,15 @@ shared-slice-read-wide c = search needs
 wide-requires : tie.Need-wide-requires
 wide-requires c κs = search needs
 
-shared-slice-read-is-quick : tie.Need-shared-slice-read-is-quick
-shared-slice-read-is-quick c = search needs
+shared-slice-read-is-glanced : tie.Need-shared-slice-read-is-glanced
+shared-slice-read-is-glanced c = search needs
 
-is-quick-requires : tie.Need-is-quick-requires
-is-quick-requires c κs = search needs
+is-glanced-requires : tie.Need-is-glanced-requires
+is-glanced-requires c κs = search needs
 
 add-next : tie.Need-add-next
 add-next c =
-    let (small, few, q) = c .before .is-quick .ensures (c .if4 .taken) in
+    let (small, few, q) = c .before .is-glanced .ensures (c .if4 .taken) in
     omega (arith, few, c .before .before .before .before .before .before .before .before .before .before .before .before .if1 .left, c .before .before .before .before .before .before .before .before .before .before .before .before .before .before .before .pre .1)
 
 nothing-requires-4 : tie.Need-nothing-requires-4
@@ -87,7 +87,7 @@ returns-4 c = λ h. absurd (omega (arith, h, c .nothing4 .ensures))
 
 returns-5 : tie.Need-returns-5
 returns-5 c =
-    let (small, few, q) = c .before .before .is-quick .ensures (c .before .if4 .taken) in
+    let (small, few, q) = c .before .before .is-glanced .ensures (c .before .if4 .taken) in
     let a = c .before .before .before .before .before .before .before .before .before .before .before .before .before .before .before .before .args in
     let size = size-from (a .s .now) (a .p) (omega (arith, c .before .before .before .before .before .before .before .before .before .before .before .before .before .if1 .left)) (omega (arith, c .before .before .before .before .before .before .if3 .left)) (c .before .before .before .before .wide .ensures .0) in
     λ h. glance-from _ _ _ _ _ (λ i. c .before .before .before .before .before .before .before .before .before .before .before .before .before .before .shared-slice-known2 .given i .fits) (c .before .before .before .before .before .before .before .before .before .before .before .number-of .ensures) (c .before .before .before .before .before .before .before .before .before .before .word-of .ensures) (c .before .before .before .before .before .before .before .before .before .wrapping-sub-u32 .ensures) (omega (arith, c .before .before .before .before .before .before .before .before .if2 .left)) (omega (arith, small)) size (omega (arith, few)) refl (omega (arith, c .if5 .left)) q
@@ -98,8 +98,8 @@ nothing-requires-5 c κs = search needs
 returns-6 : tie.Need-returns-6
 returns-6 c = λ h. absurd (omega (arith, h, c .nothing5 .ensures))
 
-pub glance-spec : {M : Type 1} → statement M
-glance-spec =
+pub glance-record-spec : {M : Type 1} → statement M
+glance-record-spec =
     tie.close
     (tie.spec
     add-from
@@ -122,8 +122,8 @@ glance-spec =
     add-wide
     shared-slice-read-wide
     wide-requires
-    shared-slice-read-is-quick
-    is-quick-requires
+    shared-slice-read-is-glanced
+    is-glanced-requires
     add-next
     nothing-requires-4
     returns-4

@@ -1,10 +1,10 @@
--- `stores::copy_run` meets its contract: eight bytes at each end, and eight more where they do not meet.
+-- `stores::copy_all` meets its contract: eight bytes at each end, and eight more where they do not meet.
 use mathlib.Core.Path.{refl}
 use native.Mathlib.Omega.{arith}
 use Rattle.stores.proofs.Copies.{Copied, copy-start, copy-ends, copy-done}
 use borrow.Author.Needs.{needs}
-use Rattle.stores.proofs.copy_run.Statement.{statement}
-use Rattle.stores.proofs.copy_run.Tie as tie
+use Rattle.stores.proofs.copy_all.Statement.{statement}
+use Rattle.stores.proofs.copy_all.Tie as tie
 
 -- the first and the last eight are stored,
 abbrev begun : tie.After-slice-known3 → tie.Start
@@ -65,8 +65,8 @@ same-length-3 c = search needs
 returns-3 : tie.Need-returns-3
 returns-3 c = search needs
 
-pub copy-run-spec : {M : Type 1} → statement M
-copy-run-spec =
+pub copy-all-spec : {M : Type 1} → statement M
+copy-all-spec =
     tie.close
     (tie.spec
     sub-move-eight

@@ -1,0 +1,68 @@
+-- `quick_records::quick::glance_records` meets its contract: each turn is a turn of the walk.
+use Prim.Native.Nat.{_-_, _*_, _≤_}
+use mathlib.Core.Path.{refl}
+use native.Mathlib.Omega.{arith}
+use lib.ListN.{length}
+use borrow.Author.Needs.{needs}
+use Rattle.items.specs.Meet.{formOf}
+use Rattle.quick_records.specs.Going.{RecordsGoing}
+use Rattle.quick_records.proofs.PartTurns.{records-start}
+use Rattle.quick_records.proofs.Glances.{toldSizes, glance-next, glance-begun, glance-more}
+use Rattle.quick_records.proofs.quick.glance_records.Statement.{statement}
+use Rattle.quick_records.proofs.quick.glance_records.Tie as tie
+
+abbrev Inv-loop : tie.InvT-loop
+Inv-loop glances s set alone p₀ count₀ held₀ top₀ p count held top = RecordsGoing set (formOf alone) s p (toldSizes count p) held top 0 × (4 * count ≤ p)
+
+abbrev μ-loop : tie.MeasureT-loop
+μ-loop glances s set alone p₀ count₀ held₀ top₀ p count held top = length s - p
+
+loop-holds : tie.Need-loop-holds Inv-loop μ-loop
+loop-holds c = (records-start _ _ _, omega arith)
+
+glance-record-requires : tie.Need-glance-record-requires Inv-loop μ-loop
+glance-record-requires c κs = (c .before .before .before .pre .0, c .before .before .before .pre .1, c .loop .inv .0 .to)
+
+told-sizes-requires : tie.Need-told-sizes-requires Inv-loop μ-loop
+told-sizes-requires c κs = let l = c .before .before .before .loop in (l .inv .1, omega (arith, l .inv .0 .to, c .before .before .before .before .before .before .pre .1))
+
+stands-requires : tie.Need-stands-requires Inv-loop μ-loop
+stands-requires c κs = search needs
+
+returns : tie.Need-returns Inv-loop μ-loop
+returns c = rw (c .stands .ensures, c .before .told-sizes .ensures) (c .before .before .before .before .before .loop .inv .0, refl)
+
+is-asked-requires : tie.Need-is-asked-requires Inv-loop μ-loop
+is-asked-requires c κs = search needs
+
+either-requires : tie.Need-either-requires Inv-loop μ-loop
+either-requires c κs = search needs
+
+add-count : tie.Need-add-count Inv-loop μ-loop
+add-count c = omega (arith, c .before .before .before .before .before .loop .inv .1, glance-next (c .before .before .before .before .glance-record .ensures (omega (arith, c .before .before .if1 .left))), c .before .before .before .before .before .before .before .before .pre .1)
+
+loop-less : tie.Need-loop-less Inv-loop μ-loop
+loop-less c = omega (arith, glance-next (c .before .before .before .before .glance-record .ensures (omega (arith, c .before .before .if1 .left))))
+
+loop-again : tie.Need-loop-again Inv-loop μ-loop
+loop-again c =
+    let g = c .before .before .before .before .glance-record .ensures (omega (arith, c .before .before .if1 .left)) in
+    let l = c .before .before .before .before .before .loop in
+    (glance-more g (glance-begun g (c .before .before .before .before .before .before .before .before .pre .2)) (l .inv .0) (l .inv .1) (λ i. c .before .before .before .before .before .before .shared-slice-known2 .given i .fits) (c .before .before .before .before .before .before .before .before .pre .1) (c .before .is-asked .ensures) (c .either .ensures), omega (arith, l .inv .1, glance-next g))
+
+pub glance-records-spec : {M : Type 1} → statement M
+glance-records-spec =
+    tie.close
+    (tie.spec
+    Inv-loop
+    μ-loop
+    loop-holds
+    glance-record-requires
+    told-sizes-requires
+    stands-requires
+    returns
+    is-asked-requires
+    either-requires
+    add-count
+    loop-less
+    loop-again)

@@ -12,8 +12,7 @@ ghost use Rattle.tally.specs.Meet.{pieceOf, pieceFault, levelWalk, seriesWalk, 
 use heads::Head;
 use tally::Piece;
 use tally::Walked;
-use tally::quick;
-use tally::quick::Stage;
+use tally::stages::Stage;
 
 // The item at p of a level s; no tag before p is above top or below low, and none repeats before clear.
 fn item_at(
@@ -97,7 +96,7 @@ pub fn item_walk(
         s,
         set,
         alone,
-        quick::glance_items(glances, s, set, alone),
+        quick_items::glance_items(glances, s, set, alone),
         bits,
     )
 }
@@ -115,7 +114,7 @@ pub fn item_rest(
     requires { ⌜ (now table ≡ itemTable) × (length (now s) ≤ 8192) × LevelGoing set (formOf alone) (now s) (from .at) (from .sizes) (from .held) (from .top) (from .low) × (now glances ≡ glanceTable) ⌝ }
     ensures { λ r. ⌜ (r ≡ levelWalk (levelOf set) (formOf alone) (now (s .entry))) × Within r (length (now (s .entry))) ⌝ }
 {
-    let q = quick::onward(s, set, alone, from);
+    let q = quick_items::onward(s, set, alone, from);
     let mut p = q.at;
     let mut sum = q.sizes;
     let mut held = q.held;
@@ -208,7 +207,7 @@ pub fn pack_walk(
             items,
             false,
             alone,
-            quick::glance_items(glances, items, false, alone),
+            quick_items::glance_items(glances, items, false, alone),
             bits,
         );
         let Walked::Good { sizes, held } = w else {

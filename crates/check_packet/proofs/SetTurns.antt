@@ -20,15 +20,16 @@ use Rattle.heads.specs.declared.Head.the-variants as heads
 use Rattle.heads.specs.Meet.{itemHeadOf}
 use Rattle.tally.specs.declared.Sizes.{Sizes}
 use Rattle.tally.specs.declared.Walked.{Walked}
-use Rattle.tally.specs.declared.quick.Stage.{Stage}
+use Rattle.tally.specs.declared.stages.Stage.{Stage}
 use Rattle.tally.specs.declared.Walked.the-variants.{Good}
 use Rattle.tally.specs.Meet.{itemSizes, seriesSizes, plusSizes, seriesWalk, seriesFrom, Small, Within}
 use Rattle.tally.specs.Going.{LevelGoing, stageAt}
 use Rattle.tally.proofs.Turns.{within-more}
 use Rattle.tally.proofs.Pieces.{piece-within}
 use Rattle.tally.proofs.ItemTurns.{ItemAt, EntryTold, item-told, series-told, good-small, entry-more}
-use Rattle.tally.proofs.Glances.{met-item, begun-later}
-use Rattle.tally.proofs.Beyond.{or-false}
+use Rattle.tally.proofs.Begins.{begun-later}
+use Rattle.quick_items.proofs.Glances.{met-item}
+use Rattle.tally.proofs.Begins.{or-false}
 use Rattle.check_packet.specs.Meet.{HeadIf}
 
 -- ---- their values

@@ -10,8 +10,8 @@ ghost use Rattle.tally.specs.Going.{LevelGoing, SeriesGoing};
 ghost use Rattle.check_packet.specs.Meet.{HeadIf};
 use heads::Head;
 use tally::Walked;
-use tally::quick;
-use tally::quick::Stage;
+use tally::stages;
+use tally::stages::Stage;
 
 // The head of the item at p, if that begins with this byte: then most of it is known. Else 0 as a fault.
 fn head_at(s: &[u8], p: usize, byte: u8) -> Head
@@ -78,20 +78,20 @@ fn series(glances: &[u32], s: &[u8], alone: bool, q: Stage) -> Stage
     if quick_packs::is_lone(packs) {
         let one = quick_packs::lone(glances, packs, alone);
         if one.at == packs.len() {
-            return quick::after_series(q, next, one.sizes);
+            return stages::after_series(q, next, one.sizes);
         }
         return q;
     }
     let d = quick_packs::packs(glances, packs, alone);
     // no enum goes through memory where all are told at a glance
     if d.at == packs.len() {
-        return quick::after_series(q, next, d.sizes);
+        return stages::after_series(q, next, d.sizes);
     }
     let w = packs_rest(glances, packs, alone, d);
     let Walked::Good { sizes, held: _ } = w else {
         return q;
     };
-    quick::after_series(q, next, sizes)
+    stages::after_series(q, next, sizes)
 }
 
 // Whether a tag and a length are the checksum's, where it may stand, and the tag is told to be new.
@@ -137,7 +137,7 @@ fn seal(s: &[u8], alone: bool, q: Stage) -> Stage
         return q;
     }
     let sum = tally::weights::plus(q.sizes, tally::weights::plain_sizes(true, 1, 2));
-    quick::stands(next, sum, true, tally::larger(q.top, 1), 1)
+    stages::stage_at(next, sum, true, tally::larger(q.top, 1), 1)
 }
 
 // The rest of the set, from where the quick way ended: its checksum, or whatever is left, one by one.
@@ -147,7 +147,7 @@ fn set_rest(glances: &[u32], s: &[u8], alone: bool, from: Stage) -> Walked
 {
     let q = seal(s, alone, from);
     if q.at == s.len() {
-        return quick::walked(q);
+        return stages::walked(q);
     }
     let table = items::table();
     let mut bits = [0u64; 64];
@@ -163,10 +163,10 @@ pub fn set_walk(glances: &[u32], s: &[u8], alone: bool) -> Walked
         glances,
         s,
         alone,
-        quick::glance_items(glances, s, true, alone),
+        quick_items::glance_items(glances, s, true, alone),
     );
     if q.at == s.len() {
-        return quick::walked(q);
+        return stages::walked(q);
     }
     // as a part here too
     set_rest(glances, &s[0..], alone, q)

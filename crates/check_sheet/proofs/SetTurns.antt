@@ -15,14 +15,14 @@ use Rattle.items.proofs.Tests.{standing-0}
 use Rattle.heads.specs.Meet.{peek, Past}
 use Rattle.tally.specs.declared.Piece.the-variants as piece
 use Rattle.tally.specs.declared.Sizes.{Sizes}
-use Rattle.tally.specs.declared.quick.Stage.{Stage}
+use Rattle.tally.specs.declared.stages.Stage.{Stage}
 use Rattle.tally.specs.declared.Walked.the-variants.{Good}
 use Rattle.tally.specs.Meet.{seriesSizes, plusSizes, Small}
 use Rattle.tally.specs.Going.{stageAt}
 use Rattle.tally.proofs.Walks.{few-more}
 use Rattle.tally.proofs.Turns.{turn-done}
-use Rattle.tally.proofs.Glances.{begun-later}
-use Rattle.tally.proofs.Beyond.{or-false}
+use Rattle.tally.proofs.Begins.{begun-later}
+use Rattle.tally.proofs.Begins.{or-false}
 use Rattle.quick_records.specs.Meet.{partPiece}
 use Rattle.quick_records.specs.Going.{RecordsGoing, TargetsPassed}
 use Rattle.quick_records.proofs.Opens.{series-whole, part-series}

@@ -15,7 +15,7 @@ ghost use Rattle.check_sheet.specs.Meet.{sheetedOf, partsFault};
 use quick_records::quick;
 use quick_records::targets;
 use tally::Walked;
-use tally::quick::Stage;
+use tally::stages::Stage;
 
 // Its form, the bytes of its packet's set but for the checksum, and those of the series' packs; or the refusal.
 pub enum Sheeted {
@@ -62,13 +62,13 @@ fn series(glances: &[u32], s: &[u8], alone: bool, q: Stage) -> Stage
     let mut none = [0u64; 1];
     let w = targets::many(glances, t, alone, &mut none[0..0]);
     if is_all(w, t.len()) {
-        return tally::quick::after_series(q, s.len(), w.sizes);
+        return tally::stages::after_series(q, s.len(), w.sizes);
     }
     if targets::is_between(t, w) {
         let mut bits = [0u64; 64];
         let d = targets::strewn(glances, &t[0..], alone, &mut bits);
         if is_all(d, t.len()) {
-            return tally::quick::after_series(q, s.len(), d.sizes);
+            return tally::stages::after_series(q, s.len(), d.sizes);
         }
     }
     q
@@ -117,7 +117,7 @@ fn set_records(glances: &[u32], s: &[u8], alone: bool) -> Walked
 {
     let q = set_glanced(glances, s, alone);
     if q.at == s.len() {
-        return tally::quick::walked(q);
+        return tally::stages::walked(q);
     }
     // lent on as a part, so that the compiler keeps the slice itself in registers
     set_anew(glances, &s[0..], alone)

@@ -16,13 +16,14 @@ use Rattle.coding.proofs.Alikes.{alike-same, alike-as, masked-before, masked-he
 use Rattle.items.specs.Meet.{levelOf, formOf}
 use Rattle.items.specs.Quick as items
 use Rattle.items.proofs.Glances.{quick-as}
-use Rattle.tally.specs.declared.quick.Stage.{Stage}
+use Rattle.tally.specs.declared.stages.Stage.{Stage}
 use Rattle.quick_packs.specs.declared.Model.{Model}
 use Rattle.tally.specs.Meet.{askedTag}
-use Rattle.tally.specs.Going.{LevelGoing, Begun, ItemGlanced, GlancedTo}
+use Rattle.tally.specs.Going.{LevelGoing, Begun}
 use Rattle.quick_packs.specs.Packs.{Laid, Told, Modelled}
 use Rattle.tally.proofs.ItemTurns.{level-start}
-use Rattle.tally.proofs.Glances.{toldSizes, glanced-next, glanced-low, glanced-more}
+use Rattle.quick_items.specs.Items.{toldSizes, ItemGlanced, GlancedTo}
+use Rattle.quick_items.proofs.Glances.{glanced-next, glanced-low, glanced-more}
 
 -- a value whose first byte is x, and one whose is y where the mask allows it
 pub quick-alike : {l : Level} {f : Form} {tag n held x y : ℕ} → (held ≡ 0 → items.Glanced l f tag n 0) → items.Glanced l f tag n x → Alike held x y → items.Glanced l f tag n y

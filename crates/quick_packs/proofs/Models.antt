@@ -1,22 +1,26 @@
 -- A pack's items as a model: what is laid out as they are is told as they are, and a pack whose items are told is walked.
-use mathlib.Core.Path.{_≡_, refl, sym, subst, _∙_}
+use mathlib.Core.Path.{_≡_, refl, sym, ap, subst, _∙_}
 use Prim.Native.Nat.{ℕ, _+_, _-_, _≤_, _<_}
 use native.Mathlib.Omega.{arith}
 use mathlib.Core.Bool.{Bool, true, false, not, _||_}
 use mathlib.Core.List.{List}
 use lib.ListN.{length, take, drop, length-drop}
 use lib.Seq.{getD-take, length-take-le}
-use Rattle.format.specs.Coding.{Bytes}
+use Rattle.format.specs.Coding.{Bytes, lenWidth}
 use Rattle.format.proofs.words.Bytes.{bytes-drop, bytes-take}
 use Rattle.coding.specs.Alike.{AlikeTo}
 use Rattle.coding.proofs.Alikes.{alike-same, alike-as}
+use Rattle.coding.proofs.Counts.{len-one}
 use Rattle.items.specs.Meet.{formOf}
 use Rattle.heads.specs.Meet.{peek}
-use Rattle.tally.specs.declared.quick.Stage.{Stage}
+use Rattle.tally.specs.declared.Sizes.{Sizes}
+use Rattle.tally.specs.declared.stages.Stage.{Stage}
 use Rattle.quick_packs.specs.declared.Model.{Model}
 use Rattle.tally.specs.Going.{LevelGoing, SeriesGoing, Reached}
-use Rattle.quick_packs.specs.Packs.{Laid, Told, As, Modelled}
-use Rattle.tally.proofs.Glances.{toldSizes, packedSizes, packed-plus}
+use Rattle.tally.specs.Meet.{packSizes, plusSizes}
+use Rattle.quick_packs.specs.Packs.{Laid, Told, As, Modelled, packedSizes}
+use Rattle.quick_items.specs.Items.{toldSizes}
+use Rattle.tally.proofs.Walks.{same-sizes}
 use Rattle.tally.proofs.Turns.{turn-done, Fresh, reached-fresh}
 use Rattle.tally.proofs.PackTurns.{PackAt, either-is, head-stood, lent-long, pack-more}
 
@@ -71,6 +75,15 @@ no-items e n long = record { long = long; within = omega (arith, e); told = λ h
 pub run-told : (alone : Bool) {b : List ℕ} {q : Stage} → LevelGoing false (formOf alone) b (q .at) (q .sizes) (q .held) (q .top) (q .low) × (q .sizes ≡ toldSizes (q .sizes .rows) (q .at)) → length b ≡ q .at → not alone || q .held ≡ true
     → Told alone b (1 + q .sizes .rows)
 run-told alone {q = q} g all located = record { count = q .sizes .rows; held = q .held; top = q .top; low = q .low; going = rw (all, ← g .1) (g .0); rows-are = refl; located = located }
+
+-- the sizes of one more such pack: w and n are its length's bytes and its length, u its id's bytes
+packed-plus : (p rows more w n : ℕ) {u at : ℕ} {z : Sizes} → (w ≡ 1) × (n < 128) × (u ≤ 2) → u ≤ n → at ≡ n - u → z ≡ toldSizes (z .rows) at
+    → packedSizes (p + w + n) (rows + 1 + z .rows) (more + 5 - u) ≡ plusSizes (packedSizes p rows more) (packSizes u z)
+packed-plus p rows more w n {u = u} {z = z} (ew, few, id) l e ez =
+    let es = ap (λ a. a .sheet) ez in
+    let en = ap (λ a. a .normal) ez in
+    let one : 1 ≡ lenWidth (u + z .normal) = len-one (u + z .normal) (omega arith) in
+    same-sizes (omega arith) (omega arith) (omega arith) refl
 
 -- a pack whose items are told, in the series
 pub told-more : {alone : Bool} {s : List ℕ} {p rows : ℕ} (more : ℕ) {top low k u w n : ℕ} → PackAt (formOf alone) s p (packedSizes p rows more) top low k u w n → (w ≡ 1) × (n < 128) × (u ≤ 2) → {top′ low′ : ℕ}

@@ -8,7 +8,8 @@ use Rattle.format.specs.Coding.{Bytes}
 use Rattle.format.specs.Table.{Form}
 use Rattle.coding.specs.Alike.{AlikeTo}
 use Rattle.items.specs.Meet.{formOf}
-use Rattle.tally.specs.declared.quick.Stage.{Stage}
+use Rattle.tally.specs.declared.Sizes.{Sizes}
+use Rattle.tally.specs.declared.stages.Stage.{Stage}
 use Rattle.quick_packs.specs.declared.Model.{Model}
 use Rattle.tally.specs.Meet.{sizes}
 use Rattle.tally.specs.Going.{LevelGoing}
@@ -39,3 +40,7 @@ pub record Modelled (alone : Bool) (masks s : List ℕ) (m : Model) : Type 0 whe
   pub long : length masks ≡ 160
   pub within : m .from ≤ length s
   pub told : m .size < 128 → (b : List ℕ) → Bytes b → length b ≡ m .size → AlikeTo masks (drop (m .from) s) b (m .size) → Told alone b (m .rows)
+
+-- the sizes of such packs in p bytes with so many rows
+abbrev pub packedSizes : ℕ → ℕ → ℕ → Sizes
+packedSizes p rows more = sizes (p + 4 * rows + more) rows p 0

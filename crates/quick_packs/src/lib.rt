@@ -11,8 +11,8 @@ ghost use Rattle.tally.specs.Going.{SeriesGoing, stageAt};
 ghost use Rattle.quick_packs.specs.Packs.{Laid, As, Modelled, Told};
 use heads::Head;
 use tally::Sizes;
-use tally::quick;
-use tally::quick::Stage;
+use tally::stages;
+use tally::stages::Stage;
 
 // Where a pack's items begin, how many bytes they have, and the pack's rows.
 pub struct Model {
@@ -32,24 +32,24 @@ pub fn no_model() -> Model
     }
 }
 
-// A pack's items told at a glance, as `quick::glance_items` goes over them, and masked: whatever is laid out so is walked so.
+// A pack's items told at a glance, as `quick_items::glance_items` goes over them, and masked: whatever is laid out so is walked so.
 fn lay(glances: &[u32], s: &[u8], alone: bool, masks: &mut [u8; 160]) -> Stage
     requires { ⌜ (now glances ≡ glanceTable) × (length (now s) < 128) × (length (now masks) ≡ 160) ⌝ }
     ensures { λ r. ⌜ Laid (formOf alone) (now (masks .exit)) (now (s .entry)) r × (length (now (masks .exit)) ≡ 160) ⌝ }
 {
-    let most = quick::span(s, false, alone);
-    let low = quick::first_tag(s);
+    let most = quick_items::span(s, false, alone);
+    let low = quick_items::first_tag(s);
     let mut p: usize = 0;
     let mut count: usize = 0;
     let mut held = false;
     let mut top: u64 = 0;
     loop {
-        let next = quick::glance_item(glances, s, p, most, false, alone, top);
+        let next = quick_items::glance_item(glances, s, p, most, false, alone, top);
         if next == 0 {
             if s.len() < p {
-                return quick::stands(0, quick::nothing(), false, 0, low);
+                return stages::stage_at(0, tally::weights::nothing(), false, 0, low);
             }
-            return quick::stands(p, quick::told_sizes(count, p), held, top, low);
+            return stages::stage_at(p, quick_items::told_sizes(count, p), held, top, low);
         }
         let tag = coding::wide(s[p]);
         let first = items::quick::first_mask(glances, false, alone, tag, coding::wide(s[p + 1]));
@@ -117,7 +117,7 @@ fn unmodelled(glances: &[u32], s: &[u8], from: usize, next: usize, alone: bool) 
     requires { ⌜ (now glances ≡ glanceTable) × (from ≤ next) × (next ≤ length (now s)) × (next - from < 128) ⌝ }
     ensures { λ r. ⌜ (r .from ≡ 0) × (r .size ≡ 128) × (0 < r .rows → Told alone (take (next - from) (drop from (now (s .entry)))) (r .rows)) ⌝ }
 {
-    let q = quick::glance_items(glances, &s[from..next], false, alone);
+    let q = quick_items::glance_items(glances, &s[from..next], false, alone);
     if q.at != next - from {
         return no_model();
     }
@@ -144,7 +144,7 @@ fn passed(p: usize, rows: usize, more: usize, top: u64, low: u64) -> Stage
         normal: p,
         inner: 0,
     };
-    quick::stands(p, sizes, false, top, low)
+    stages::stage_at(p, sizes, false, top, low)
 }
 
 // The packs whose length has one byte and whose id has one or two, and whose items are all told at a glance, one after another, from a series'

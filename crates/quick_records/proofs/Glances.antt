@@ -28,7 +28,7 @@ use Rattle.tally.specs.declared.Sizes.{Sizes}
 use Rattle.tally.specs.Meet.{sizes, itemSizes, packSizes, plusSizes, askedTag}
 use Rattle.tally.specs.Going.{Begun}
 use Rattle.tally.proofs.Walks.{same-sizes}
-use Rattle.tally.proofs.Glances.{begun-later}
+use Rattle.tally.proofs.Begins.{begun-later}
 use Rattle.tally.proofs.ItemTurns.{level-is}
 use Rattle.quick_records.specs.Meet.{pieceBy, valueWhole, partPiece, moreAt}
 use Rattle.quick_records.specs.Going.{RecordsGoing, RecordGlanced, wordOf}

@@ -14,7 +14,7 @@ use Rattle.format.proofs.words.Bytes.{bytes-drop}
 use Rattle.coding.proofs.Rooms.{tail-part}
 use Rattle.items.specs.Meet.{formOf}
 use Rattle.heads.specs.Meet.{peek}
-use Rattle.tally.specs.declared.quick.Stage.{Stage}
+use Rattle.tally.specs.declared.stages.Stage.{Stage}
 use Rattle.quick_packs.specs.declared.Model.{Model}
 use Rattle.tally.specs.declared.Walked.the-variants.{Good}
 use Rattle.tally.specs.Meet.{sizes, Within}

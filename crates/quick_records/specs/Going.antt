@@ -14,7 +14,7 @@ use Rattle.heads.specs.Meet.{peek}
 use Rattle.heads.specs.Records.{fieldAnswer}
 use Rattle.heads.specs.declared.records.Field.the-variants.{Whole}
 use Rattle.tally.specs.declared.Sizes.{Sizes}
-use Rattle.tally.specs.declared.quick.Stage.{Stage}
+use Rattle.tally.specs.declared.stages.Stage.{Stage}
 use Rattle.tally.specs.Meet.{askedTag, weightOfTarget}
 use Rattle.tally.specs.Going.{Going}
 use Rattle.quick_records.specs.Meet.{moreAt, partStep, weightAt, recordsWalk, targetsWalk}

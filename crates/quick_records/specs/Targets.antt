@@ -9,7 +9,7 @@ use Rattle.format.specs.Sheet.{TG, is}
 use Rattle.format.specs.Table.{Form}
 use Rattle.coding.specs.Alike.{AlikeTo}
 use Rattle.items.specs.Meet.{formOf}
-use Rattle.tally.specs.declared.quick.Stage.{Stage}
+use Rattle.tally.specs.declared.stages.Stage.{Stage}
 use Rattle.quick_packs.specs.declared.Model.{Model}
 use Rattle.tally.specs.Meet.{sizes}
 use Rattle.quick_records.specs.Going.{RecordsGoing}

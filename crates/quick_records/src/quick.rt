@@ -8,7 +8,7 @@ ghost use Rattle.tally.specs.Meet.{sizes};
 ghost use Rattle.tally.specs.Going.{Begun};
 ghost use Rattle.quick_records.specs.Going.{RecordsGoing, RecordGlanced, wordOf};
 use tally::Sizes;
-use tally::quick::Stage;
+use tally::stages::Stage;
 
 // A tag, and where its record ends, which is a sum and so never 0 to the compiler; 0 where no such record stands.
 pub struct Told {
@@ -97,7 +97,7 @@ pub fn glance_records(glances: &[u32], s: &[u8], set: bool, alone: bool) -> Stag
     loop {
         let g = glance_record(glances, s, p, set, alone, top);
         if g.next == 0 {
-            return tally::quick::stands(p, told_sizes(count, p), held, top, 0);
+            return tally::stages::stage_at(p, told_sizes(count, p), held, top, 0);
         }
         held = coding::either(held, tally::is_asked(set, g.tag));
         top = g.tag;

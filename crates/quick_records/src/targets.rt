@@ -14,7 +14,7 @@ ghost use Rattle.quick_records.specs.Targets.{Laid, Held, Over, Modelled
 use super::quick;
 use quick_packs::Model;
 use tally::Sizes;
-use tally::quick::Stage;
+use tally::stages::Stage;
 
 // A target's records told at a glance, as `quick::glance_records` goes over them, and masked while there is room: whatever is laid out so is walked so.
 fn lay(glances: &[u32], s: &[u8], alone: bool, masks: &mut [u8; 160]) -> Stage
@@ -28,7 +28,7 @@ fn lay(glances: &[u32], s: &[u8], alone: bool, masks: &mut [u8; 160]) -> Stage
     loop {
         let g = quick::glance_record(glances, s, p, false, alone, top);
         if g.next == 0 {
-            return tally::quick::stands(p, quick::told_sizes(count, p), held, top, 0);
+            return tally::stages::stage_at(p, quick::told_sizes(count, p), held, top, 0);
         }
         if p < 128 {
             let n = (g.next - (p + 6)) as u64;

@@ -4,9 +4,8 @@ pub mod Walks
 pub mod Levels
 pub mod Series
 pub mod Turns
+pub mod Begins
 pub mod ItemTurns
-pub mod Glances
-pub mod Beyond
 pub mod PackTurns
 pub mod Totals
 pub mod Inners

@@ -5,7 +5,7 @@ use Prim.Native.Nat.{ℕ, _+_, _≤_, _<_}
 use mathlib.Core.Bool.{Bool, true, false, not, _||_}
 use mathlib.Core.List.{List}
 use mathlib.Core.Logic.{_⊎_}
-use lib.ListN.{length, drop, getD}
+use lib.ListN.{length, drop}
 use lib.Dec.{eqb}
 use Rattle.format.specs.Answer.{Ans, ok, refused, Got}
 use Rattle.format.specs.Packet.{tagOfEntry, idOfPack}
@@ -13,11 +13,10 @@ use Rattle.format.specs.Read.{onePack}
 use Rattle.format.specs.Run.{Step, skip, always}
 use Rattle.format.specs.Table.{Form, isSet, isAlone}
 use Rattle.items.specs.Meet.{levelOf}
-use Rattle.items.specs.Quick as items
 use Rattle.heads.specs.Meet.{peek, Past}
 use Rattle.tally.specs.declared.Sizes.{Sizes}
 use Rattle.tally.specs.declared.Walked.{Walked}
-use Rattle.tally.specs.declared.quick.Stage.{Stage}
+use Rattle.tally.specs.declared.stages.Stage.{Stage}
 use Rattle.tally.specs.declared.Walked.the-variants.{Good, Bad}
 use Rattle.tally.specs.Meet.{plusSizes, total, any, weightOfEntry, weightOfPack, askedTag, stepAt, levelWalk, seriesWalk, Few}
 
@@ -43,6 +42,13 @@ LevelGoing b f s p a m top low =
 abbrev pub SeriesGoing : Form → List ℕ → ℕ → Sizes → ℕ → ℕ → Type 0
 SeriesGoing f s p a top low = Going (peek false true false) always weightOfPack (λ p. false) idOfPack (onePack f) (seriesWalk f s) s p a false top low
 
+-- the two, come to this stage
+abbrev pub LevelTo : Bool → Form → List ℕ → Stage → Type 0
+LevelTo b f s q = LevelGoing b f s (q .at) (q .sizes) (q .held) (q .top) (q .low)
+
+abbrev pub SeriesTo : Form → List ℕ → Stage → Type 0
+SeriesTo f s q = SeriesGoing f s (q .at) (q .sizes) (q .top) (q .low)
+
 -- where a walk goes on, and what was walked till there
 abbrev pub stageAt : ℕ → Sizes → Bool → ℕ → ℕ → Stage
 stageAt p a m top low = record { at = p; sizes = a; held = m; top = top; low = low }
@@ -50,20 +56,6 @@ stageAt p a m top low = record { at = p; sizes = a; held = m; top = top; low = l
 -- a tag may stand at p, if that is where the level begins
 abbrev pub Begun : Bool → Form → ℕ → ℕ → Type 0
 Begun b f p tag = not (isSet (levelOf b)) || not (isAlone f) || not (eqb p 0) || eqb tag 2 ≡ true
-
--- an item at p that is told at a glance, with a byte each for its tag and its length, and whose tag is above top
-pub record ItemGlanced (b : Bool) (f : Form) (s : List ℕ) (p top n : ℕ) : Type 0 where
-  pub quick : items.Glanced (levelOf b) f (getD s p 0) n (getD s (p + 2) 0)
-  pub small : getD s p 0 < 128
-  pub few : n < 128
-  pub above : top < getD s p 0
-  pub size-is : n ≡ getD s (p + 1) 0
-  pub room : p + 2 + n ≤ length s
-  pub begins : Begun b f p (getD s p 0)
-
--- there is one, if next, where its length says that it ends, is no further than the level's end
-abbrev pub GlancedTo : Bool → Form → List ℕ → ℕ → ℕ → ℕ → Type 0
-GlancedTo b f s p top next = (n : ℕ) × (next ≡ p + 2 + n) × (0 < n) × (p + 2 < length s) × (next ≤ length s → ItemGlanced b f s p top n)
 
 -- a key that is told to be new where no key before p is above top or below low
 abbrev pub New : ℕ → ℕ → ℕ → ℕ → Type 0
@@ -75,10 +67,3 @@ pub record Reached (p top low key top′ low′ : ℕ) : Type 0 where
   pub over : (top ≤ top′) × (key ≤ top′)
   pub under : (low′ ≤ low) × (low′ ≤ key)
   pub between : low′ ≤ top′
-
--- an item of n bytes at p that may stand there whatever they are
-pub record Plain (b : Bool) (f : Form) (p top low tag n : ℕ) : Type 0 where
-  pub some : 0 < n
-  pub new : New p top low tag
-  pub begins : Begun b f p tag
-  pub beyond : items.beyond b tag ≡ true

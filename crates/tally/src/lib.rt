@@ -125,5 +125,5 @@ pub fn series_of(w: Walked, k: usize) -> Walked
     }
 }
 
-pub mod quick; // quick.rt: the quick way over a level
+pub mod stages; // stages.rt: where a walk goes on
 pub mod weights; // weights.rt: the sizes of an item, a pack and the series

@@ -2,7 +2,7 @@
 ghost use mathlib.Core.Path.{_≡_};
 ghost use Prim.Native.Nat.{_≤_};
 ghost use Rattle.items.specs.Meet.{levelOf};
-ghost use Rattle.tally.specs.Meet.{Small, itemSizes, packSizes, seriesSizes, plusSizes};
+ghost use Rattle.tally.specs.Meet.{Small, noSizes, itemSizes, packSizes, seriesSizes, plusSizes};
 use super::Sizes;
 
 // Of an item with n bytes in its shortest form. The set's checksum has a row alone.
@@ -63,5 +63,17 @@ pub fn plus(a: Sizes, b: Sizes) -> Sizes
         rows: a.rows + b.rows,
         normal: a.normal + b.normal,
         inner: a.inner + b.inner,
+    }
+}
+
+// No bytes, rows or packs.
+pub fn nothing() -> Sizes
+    ensures { λ r. ⌜ r ≡ noSizes ⌝ }
+{
+    Sizes {
+        sheet: 0,
+        rows: 0,
+        normal: 0,
+        inner: 0,
     }
 }

@@ -36,10 +36,10 @@ use Rattle.tally.proofs.one_item.Reads as one-item-reads
 use Rattle.check_items.proofs.piece_fault.Reads as piece-fault-reads
 use Rattle.tally.proofs.weights.pack_sizes.Reads as pack-sizes-reads
 use Rattle.tally.proofs.weights.plus.Reads as plus-reads
-use Rattle.tally.proofs.quick.onward.Reads as onward-reads
+use Rattle.quick_items.proofs.onward.Reads as onward-reads
 use Rattle.quick_packs.proofs.packs.Reads as packs-reads
 use Rattle.quick_packs.proofs.noted.Reads as noted-reads
-use Rattle.tally.proofs.quick.glance_items.Reads as glance-items-reads
+use Rattle.quick_items.proofs.glance_items.Reads as glance-items-reads
 use Rattle.tally.proofs.series_of.Reads as series-of-reads
 use Rattle.tally.proofs.smaller.Reads as smaller-reads
 use Rattle.tally.proofs.stop.Reads as stop-reads

@@ -6,7 +6,7 @@ use lib.ListN.{length}
 use borrow.Author.Needs.{needs}
 use Rattle.items.specs.Meet.{formOf}
 use Rattle.tally.proofs.ItemTurns.{level-start}
-use Rattle.tally.proofs.Glances.{glanced-next}
+use Rattle.quick_items.proofs.Glances.{glanced-next}
 use Rattle.quick_packs.proofs.Alikes.{Laying, laying-own, laying-more}
 use Rattle.quick_packs.proofs.lay.Statement.{statement}
 use Rattle.quick_packs.proofs.lay.Tie as tie
@@ -36,20 +36,20 @@ glance-item-requires c κs = (c .before .before .before .before .before .pre .0,
 nothing-requires : tie.Need-nothing-requires Inv-loop μ-loop
 nothing-requires c κs = search needs
 
-stands-requires : tie.Need-stands-requires Inv-loop μ-loop
-stands-requires c κs = search needs
+stage-at-requires : tie.Need-stage-at-requires Inv-loop μ-loop
+stage-at-requires c κs = search needs
 
 returns : tie.Need-returns Inv-loop μ-loop
-returns c = rw (c .stands .ensures, c .before .nothing .ensures) (record { walked = λ b _ _ _. level-start _ _ _; sizes-are = refl }, c .before .before .before .before .before .loop .inv .long)
+returns c = rw (c .stage-at .ensures, c .before .nothing .ensures) (record { walked = λ b _ _ _. level-start _ _ _; sizes-are = refl }, c .before .before .before .before .before .loop .inv .long)
 
 told-sizes-requires : tie.Need-told-sizes-requires Inv-loop μ-loop
 told-sizes-requires c κs = let i = laying-own (c .before .before .before .loop .inv) (omega (arith, c .if2 .left)) (λ i. c .before .before .before .before .before .before .shared-slice-known2 .given i .fits) in omega (arith, i .few .rows, c .before .before .before .before .before .before .before .before .pre .1)
 
-stands-requires-2 : tie.Need-stands-requires-2 Inv-loop μ-loop
-stands-requires-2 c κs = search needs
+stage-at-requires-2 : tie.Need-stage-at-requires-2 Inv-loop μ-loop
+stage-at-requires-2 c κs = search needs
 
 returns-2 : tie.Need-returns-2 Inv-loop μ-loop
-returns-2 c = rw (c .stands2 .ensures, c .before .told-sizes .ensures) (record { walked = c .before .before .before .before .before .loop .inv .walked (omega (arith, c .before .before .if2 .left)); sizes-are = refl }, c .before .before .before .before .before .loop .inv .long)
+returns-2 c = rw (c .stage-at2 .ensures, c .before .told-sizes .ensures) (record { walked = c .before .before .before .before .before .loop .inv .walked (omega (arith, c .before .before .if2 .left)); sizes-are = refl }, c .before .before .before .before .before .loop .inv .long)
 
 shared-slice-read-wide : tie.Need-shared-slice-read-wide Inv-loop μ-loop
 shared-slice-read-wide c = omega (arith, glanced-next (c .before .before .glance-item .ensures (omega (arith, c .before .if1 .left))))
@@ -101,10 +101,10 @@ lay-spec =
     loop-holds
     glance-item-requires
     nothing-requires
-    stands-requires
+    stage-at-requires
     returns
     told-sizes-requires
-    stands-requires-2
+    stage-at-requires-2
     returns-2
     shared-slice-read-wide
     wide-requires

@@ -8,7 +8,7 @@ use Rattle.items.specs.Meet.{formOf}
 use Rattle.heads.specs.declared.Head.the-variants as heads
 use Rattle.heads.proofs.Heads.{pack-head-if}
 use Rattle.tally.specs.Going.{Reached}
-use Rattle.tally.proofs.Glances.{packedSizes}
+use Rattle.quick_packs.specs.Packs.{packedSizes}
 use Rattle.tally.proofs.Turns.{new-key, reach-only}
 use Rattle.tally.proofs.PackTurns.{PackAt, series-start, head-stood, head-room, lent-long}
 use Rattle.quick_packs.proofs.Models.{told-first}

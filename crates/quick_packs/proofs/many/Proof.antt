@@ -17,8 +17,7 @@ use Rattle.repeats.specs.Notes.{Noting}
 use Rattle.repeats.proofs.Noted.{Noted, noted-none, noted-new, noted-more}
 use Rattle.quick_packs.specs.declared.Model.{Model}
 use Rattle.tally.specs.Going.{SeriesGoing}
-use Rattle.quick_packs.specs.Packs.{Told, Modelled}
-use Rattle.tally.proofs.Glances.{packedSizes}
+use Rattle.quick_packs.specs.Packs.{packedSizes, Told, Modelled}
 use Rattle.tally.proofs.Turns.{going-wide, Fresh, reached-fresh, fresh-within, reach-first, reach-over, reach-under}
 use Rattle.tally.proofs.PackTurns.{PackAt, series-start, whole, head-stood, head-room, lent-long}
 use Rattle.quick_packs.proofs.Models.{no-items, as-model, told-more}

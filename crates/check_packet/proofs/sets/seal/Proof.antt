@@ -13,14 +13,14 @@ use Rattle.check_packet.proofs.sets.seal.Tie as tie
 use Rattle.check_packet.proofs.sets.seal.Reads as reads
 use Rattle.check_packet.proofs.sets.seal.Lts as lts
 use Rattle.tally.proofs.larger.Reads as larger-reads
-use Rattle.tally.proofs.quick.stands.Reads as stands-reads
+use Rattle.tally.proofs.stages.stage_at.Reads as stage-at-reads
 use Rattle.check_packet.proofs.sets.head_at.Reads as head-at-reads
 use Rattle.check_packet.proofs.sets.is_seal_next.Reads as is-seal-next-reads
 use Rattle.tally.proofs.weights.plain_sizes.Reads as plain-sizes-reads
 use Rattle.tally.proofs.weights.plus.Reads as plus-reads
 
 abbrev Head-read : Type 0
-Head-read = lts.After-h (head-at-reads.Asked, head-at-reads.Learnt, is-seal-next-reads.Asked, is-seal-next-reads.Learnt, plain-sizes-reads.Asked, plain-sizes-reads.Learnt, plus-reads.Asked, plus-reads.Learnt, larger-reads.Asked, larger-reads.Learnt, stands-reads.Asked, stands-reads.Learnt) reads.Pre reads.Post
+Head-read = lts.After-h (head-at-reads.Asked, head-at-reads.Learnt, is-seal-next-reads.Asked, is-seal-next-reads.Learnt, plain-sizes-reads.Asked, plain-sizes-reads.Learnt, plus-reads.Asked, plus-reads.Learnt, larger-reads.Asked, larger-reads.Learnt, stage-at-reads.Asked, stage-at-reads.Learnt) reads.Pre reads.Post
 
 here : (a : Head-read) → HeadAt (formOf (a .before .before .before .before .args .alone)) (a .before .before .before .before .args .s .now) (a .before .before .before .before .args .q .at) (a .before .before .before .before .args .q .sizes) (a .before .before .before .before .args .q .held) (a .before .before .before .before .args .q .top) (a .before .before .before .before .args .q .low) (a .h .given .0 .0) (a .h .given .0 .1 .0) (a .h .given .0 .1 .1 .0) (a .h .given .0 .1 .1 .1 .0)
 here a = record {
@@ -74,13 +74,13 @@ plus-requires c κs =
 larger-requires : tie.Need-larger-requires
 larger-requires c κs = search needs
 
-stands-requires : tie.Need-stands-requires
-stands-requires c κs = search needs
+stage-at-requires : tie.Need-stage-at-requires
+stage-at-requires c κs = search needs
 
 returns-3 : tie.Need-returns-3
 returns-3 c =
     let t = c .before .before .before .before .before .is-seal-next .ensures (not-false _ (c .before .before .before .before .if1 .left)) in
-    rw (c .stands .ensures) (seal-more (here (c .before .before .before .before .before .before .before)) (ap (λ x. isAlone (formOf x)) (t .0)) (t .1, t .2, t .3, t .4) (eqb-true _ _ (t .5)) (c .before .before .before .plain-sizes .ensures) (c .before .before .plus .ensures) (c .before .larger .ensures))
+    rw (c .stage-at .ensures) (seal-more (here (c .before .before .before .before .before .before .before)) (ap (λ x. isAlone (formOf x)) (t .0)) (t .1, t .2, t .3, t .4) (eqb-true _ _ (t .5)) (c .before .before .before .plain-sizes .ensures) (c .before .before .plus .ensures) (c .before .larger .ensures))
 
 pub seal-spec : {M : Type 1} → statement M
 seal-spec =
@@ -98,5 +98,5 @@ seal-spec =
     plain-sizes-requires
     plus-requires
     larger-requires
-    stands-requires
+    stage-at-requires
     returns-3)

@@ -16,7 +16,7 @@ use Rattle.check_packet.proofs.sets.series.Lts as lts
 use Rattle.quick_packs.proofs.is_lone.Reads as is-lone-reads
 use Rattle.quick_packs.proofs.lone.Reads as lone-reads
 use Rattle.quick_packs.proofs.packs.Reads as packs-reads
-use Rattle.tally.proofs.quick.after_series.Reads as after-series-reads
+use Rattle.tally.proofs.stages.after_series.Reads as after-series-reads
 use Rattle.check_packet.proofs.sets.head_at.Reads as head-at-reads
 use Rattle.check_packet.proofs.sets.is_series_next.Reads as is-series-next-reads
 use Rattle.check_packet.proofs.sets.packs_rest.Reads as packs-rest-reads

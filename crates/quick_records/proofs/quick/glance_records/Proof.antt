@@ -26,11 +26,11 @@ glance-record-requires c κs = (c .before .before .before .pre .0, c .before .be
 told-sizes-requires : tie.Need-told-sizes-requires Inv-loop μ-loop
 told-sizes-requires c κs = let l = c .before .before .before .loop in (l .inv .1, omega (arith, l .inv .0 .to, c .before .before .before .before .before .before .pre .1))
 
-stands-requires : tie.Need-stands-requires Inv-loop μ-loop
-stands-requires c κs = search needs
+stage-at-requires : tie.Need-stage-at-requires Inv-loop μ-loop
+stage-at-requires c κs = search needs
 
 returns : tie.Need-returns Inv-loop μ-loop
-returns c = rw (c .stands .ensures, c .before .told-sizes .ensures) (c .before .before .before .before .before .loop .inv .0, refl)
+returns c = rw (c .stage-at .ensures, c .before .told-sizes .ensures) (c .before .before .before .before .before .loop .inv .0, refl)
 
 is-asked-requires : tie.Need-is-asked-requires Inv-loop μ-loop
 is-asked-requires c κs = search needs
@@ -59,7 +59,7 @@ glance-records-spec =
     loop-holds
     glance-record-requires
     told-sizes-requires
-    stands-requires
+    stage-at-requires
     returns
     is-asked-requires
     either-requires

@@ -21,7 +21,7 @@ use Rattle.items.proofs.quick.first_mask.Reads as first-mask-reads
 use Rattle.quick_records.proofs.quick.glance_record.Reads as glance-record-reads
 use Rattle.quick_records.proofs.quick.told_sizes.Reads as told-sizes-reads
 use Rattle.tally.proofs.is_asked.Reads as is-asked-reads
-use Rattle.tally.proofs.quick.stands.Reads as stands-reads
+use Rattle.tally.proofs.stages.stage_at.Reads as stage-at-reads
 
 abbrev Inv-loop : tie.InvT-loop
 Inv-loop glances s alone masks₀ p₀ count₀ held₀ top₀ masks p count held top = Laying (formOf alone) masks s p count held top
@@ -30,11 +30,11 @@ abbrev μ-loop : tie.MeasureT-loop
 μ-loop glances s alone masks₀ p₀ count₀ held₀ top₀ masks p count held top = length s - p
 
 -- its tag, and its length, as the code found them
-told : (j : lts.Joined2 (glance-record-reads.Asked, glance-record-reads.Learnt, told-sizes-reads.Asked, told-sizes-reads.Learnt, stands-reads.Asked, stands-reads.Learnt, first-mask-reads.Asked, first-mask-reads.Learnt, mask-item-reads.Asked, mask-item-reads.Learnt, is-asked-reads.Asked, is-asked-reads.Learnt, either-reads.Asked, either-reads.Learnt) reads.Pre reads.Post Inv-loop μ-loop) → RecordGlanced false (formOf (j .before .before .before .before .before .before .before .args .alone)) (j .before .before .before .before .before .before .before .args .s .now) (j .before .before .before .before .loop .p) (j .before .before .before .before .loop .top) (j .before .before .before .glance-record .result .tag) (j .before .before .before .glance-record .result .next - (j .before .before .before .before .loop .p + 6))
+told : (j : lts.Joined2 (glance-record-reads.Asked, glance-record-reads.Learnt, told-sizes-reads.Asked, told-sizes-reads.Learnt, stage-at-reads.Asked, stage-at-reads.Learnt, first-mask-reads.Asked, first-mask-reads.Learnt, mask-item-reads.Asked, mask-item-reads.Learnt, is-asked-reads.Asked, is-asked-reads.Learnt, either-reads.Asked, either-reads.Learnt) reads.Pre reads.Post Inv-loop μ-loop) → RecordGlanced false (formOf (j .before .before .before .before .before .before .before .args .alone)) (j .before .before .before .before .before .before .before .args .s .now) (j .before .before .before .before .loop .p) (j .before .before .before .before .loop .top) (j .before .before .before .glance-record .result .tag) (j .before .before .before .glance-record .result .next - (j .before .before .before .before .loop .p + 6))
 told j = j .before .before .before .glance-record .ensures (omega (arith, j .before .if1 .left))
 
 -- it was masked, if there is room
-masked : (j : lts.Joined2 (glance-record-reads.Asked, glance-record-reads.Learnt, told-sizes-reads.Asked, told-sizes-reads.Learnt, stands-reads.Asked, stands-reads.Learnt, first-mask-reads.Asked, first-mask-reads.Learnt, mask-item-reads.Asked, mask-item-reads.Learnt, is-asked-reads.Asked, is-asked-reads.Learnt, either-reads.Asked, either-reads.Learnt) reads.Pre reads.Post Inv-loop μ-loop) → (length (j .if2 .masks) ≡ 160) × (j .before .before .before .before .loop .p < 128 → Remasked (formOf (j .before .before .before .before .before .before .before .args .alone)) (j .before .before .before .before .loop .masks) (j .if2 .masks) (j .before .before .before .before .loop .p) (j .before .before .before .glance-record .result .tag) (j .before .before .before .glance-record .result .next - (j .before .before .before .before .loop .p + 6)))
+masked : (j : lts.Joined2 (glance-record-reads.Asked, glance-record-reads.Learnt, told-sizes-reads.Asked, told-sizes-reads.Learnt, stage-at-reads.Asked, stage-at-reads.Learnt, first-mask-reads.Asked, first-mask-reads.Learnt, mask-item-reads.Asked, mask-item-reads.Learnt, is-asked-reads.Asked, is-asked-reads.Learnt, either-reads.Asked, either-reads.Learnt) reads.Pre reads.Post Inv-loop μ-loop) → (length (j .if2 .masks) ≡ 160) × (j .before .before .before .before .loop .p < 128 → Remasked (formOf (j .before .before .before .before .before .before .before .args .alone)) (j .before .before .before .before .loop .masks) (j .if2 .masks) (j .before .before .before .before .loop .p) (j .before .before .before .glance-record .result .tag) (j .before .before .before .glance-record .result .next - (j .before .before .before .before .loop .p + 6)))
 masked j =
     ⊎-elim
     (λ x. rw (x .5) (x .4 .ensures .long ∙ j .before .before .before .before .loop .inv .long, λ _. record { first = _; item = x .4 .ensures; any = x .2 .ensures }))
@@ -50,11 +50,11 @@ glance-record-requires c κs = (c .before .before .before .pre .0, c .before .be
 told-sizes-requires : tie.Need-told-sizes-requires Inv-loop μ-loop
 told-sizes-requires c κs = let l = c .before .before .before .loop in (l .inv .few, omega (arith, l .inv .own .to, c .before .before .before .before .before .before .pre .1))
 
-stands-requires : tie.Need-stands-requires Inv-loop μ-loop
-stands-requires c κs = search needs
+stage-at-requires : tie.Need-stage-at-requires Inv-loop μ-loop
+stage-at-requires c κs = search needs
 
 returns : tie.Need-returns Inv-loop μ-loop
-returns c = let l = c .before .before .before .before .before .loop .inv in rw (c .stands .ensures, c .before .told-sizes .ensures) (record { own = l .own; walked = l .walked; sizes-are = refl; few = l .few }, l .long)
+returns c = let l = c .before .before .before .before .before .loop .inv in rw (c .stage-at .ensures, c .before .told-sizes .ensures) (record { own = l .own; walked = l .walked; sizes-are = refl; few = l .few }, l .long)
 
 add-n : tie.Need-add-n Inv-loop μ-loop
 add-n c = omega (arith, c .if2 .taken)
@@ -92,7 +92,7 @@ lay-spec =
     loop-holds
     glance-record-requires
     told-sizes-requires
-    stands-requires
+    stage-at-requires
     returns
     add-n
     sub-n

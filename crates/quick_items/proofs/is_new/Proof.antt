@@ -1,8 +1,8 @@
--- `tally::quick::is_new` meets its contract.
+-- `quick_items::is_new` meets its contract.
 use mathlib.Core.Logic.{inl, inr}
 use borrow.Author.Tests.{eqb-true}
-use Rattle.tally.proofs.quick.is_new.Statement.{statement}
-use Rattle.tally.proofs.quick.is_new.Tie as tie
+use Rattle.quick_items.proofs.is_new.Statement.{statement}
+use Rattle.quick_items.proofs.is_new.Tie as tie
 
 returns : tie.Need-returns
 returns c = λ e. inr (inl (c .if1 .taken))

@@ -1,15 +1,16 @@
 // The quick way over a level, from its start: items told at a glance, with a byte each for tag and length, tags rising; then items that no
-// table lists. What stops it is left to the walks.
+// table lists. It does not know whatever else may stand there, above all the series and the checksum, nor any refusal: what stops it is
+// left to the walks.
 ghost use mathlib.Core.Path.{_≡_};
 ghost use mathlib.Core.Bool.{true, false};
 ghost use Prim.Native.Nat.{_+_, _*_, _-_, _≤_, _<_};
 ghost use lib.ListN.{length, getD};
 ghost use Rattle.items.specs.Meet.{formOf, glanceTable};
-ghost use Rattle.tally.specs.Meet.{noSizes, sizes, seriesSizes, plusSizes, Small};
-ghost use Rattle.tally.specs.Going.{LevelGoing, stageAt, Begun, GlancedTo, New, Plain};
-use super::Sizes;
-use super::Walked;
+ghost use Rattle.tally.specs.Going.{LevelTo, Begun, New};
+ghost use Rattle.quick_items.specs.Items.{toldSizes, GlancedTo, Plain};
 use heads::Head;
+use tally::Sizes;
+use tally::stages::Stage;
 
 // How far such an item may begin: two bytes and a value have room there, and what begins the level may.
 pub fn span(s: &[u8], set: bool, alone: bool) -> usize
@@ -52,15 +53,6 @@ pub fn glance_item(
     0
 }
 
-// Where the item walk goes on, and what was walked till there.
-pub struct Stage {
-    pub at: usize,
-    pub sizes: Sizes,
-    pub held: bool,
-    pub top: u64,
-    pub low: u64,
-}
-
 // The first tag, which is the lowest where tags rise; above all where it is not in one byte, so that tags that fall are below it.
 pub fn first_tag(s: &[u8]) -> u64
     ensures { λ r. ⌜ (0 < length (now (s .entry)) → getD (now (s .entry)) 0 0 < 128 → r ≡ getD (now (s .entry)) 0 0) ⌝ }
@@ -75,22 +67,10 @@ pub fn first_tag(s: &[u8]) -> u64
     tag
 }
 
-// No bytes, rows or packs.
-pub fn nothing() -> Sizes
-    ensures { λ r. ⌜ r ≡ noSizes ⌝ }
-{
-    Sizes {
-        sheet: 0,
-        rows: 0,
-        normal: 0,
-        inner: 0,
-    }
-}
-
 // Of so many items told at a glance, in p bytes.
 pub fn told_sizes(count: usize, p: usize) -> Sizes
     requires { ⌜ 4 * count + p ≤ 65536 ⌝ }
-    ensures { λ r. ⌜ r ≡ sizes (4 * count + p) count p 0 ⌝ }
+    ensures { λ r. ⌜ r ≡ toldSizes count p ⌝ }
 {
     Sizes {
         sheet: 4 * count + p,
@@ -103,7 +83,7 @@ pub fn told_sizes(count: usize, p: usize) -> Sizes
 // The items told at a glance, one after another. If the last goes past the end, which is seen once for all, the walk begins anew.
 pub fn glance_items(glances: &[u32], s: &[u8], set: bool, alone: bool) -> Stage
     requires { ⌜ (now glances ≡ glanceTable) × (length (now s) ≤ 8192) ⌝ }
-    ensures { λ r. ⌜ LevelGoing set (formOf alone) (now (s .entry)) (r .at) (r .sizes) (r .held) (r .top) (r .low) × (r .sizes ≡ sizes (4 * (r .sizes .rows) + r .at) (r .sizes .rows) (r .at) 0) ⌝ }
+    ensures { λ r. ⌜ LevelTo set (formOf alone) (now (s .entry)) r × (r .sizes ≡ toldSizes (r .sizes .rows) (r .at)) ⌝ }
 {
     let most = span(s, set, alone);
     let low = first_tag(s);
@@ -115,12 +95,12 @@ pub fn glance_items(glances: &[u32], s: &[u8], set: bool, alone: bool) -> Stage
         let next = glance_item(glances, s, p, most, set, alone, top);
         if next == 0 {
             if s.len() < p {
-                return stands(0, nothing(), false, 0, low);
+                return tally::stages::stage_at(0, tally::weights::nothing(), false, 0, low);
             }
-            return stands(p, told_sizes(count, p), held, top, low);
+            return tally::stages::stage_at(p, told_sizes(count, p), held, top, low);
         }
         let tag = coding::wide(s[p]);
-        held = coding::either(held, super::is_asked(set, tag));
+        held = coding::either(held, tally::is_asked(set, tag));
         top = tag;
         count += 1;
         p = next;
@@ -128,37 +108,6 @@ pub fn glance_items(glances: &[u32], s: &[u8], set: bool, alone: bool) -> Stage
 }
 
 // ---- on from there
-
-// Where a walk goes on.
-pub fn stands(at: usize, sizes: Sizes, held: bool, top: u64, low: u64) -> Stage
-    ensures { λ r. ⌜ r ≡ stageAt at sizes held top low ⌝ }
-{
-    Stage {
-        at,
-        sizes,
-        held,
-        top,
-        low,
-    }
-}
-
-// Where the set goes on after its series, whose packs or targets have these sizes.
-pub fn after_series(q: Stage, next: usize, sizes: Sizes) -> Stage
-    requires { ⌜ Small sizes × Small (q .sizes) × Small (seriesSizes sizes) ⌝ }
-    ensures { λ r. ⌜ (r .low ≤ q .low) × (r .low ≤ 101) × (r ≡ stageAt next (plusSizes (q .sizes) (seriesSizes sizes)) (q .held) 101 (r .low)) ⌝ }
-{
-    let sum = super::weights::plus(q.sizes, super::weights::series_sizes(sizes));
-    stands(next, sum, q.held, 101, super::smaller(q.low, 101))
-}
-
-// What was walked till there.
-pub fn walked(q: Stage) -> Walked
-    ensures { λ r. ⌜ r ≡ Walked.Good (q .sizes) (q .held) ⌝ }
-{
-    let sizes = q.sizes;
-    let held = q.held;
-    Walked::Good { sizes, held }
-}
 
 // Whether a key is told to be new without a look back: no key before p is above top or below low.
 fn is_new(p: usize, top: u64, low: u64, key: u64) -> bool
@@ -191,8 +140,8 @@ pub fn is_plain(set: bool, alone: bool, p: usize, top: u64, low: u64, tag: u64, 
 
 // The items after those of the quick way that are such, one after another.
 pub fn onward(s: &[u8], set: bool, alone: bool, q: Stage) -> Stage
-    requires { ⌜ (length (now s) ≤ 8192) × LevelGoing set (formOf alone) (now s) (q .at) (q .sizes) (q .held) (q .top) (q .low) ⌝ }
-    ensures { λ r. ⌜ LevelGoing set (formOf alone) (now (s .entry)) (r .at) (r .sizes) (r .held) (r .top) (r .low) ⌝ }
+    requires { ⌜ (length (now s) ≤ 8192) × LevelTo set (formOf alone) (now s) q ⌝ }
+    ensures { λ r. ⌜ LevelTo set (formOf alone) (now (s .entry)) r ⌝ }
 {
     let mut p = q.at;
     let mut sum = q.sizes;
@@ -200,8 +149,8 @@ pub fn onward(s: &[u8], set: bool, alone: bool, q: Stage) -> Stage
     let mut low = q.low;
     while p < s.len() {
         // the series is no such item
-        if super::is_series(set, coding::wide(s[p])) {
-            return stands(p, sum, q.held, top, low);
+        if tally::is_series(set, coding::wide(s[p])) {
+            return tally::stages::stage_at(p, sum, q.held, top, low);
         }
         let h = heads::item_head(&s[p..], set);
         let Head::Whole {
@@ -211,15 +160,15 @@ pub fn onward(s: &[u8], set: bool, alone: bool, q: Stage) -> Stage
             size,
         } = h
         else {
-            return stands(p, sum, q.held, top, low);
+            return tally::stages::stage_at(p, sum, q.held, top, low);
         };
         if !is_plain(set, alone, p, top, low, key, size) {
-            return stands(p, sum, q.held, top, low);
+            return tally::stages::stage_at(p, sum, q.held, top, low);
         }
-        sum = super::weights::plus(sum, super::weights::plain_sizes(set, key, size));
-        top = super::larger(top, key);
-        low = super::smaller(low, key);
+        sum = tally::weights::plus(sum, tally::weights::plain_sizes(set, key, size));
+        top = tally::larger(top, key);
+        low = tally::smaller(low, key);
         p = p + used + width + size;
     }
-    stands(p, sum, q.held, top, low)
+    tally::stages::stage_at(p, sum, q.held, top, low)
 }

@@ -1,25 +1,25 @@
--- `tally::quick::onward` meets its contract: each turn is a turn of the item walk. `a` is where an item was found to be plain.
+-- `quick_items::onward` meets its contract: each turn is a turn of the item walk. `a` is where an item was found to be plain.
 use Prim.Native.Nat.{_-_}
 use native.Mathlib.Omega.{arith}
 use lib.ListN.{length}
 use borrow.Author.Needs.{needs}
 use borrow.Author.Tests.{not-false}
 use Rattle.items.specs.Meet.{formOf}
 use Rattle.tally.specs.Going.{LevelGoing}
-use Rattle.tally.proofs.Beyond.{PlainAt, plain-small, plain-next, plain-sums, plain-more}
-use Rattle.tally.proofs.quick.onward.Statement.{statement}
-use Rattle.tally.proofs.quick.onward.Tie as tie
-use Rattle.tally.proofs.quick.onward.Reads as reads
-use Rattle.tally.proofs.quick.onward.Lts as lts
+use Rattle.quick_items.proofs.Beyond.{PlainAt, plain-small, plain-next, plain-sums, plain-more}
+use Rattle.quick_items.proofs.onward.Statement.{statement}
+use Rattle.quick_items.proofs.onward.Tie as tie
+use Rattle.quick_items.proofs.onward.Reads as reads
+use Rattle.quick_items.proofs.onward.Lts as lts
 use Rattle.coding.proofs.wide.Reads as wide-reads
 use Rattle.heads.proofs.item_head.Reads as item-head-reads
 use Rattle.tally.proofs.is_series.Reads as is-series-reads
 use Rattle.tally.proofs.larger.Reads as larger-reads
-use Rattle.tally.proofs.quick.is_plain.Reads as is-plain-reads
-use Rattle.tally.proofs.quick.stands.Reads as stands-reads
+use Rattle.quick_items.proofs.is_plain.Reads as is-plain-reads
+use Rattle.tally.proofs.stages.stage_at.Reads as stage-at-reads
 use Rattle.tally.proofs.smaller.Reads as smaller-reads
 use Rattle.tally.proofs.weights.plain_sizes.Reads as plain-sizes-reads
 use Rattle.tally.proofs.weights.plus.Reads as plus-reads
 
 abbrev Inv-loop : tie.InvT-loop
 Inv-loop s set alone q p₀ sum₀ top₀ low₀ p sum top low = LevelGoing set (formOf alone) s p sum (q .held) top low
@@ -27,7 +27,7 @@ Inv-loop s set alone q p₀ sum₀ top₀ low₀ p sum top low = LevelGoing set 
 abbrev μ-loop : tie.MeasureT-loop
 μ-loop s set alone q p₀ sum₀ top₀ low₀ p sum top low = length s - p
 
-here : (a : lts.Else2 (wide-reads.Asked, wide-reads.Learnt, is-series-reads.Asked, is-series-reads.Learnt, stands-reads.Asked, stands-reads.Learnt, item-head-reads.Asked, item-head-reads.Learnt, is-plain-reads.Asked, is-plain-reads.Learnt, plain-sizes-reads.Asked, plain-sizes-reads.Learnt, plus-reads.Asked, plus-reads.Learnt, larger-reads.Asked, larger-reads.Learnt, smaller-reads.Asked, smaller-reads.Learnt) reads.Pre reads.Post Inv-loop μ-loop)
+here : (a : lts.Else2 (wide-reads.Asked, wide-reads.Learnt, is-series-reads.Asked, is-series-reads.Learnt, stage-at-reads.Asked, stage-at-reads.Learnt, item-head-reads.Asked, item-head-reads.Learnt, is-plain-reads.Asked, is-plain-reads.Learnt, plain-sizes-reads.Asked, plain-sizes-reads.Learnt, plus-reads.Asked, plus-reads.Learnt, larger-reads.Asked, larger-reads.Learnt, smaller-reads.Asked, smaller-reads.Learnt) reads.Pre reads.Post Inv-loop μ-loop)
     → PlainAt (a .before .before .before .before .before .before .before .before .before .before .before .before .before .before .before .args .set) (formOf (a .before .before .before .before .before .before .before .before .before .before .before .before .before .before .before .args .alone)) (a .before .before .before .before .before .before .before .before .before .before .before .before .before .before .before .args .s .now) (a .before .before .before .before .before .before .before .before .before .before .before .before .loop .p) (a .before .before .before .before .before .before .before .before .before .before .before .before .loop .sum) (a .before .before .before .before .before .before .before .before .before .before .before .before .before .before .before .args .q .held) (a .before .before .before .before .before .before .before .before .before .before .before .before .loop .top) (a .before .before .before .before .before .before .before .before .before .before .before .before .loop .low) (a .before .before .before .h .given .0 .0) (a .before .before .before .h .given .0 .1 .0) (a .before .before .before .h .given .0 .1 .1 .0) (a .before .before .before .h .given .0 .1 .1 .1 .0)
 here a = record {
   going = a .before .before .before .before .before .before .before .before .before .before .before .before .loop .inv;
@@ -52,11 +52,11 @@ wide-requires c κs = search needs
 is-series-requires : tie.Need-is-series-requires Inv-loop μ-loop
 is-series-requires c κs = search needs
 
-stands-requires : tie.Need-stands-requires Inv-loop μ-loop
-stands-requires c κs = search needs
+stage-at-requires : tie.Need-stage-at-requires Inv-loop μ-loop
+stage-at-requires c κs = search needs
 
 returns : tie.Need-returns Inv-loop μ-loop
-returns c = rw (c .stands .ensures) (c .before .before .before .before .before .before .loop .inv)
+returns c = rw (c .stage-at .ensures) (c .before .before .before .before .before .before .loop .inv)
 
 sub-item-head : tie.Need-sub-item-head Inv-loop μ-loop
 sub-item-head c = search needs
@@ -76,20 +76,20 @@ enum-known-h c = search needs
 enum-told : tie.Need-enum-told Inv-loop μ-loop
 enum-told c = search needs
 
-stands-requires-2 : tie.Need-stands-requires-2 Inv-loop μ-loop
-stands-requires-2 c κs = search needs
+stage-at-requires-2 : tie.Need-stage-at-requires-2 Inv-loop μ-loop
+stage-at-requires-2 c κs = search needs
 
 returns-2 : tie.Need-returns-2 Inv-loop μ-loop
-returns-2 c = rw (c .stands2 .ensures) (c .before .before .before .before .before .before .before .before .before .before .loop .inv)
+returns-2 c = rw (c .stage-at2 .ensures) (c .before .before .before .before .before .before .before .before .before .before .loop .inv)
 
 is-plain-requires : tie.Need-is-plain-requires Inv-loop μ-loop
 is-plain-requires c κs = search needs
 
-stands-requires-3 : tie.Need-stands-requires-3 Inv-loop μ-loop
-stands-requires-3 c κs = search needs
+stage-at-requires-3 : tie.Need-stage-at-requires-3 Inv-loop μ-loop
+stage-at-requires-3 c κs = search needs
 
 returns-3 : tie.Need-returns-3 Inv-loop μ-loop
-returns-3 c = rw (c .stands3 .ensures) (c .before .before .before .before .before .before .before .before .before .before .before .before .before .loop .inv)
+returns-3 c = rw (c .stage-at3 .ensures) (c .before .before .before .before .before .before .before .before .before .before .before .before .before .loop .inv)
 
 plain-sizes-requires : tie.Need-plain-sizes-requires Inv-loop μ-loop
 plain-sizes-requires c κs = plain-small (here c)
@@ -118,11 +118,11 @@ loop-less c = omega (arith, plain-next (here (c .before .before .before .before)
 loop-again : tie.Need-loop-again Inv-loop μ-loop
 loop-again c = plain-more (here (c .before .before .before .before)) (c .before .before .before .plain-sizes .ensures) (c .before .before .plus .ensures) (c .before .larger .ensures) (c .smaller .ensures)
 
-stands-requires-4 : tie.Need-stands-requires-4 Inv-loop μ-loop
-stands-requires-4 c κs = search needs
+stage-at-requires-4 : tie.Need-stage-at-requires-4 Inv-loop μ-loop
+stage-at-requires-4 c κs = search needs
 
 returns-4 : tie.Need-returns-4 Inv-loop μ-loop
-returns-4 c = rw (c .stands4 .ensures) (c .before .before .loop .inv)
+returns-4 c = rw (c .stage-at4 .ensures) (c .before .before .loop .inv)
 
 pub onward-spec : {M : Type 1} → statement M
 onward-spec =
@@ -134,7 +134,7 @@ onward-spec =
     shared-slice-read-wide
     wide-requires
     is-series-requires
-    stands-requires
+    stage-at-requires
     returns
     sub-item-head
     part-item-head-start
@@ -142,10 +142,10 @@ onward-spec =
     item-head-requires
     enum-known-h
     enum-told
-    stands-requires-2
+    stage-at-requires-2
     returns-2
     is-plain-requires
-    stands-requires-3
+    stage-at-requires-3
     returns-3
     plain-sizes-requires
     plus-requires
@@ -156,5 +156,5 @@ onward-spec =
     add-p-3
     loop-less
     loop-again
-    stands-requires-4
+    stage-at-requires-4
     returns-4)

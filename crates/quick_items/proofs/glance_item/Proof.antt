@@ -1,9 +1,9 @@
--- `tally::quick::glance_item` meets its contract: each 0 says nothing.
+-- `quick_items::glance_item` meets its contract: each 0 says nothing.
 use native.Mathlib.Omega.{arith}
 use borrow.Author.Needs.{needs}
-use Rattle.tally.proofs.Glances.{glance-from}
-use Rattle.tally.proofs.quick.glance_item.Statement.{statement}
-use Rattle.tally.proofs.quick.glance_item.Tie as tie
+use Rattle.quick_items.proofs.Glances.{glance-from}
+use Rattle.quick_items.proofs.glance_item.Statement.{statement}
+use Rattle.quick_items.proofs.glance_item.Tie as tie
 
 returns : tie.Need-returns
 returns c = λ h. absurd (omega arith)

@@ -1,10 +1,10 @@
--- `tally::quick::span` meets its contract.
+-- `quick_items::span` meets its contract.
 use native.Mathlib.Omega.{arith}
 use borrow.Author.Needs.{needs}
 use Rattle.items.specs.Meet.{formOf}
-use Rattle.tally.proofs.Glances.{begun-start}
-use Rattle.tally.proofs.quick.span.Statement.{statement}
-use Rattle.tally.proofs.quick.span.Tie as tie
+use Rattle.quick_items.proofs.Glances.{begun-start}
+use Rattle.quick_items.proofs.span.Statement.{statement}
+use Rattle.quick_items.proofs.span.Tie as tie
 
 returns : tie.Need-returns
 returns c = (omega arith, λ h. absurd (omega arith))

@@ -7,7 +7,6 @@ use mathlib.Core.List.{List}
 use lib.ListN.{length, take, drop, getD, length-drop}
 use lib.Seq.{getD-drop, getD-take, length-take-le}
 use lib.Dec.{eqb}
-use borrow.Author.Tests.{ne-eqb}
 use Rattle.format.specs.Coding.{Bytes, oidBytes, lenWidth}
 use Rattle.format.specs.Answer.{ok}
 use Rattle.format.specs.Table.{Form, Level, isSet, isAlone, ruleOf, mayStand, valued, short}
@@ -21,20 +20,19 @@ use Rattle.heads.specs.declared.Head.{Head}
 use Rattle.heads.specs.Meet.{itemHeadOf, peek, Past}
 use Rattle.heads.specs.declared.Head.the-variants as heads
 use Rattle.heads.proofs.Heads.{mid-part, item-head-short}
 use Rattle.tally.specs.declared.Piece.the-variants as piece
 use Rattle.tally.specs.declared.Sizes.{Sizes}
-use Rattle.tally.specs.Meet.{pieceOf, sizes, itemSizes, packSizes, plusSizes, askedTag}
-use Rattle.tally.specs.Going.{LevelGoing, Begun, ItemGlanced, GlancedTo, New}
+use Rattle.tally.specs.Meet.{pieceOf, sizes, itemSizes, plusSizes, askedTag}
+use Rattle.tally.specs.Going.{LevelGoing, Begun, New}
+use Rattle.quick_items.specs.Items.{toldSizes, ItemGlanced, GlancedTo}
 use Rattle.format.specs.Read.{headOf, item}
 use Rattle.tally.proofs.Walks.{same-sizes}
 use Rattle.tally.proofs.Turns.{new-key}
+use Rattle.tally.proofs.Begins.{begun-later}
 use Rattle.tally.proofs.Pieces.{piece-within, piece-whole}
 use Rattle.tally.proofs.ItemTurns.{ItemAt, level-is, item-told, entry-more}
 
--- the sizes of so many such items in p bytes
-abbrev pub toldSizes : ℕ → ℕ → Sizes
-toldSizes count p = sizes (4 * count + p) count p 0
-
+-- one more such item
 quick-plus : (l : Level) (tag n count p : ℕ) → isSet l && eqb tag 1 ≡ false → tag < 128 → n < 128
     → toldSizes (count + 1) (p + 2 + n) ≡ plusSizes (toldSizes count p) (itemSizes l tag n)
 unfolding itemSizes
@@ -44,27 +42,7 @@ quick-plus l tag n count p z th nh =
     let e : itemSizes l tag n ≡ sizes (6 + n) 1 (length (oidBytes tag) + (lenWidth n + n)) 0 = rw (z, itemSizes) in
     rw e (same-sizes (omega arith) refl (omega (arith, u, w)) refl)
 
--- the sizes of such packs in p bytes with so many rows, and of one more: w and n are its length's bytes and its length, u its id's bytes
-abbrev pub packedSizes : ℕ → ℕ → ℕ → Sizes
-packedSizes p rows more = sizes (p + 4 * rows + more) rows p 0
-
-pub packed-plus : (p rows more w n : ℕ) {u at : ℕ} {z : Sizes} → (w ≡ 1) × (n < 128) × (u ≤ 2) → u ≤ n → at ≡ n - u → z ≡ toldSizes (z .rows) at
-    → packedSizes (p + w + n) (rows + 1 + z .rows) (more + 5 - u) ≡ plusSizes (packedSizes p rows more) (packSizes u z)
-packed-plus p rows more w n {u = u} {z = z} (ew, few, id) l e ez =
-    let es = ap (λ a. a .sheet) ez in
-    let en = ap (λ a. a .normal) ez in
-    let one : 1 ≡ lenWidth (u + z .normal) = len-one (u + z .normal) (omega arith) in
-    same-sizes (omega arith) (omega arith) (omega arith) refl
-
 -- what may begin a level, and whatever comes later
-pub begun-later : (b : Bool) (f : Form) (p tag : ℕ) → 0 < p → Begun b f p tag
-begun-later b f p tag h = rw (ne-eqb p 0 (λ e. omega arith)) (any-of (not (isSet (levelOf b))) (not (isAlone f)) (eqb tag 2))
-  where
-    any-of : (x y z : Bool) → x || y || true || z ≡ true
-    any-of true y z = refl
-    any-of false true z = refl
-    any-of false false z = refl
-
 begun-at : (b : Bool) (f : Form) (s : List ℕ) → Begun b f 0 (getD s 0 0) → (p : ℕ) → Begun b f p (getD s p 0)
 begun-at b f s h zero = h
 begun-at b f s h (suc p) = begun-later b f (suc p) (getD s (suc p) 0) (omega arith)

@@ -1,15 +1,16 @@
--- `tally::quick::glance_items` meets its contract: each turn is a turn of the item walk. Tags rise, so the first is the lowest.
+-- `quick_items::glance_items` meets its contract: each turn is a turn of the item walk. Tags rise, so the first is the lowest.
 use mathlib.Core.Path.{refl}
 use Prim.Native.Nat.{_-_, _≤_, _<_}
 use native.Mathlib.Omega.{arith}
 use lib.ListN.{length, getD}
 use borrow.Author.Needs.{needs}
 use Rattle.items.specs.Meet.{formOf}
 use Rattle.tally.specs.Going.{LevelGoing}
 use Rattle.tally.proofs.ItemTurns.{level-start}
-use Rattle.tally.proofs.Glances.{toldSizes, glanced-next, glanced-low, glanced-more}
-use Rattle.tally.proofs.quick.glance_items.Statement.{statement}
-use Rattle.tally.proofs.quick.glance_items.Tie as tie
+use Rattle.quick_items.specs.Items.{toldSizes}
+use Rattle.quick_items.proofs.Glances.{glanced-next, glanced-low, glanced-more}
+use Rattle.quick_items.proofs.glance_items.Statement.{statement}
+use Rattle.quick_items.proofs.glance_items.Tie as tie
 
 -- past the end nothing is said
 abbrev Inv-loop : tie.InvT-loop
@@ -34,20 +35,20 @@ glance-item-requires c κs = (c .before .before .before .before .before .pre .0,
 nothing-requires : tie.Need-nothing-requires Inv-loop μ-loop
 nothing-requires c κs = search needs
 
-stands-requires : tie.Need-stands-requires Inv-loop μ-loop
-stands-requires c κs = search needs
+stage-at-requires : tie.Need-stage-at-requires Inv-loop μ-loop
+stage-at-requires c κs = search needs
 
 returns : tie.Need-returns Inv-loop μ-loop
-returns c = rw (c .stands .ensures, c .before .nothing .ensures) (level-start _ _ _, refl)
+returns c = rw (c .stage-at .ensures, c .before .nothing .ensures) (level-start _ _ _, refl)
 
 told-sizes-requires : tie.Need-told-sizes-requires Inv-loop μ-loop
 told-sizes-requires c κs = let i = c .before .before .before .loop .inv .0 (omega (arith, c .if2 .left)) in omega (arith, i .few .rows, i .to, c .before .before .before .before .before .before .before .before .pre .1)
 
-stands-requires-2 : tie.Need-stands-requires-2 Inv-loop μ-loop
-stands-requires-2 c κs = search needs
+stage-at-requires-2 : tie.Need-stage-at-requires-2 Inv-loop μ-loop
+stage-at-requires-2 c κs = search needs
 
 returns-2 : tie.Need-returns-2 Inv-loop μ-loop
-returns-2 c = rw (c .stands2 .ensures, c .before .told-sizes .ensures) (c .before .before .before .before .before .loop .inv .0 (omega (arith, c .before .before .if2 .left)), refl)
+returns-2 c = rw (c .stage-at2 .ensures, c .before .told-sizes .ensures) (c .before .before .before .before .before .loop .inv .0 (omega (arith, c .before .before .if2 .left)), refl)
 
 shared-slice-read-wide : tie.Need-shared-slice-read-wide Inv-loop μ-loop
 shared-slice-read-wide c = omega (arith, glanced-next (c .before .before .glance-item .ensures (omega (arith, c .before .if1 .left))))
@@ -88,10 +89,10 @@ glance-items-spec =
     loop-holds
     glance-item-requires
     nothing-requires
-    stands-requires
+    stage-at-requires
     returns
     told-sizes-requires
-    stands-requires-2
+    stage-at-requires-2
     returns-2
     shared-slice-read-wide
     wide-requires

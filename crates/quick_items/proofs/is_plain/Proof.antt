@@ -1,11 +1,11 @@
--- `tally::quick::is_plain` meets its contract: each `false` says nothing.
+-- `quick_items::is_plain` meets its contract: each `false` says nothing.
 use mathlib.Core.Path.{sym, _∙_}
 use native.Mathlib.Omega.{arith}
 use borrow.Author.Needs.{needs}
 use borrow.Author.Tests.{not-false}
 use Rattle.format.proofs.words.Answers.{no-bool}
-use Rattle.tally.proofs.quick.is_plain.Statement.{statement}
-use Rattle.tally.proofs.quick.is_plain.Tie as tie
+use Rattle.quick_items.proofs.is_plain.Statement.{statement}
+use Rattle.quick_items.proofs.is_plain.Tie as tie
 
 returns : tie.Need-returns
 returns c = λ e. no-bool e

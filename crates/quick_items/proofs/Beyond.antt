@@ -18,21 +18,19 @@ use Rattle.items.proofs.Glances.{quick-beyond}
 use Rattle.heads.specs.declared.Head.{Head}
 use Rattle.heads.specs.declared.Head.the-variants as heads
 use Rattle.heads.specs.Meet.{itemHeadOf}
 use Rattle.tally.specs.declared.Sizes.{Sizes}
 use Rattle.tally.specs.declared.Walked.the-variants.{Good}
 use Rattle.tally.specs.Meet.{itemSizes, plusSizes, askedTag, Small}
-use Rattle.tally.specs.Going.{LevelGoing, Plain}
+use Rattle.tally.specs.Going.{LevelGoing}
+use Rattle.quick_items.specs.Items.{Plain}
 use Rattle.tally.proofs.ItemTurns.{ItemAt, EntryTold, level-is, piece-stood, piece-room, item-told, good-small, entry-more}
-use Rattle.tally.proofs.Glances.{quick-meets, met-item}
+use Rattle.tally.proofs.Begins.{or-false}
+use Rattle.quick_items.proofs.Glances.{quick-meets, met-item}
 
 -- no such tag is asked for at a level's end
 pub none-held : (b : Bool) (tag : ℕ) → items.beyond b tag ≡ true → eqb tag (askedTag (levelOf b)) ≡ false
 none-held true tag h = let l = ltb-true 12 tag (and-both (ltb 12 tag) (not (eqb tag 101)) h .0) in ne-eqb tag 1 λ e. omega (arith, l, e)
 none-held false tag h = let l = ltb-true 23 tag h in ne-eqb tag 17 λ e. omega (arith, l, e)
-
-pub or-false : (m : Bool) {c : Bool} → c ≡ false → m ≡ (m || c)
-or-false true e = refl
-or-false false e = sym e
 
 -- an item at p whose head the code has read, and that may stand there whatever its value
 pub record PlainAt (b : Bool) (f : Form) (s : List ℕ) (p : ℕ) (sum : Sizes) (held : Bool) (top low tag u w n : ℕ) : Type 0 where

@@ -1,0 +1,2 @@
+pub mod Glances
+pub mod Beyond

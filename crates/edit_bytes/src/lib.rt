@@ -128,7 +128,7 @@ fn put_front(s: &[u8], set: bool, p: Place, n: usize, out: &mut [u8]) -> usize
     let m = body_size(p, n);
     let size = packs_size(p, m);
     let a = stores::copy_all(out, 0, &s[0..series]);
-    let b = write_normal::put_series(out, a, size);
+    let b = store_coded::put_series(out, a, size);
     let c = stores::copy_all(out, b, &s[packs..pack]);
     let d = store_coded::put_len(out, c, m);
     stores::copy_all(out, d, &s[body..at])

@@ -22,8 +22,8 @@ use Rattle.items.proofs.Glances.{as-same}
 use Rattle.stores.proofs.Puts.{Puts, puts-then, puts-sized}
 use Rattle.store_coded.proofs.Codings.{short-total}
 use Rattle.store_coded.proofs.Shortest.{short-less, lastOf, last-is}
-use Rattle.write_normal.specs.Meet.{seriesFront}
-use Rattle.write_normal.proofs.Pieces.{series-long}
+use Rattle.store_coded.specs.Fronts.{seriesFront}
+use Rattle.store_coded.proofs.Fronts.{series-long}
 use Rattle.edit_rules.specs.declared.Place.{Place}
 use Rattle.edit_rules.specs.Meet.{holderOf, changeOf, sheetOf, editedOf, shortOf, itemBytes, part, bodySize, packsSize, frontOf, runsOf, runsSize, Ordered, Puttable, Brief, Editing}
 use Rattle.edit_rules.proofs.Rules.{level-is}

@@ -24,7 +24,7 @@ use Rattle.format.proofs.sheets.Content.{val-tag, target-id}
 use Rattle.format.proofs.edits.Results.{part-series}
 use Rattle.spots.specs.Meet.{hasId, itemSpot, hasItem, itemLead}
 use Rattle.spots.proofs.Splices.{Hit, hit-flat, on-hit, ask-hit, spot-room}
-use Rattle.write_normal.specs.Meet.{seriesFront}
+use Rattle.store_coded.specs.Fronts.{seriesFront}
 use Rattle.edit_rules.specs.declared.Place.{Place}
 use Rattle.edit_rules.specs.Meet.{SetOf, keptOf, editedOf, itemBytes, bodySize, packsSize, frontOf, runsOf, Ordered, Placed}
 use Rattle.edit_rules.proofs.Levels.{has-spot, piece, Cut, madeBytes, changed}

@@ -18,7 +18,7 @@ use Rattle.format.specs.Edit.{Holder, theSet, target, Change, put, remove, leve
 use Rattle.format.specs.Valid.{All}
 use Rattle.tally.specs.Runs.{Ran, levelRun}
 use Rattle.spots.specs.Meet.{entriesOf, packsOf, hasId, itemSpot}
-use Rattle.write_normal.specs.Meet.{seriesFront}
+use Rattle.store_coded.specs.Fronts.{seriesFront}
 use Rattle.edit_rules.specs.declared.Place.{Place}
 use Rattle.edit_rules.specs.declared.Found.{Found}
 use Rattle.edit_rules.specs.declared.Found.the-variants.{There, Not}

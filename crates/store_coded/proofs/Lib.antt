@@ -1,2 +1,3 @@
 pub mod Codings
 pub mod Shortest
+pub mod Fronts

@@ -1,4 +1,4 @@
-// Storing what is coded: a length, a tag or an id, and an item under its shortest length.
+// Storing what is coded: a length, a tag or an id, an item under its shortest length, and what stands in front of packs and of items.
 ghost use mathlib.Core.Path.{_≡_};
 ghost use Prim.Native.Nat.{_+_, _%_, _^_, _≤_, _<_};
 ghost use lib.ListN.{length};
@@ -8,6 +8,7 @@ ghost use Rattle.format.specs.Table.{ruleOf, short};
 ghost use Rattle.format.specs.Packet.{flatItem};
 ghost use Rattle.format.specs.Calls.{itemOf};
 ghost use Rattle.items.specs.Meet.{levelOf, itemTable};
+ghost use Rattle.store_coded.specs.Fronts.{seriesFront, packFront};
 
 // The shortest length n; where it ends.
 pub fn put_len(out: &mut [u8], at: usize, n: usize) -> usize
@@ -78,4 +79,22 @@ pub fn put_short(out: &mut [u8], at: usize, tag: u64, v: &[u8]) -> usize
     let a = put_oid(out, at, tag);
     let b = put_len(out, a, v.len());
     stores::copy(out, b, v)
+}
+
+// What stands in front of a series' packs, n bytes; where it ends.
+pub fn put_series(out: &mut [u8], at: usize, n: usize) -> usize
+    requires { ⌜ (n ≤ 65536) × (at + length (seriesFront n) ≤ length (now out)) ⌝ }
+    ensures { λ r. ⌜ (r ≡ at + length (seriesFront n)) × (now (out .exit) ≡ sets (now (out .entry)) at (seriesFront n)) ⌝ }
+{
+    let a = stores::put_number(out, at, 101, 1);
+    put_len(out, a, n)
+}
+
+// What stands in front of a pack's items, where its id and its items are n bytes; where it ends.
+pub fn put_pack(out: &mut [u8], at: usize, n: usize, id: u64) -> usize
+    requires { ⌜ (n ≤ 65536) × (id < 2 ^ 63) × (at + length (packFront n id) ≤ length (now out)) ⌝ }
+    ensures { λ r. ⌜ (r ≡ at + length (packFront n id)) × (now (out .exit) ≡ sets (now (out .entry)) at (packFront n id)) ⌝ }
+{
+    let a = put_len(out, at, n);
+    put_oid(out, a, id)
 }

@@ -21,7 +21,8 @@ use Rattle.tally.specs.Meet.{total, any, weightOfVal, weightOfItem, weightOfEnt
 use Rattle.tally.specs.Runs.{levelRun, madeOf}
 use Rattle.tally.proofs.Maps.{total-map}
 use Rattle.tally.proofs.Totals.{body-normal}
-use Rattle.write_normal.specs.Meet.{itemNormal, entryNormal, packNormal, seriesFront, packFront, InnerIs, InnerRun}
+use Rattle.store_coded.specs.Fronts.{seriesFront, packFront}
+use Rattle.write_normal.specs.Meet.{itemNormal, entryNormal, packNormal, InnerIs, InnerRun}
 
 -- ---- an entry
 

@@ -23,7 +23,8 @@ use Rattle.stores.proofs.Puts.{Puts, puts-then, Parted, head-room, head-behind,
 use Rattle.write_laws.proofs.Writing.{each}
 use Rattle.write_laws.proofs.Entries.{LevelWriting, EntryAt, level-start, level-done, entry-tag, entry-room, valueAt, value-long, stored, entry-fits, entry-more, one-is, packs-run, packs-asked}
 use Rattle.write_laws.proofs.Packs.{SeriesWriting, PackAt, pack-stands, pack-id, pack-room, itemsAt, items-long, items-run, items-asked, packed, pack-fits, pack-more}
-use Rattle.write_normal.specs.Meet.{itemNormal, entryNormal, packNormal, levelNormal, seriesNormal, seriesFront, packFront, InnerRun}
+use Rattle.store_coded.specs.Fronts.{seriesFront, packFront}
+use Rattle.write_normal.specs.Meet.{itemNormal, entryNormal, packNormal, levelNormal, seriesNormal, InnerRun}
 use Rattle.write_normal.proofs.Copied.{items-same}
 use Rattle.write_normal.proofs.Forms.{entryBytes, run-bytes, pack-normal, no-inner, walk-sizes, walk-fault}
 

@@ -2,11 +2,10 @@
 use mathlib.Core.Path.{_≡_}
 use Prim.Native.Nat.{ℕ}
 use mathlib.Core.Bool.{true, false, _&&_}
-use mathlib.Core.List.{List, [], _++_}
+use mathlib.Core.List.{List, []}
 use lib.ListN.{length}
 use lib.Dec.{eqb}
 use Rattle.format.specs.Answer.{Ans, ok, refused, Got}
-use Rattle.format.specs.Coding.{lenWidth, lenBytes, oidBytes}
 use Rattle.format.specs.Lists.{flatAll}
 use Rattle.format.specs.Table.{Form, Level, isSet, ruleOf, short}
 use Rattle.format.specs.Packet.{Pack, Entry, plain, series, flatItem, flatPack, flatEntry}
@@ -31,13 +30,6 @@ levelNormal l f s = madeOf (flatAll (entryNormal l)) (levelRun l f s)
 
 abbrev pub seriesNormal : Form → List ℕ → List ℕ
 seriesNormal f s = madeOf (flatAll packNormal) (seriesRun f s)
-
--- what stands in front of a series' packs, n bytes in normal form, and of a pack's items, whose id and items are n bytes
-unfoldable pub seriesFront : ℕ → List ℕ
-seriesFront n = oidBytes 101 ++ lenBytes (lenWidth n) n
-
-unfoldable pub packFront : ℕ → ℕ → List ℕ
-packFront n id = lenBytes (lenWidth n) n ++ oidBytes id
 
 -- n is how many bytes the packs of a series take in normal form: of each series among entries
 abbrev pub InnerIs : ℕ → Entry → Type 0

@@ -1,15 +1,15 @@
 // The entries of a packet's set in normal form, written into a lent output as the item walk and the pack walk go over a packet that was checked.
 ghost use mathlib.Core.Path.{_≡_};
-ghost use Prim.Native.Nat.{_+_, _^_, _≤_, _<_};
+ghost use Prim.Native.Nat.{_+_, _≤_, _<_};
 ghost use lib.ListN.{length};
 ghost use lib.Seq.{sets};
 ghost use Rattle.items.specs.Meet.{formOf, levelOf, itemTable, glanceTable};
-ghost use Rattle.write_normal.specs.Meet.{itemNormal, seriesFront, packFront, InnerRun, levelNormal, seriesNormal};
+ghost use Rattle.write_normal.specs.Meet.{itemNormal, InnerRun, levelNormal, seriesNormal};
 ghost use Rattle.tally.specs.Runs.{Ran, levelRun, seriesRun};
 use heads::Head;
 use tally::Walked;
 
-// ---- items and heads
+// ---- an item
 
 // An item in normal form, from its value as it stands in the packet; where it ends. The set's checksum has no place.
 pub fn put_normal(table: &[u32], out: &mut [u8], at: usize, set: bool, tag: u64, v: &[u8]) -> usize
@@ -24,24 +24,6 @@ pub fn put_normal(table: &[u32], out: &mut [u8], at: usize, set: bool, tag: u64,
     let rule = items::rule_of(table, set, tag);
     let n = items::short_size(rule, v);
     store_coded::put_short(out, at, tag, &v[v.len() - n..])
-}
-
-// What stands in front of a series' packs, n bytes; where it ends.
-pub fn put_series(out: &mut [u8], at: usize, n: usize) -> usize
-    requires { ⌜ (n ≤ 65536) × (at + length (seriesFront n) ≤ length (now out)) ⌝ }
-    ensures { λ r. ⌜ (r ≡ at + length (seriesFront n)) × (now (out .exit) ≡ sets (now (out .entry)) at (seriesFront n)) ⌝ }
-{
-    let a = stores::put_number(out, at, 101, 1);
-    store_coded::put_len(out, a, n)
-}
-
-// What stands in front of a pack's items, where its id and its items are n bytes; where it ends.
-pub fn put_pack(out: &mut [u8], at: usize, n: usize, id: u64) -> usize
-    requires { ⌜ (n ≤ 65536) × (id < 2 ^ 63) × (at + length (packFront n id) ≤ length (now out)) ⌝ }
-    ensures { λ r. ⌜ (r ≡ at + length (packFront n id)) × (now (out .exit) ≡ sets (now (out .entry)) at (packFront n id)) ⌝ }
-{
-    let a = store_coded::put_len(out, at, n);
-    store_coded::put_oid(out, a, id)
 }
 
 // ---- the walks
@@ -76,7 +58,7 @@ pub fn item_normal(
         let from = p + used + width;
         let next = from + size;
         k = if tally::is_series(set, key) {
-            let m = put_series(out, k, inner);
+            let m = store_coded::put_series(out, k, inner);
             m + pack_normal(table, glances, &s[from..next], alone, bits, &mut out[m..])
         } else {
             put_normal(table, out, k, set, key, &s[from..next])
@@ -118,7 +100,7 @@ pub fn pack_normal(
             return k;
         };
         let n = used + sizes.normal;
-        let m = put_pack(out, k, n, key);
+        let m = store_coded::put_pack(out, k, n, key);
         // No item grows, so items that keep their size are in normal form.
         k = if n == size {
             stores::copy_all(out, m, &s[from..next])

@@ -19,7 +19,7 @@ use Rattle.coding.proofs.Counts.{len-one, len-above}
 use Rattle.tally.specs.Meet.{total, weightOfVal}
 use Rattle.tally.specs.Runs.{madeOf}
 use Rattle.tally.proofs.Totals.{body-normal}
-use Rattle.write_normal.specs.Meet.{seriesFront, packFront}
+use Rattle.store_coded.specs.Fronts.{seriesFront, packFront}
 use Rattle.write_packet.specs.Meet.{partNormal, targetNormal, InnerPart, InnerParts}
 use Rattle.write_packet.specs.Writing.{partBytes}
 

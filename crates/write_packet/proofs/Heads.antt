@@ -12,7 +12,7 @@ use Rattle.format.proofs.coding.Digits.{digits-zero, digits-pos}
 use Rattle.format.proofs.coding.Lengths.{length-len}
 use Rattle.stores.proofs.Puts.{Puts, puts-then, puts-sized}
 use Rattle.store_coded.proofs.Codings.{short-length}
-use Rattle.write_normal.specs.Meet.{packFront}
+use Rattle.store_coded.specs.Fronts.{packFront}
 
 pub front-sized : (n id : ℕ) → length (packFront n id) ≡ lenWidth n + length (oidBytes id)
 unfolding packFront

@@ -24,7 +24,7 @@ use Rattle.stores.proofs.Stores.{sets-append, sets-swap, sets-under, tail-lengt
 use Rattle.stores.proofs.Shifts.{stored-reads}
 use Rattle.write_laws.proofs.Writing.{each, writing-begins, none-over, writing-over, Next, next-here, next-room, writing-passes, long}
 use Rattle.write_laws.proofs.Entries.{ran, ran-ok}
-use Rattle.write_normal.specs.Meet.{packFront}
+use Rattle.store_coded.specs.Fronts.{packFront}
 use Rattle.write_packet.specs.Meet.{usedOf, recordsRun, targetsRun, targetNormal, partNormal, recordsNormal, targetsNormal}
 use Rattle.write_packet.specs.Writing.{RecordsAsked}
 use Rattle.write_packet.proofs.Steps.{mark-room, TargetHere, target-here, vals-read}

@@ -24,7 +24,7 @@ use Rattle.quick_records.proofs.Runs.{targets-used}
 use Rattle.stores.proofs.Puts.{Puts, Parted, head-room, head-behind, rest-room, rest-put}
 use Rattle.write_laws.proofs.Writing.{each, writing-begins, none-over, writing-done, writing-over, Next, next-here, next-room, writing-passes, long}
 use Rattle.write_laws.proofs.Entries.{ran, ran-ok}
-use Rattle.write_normal.specs.Meet.{seriesFront}
+use Rattle.store_coded.specs.Fronts.{seriesFront}
 use Rattle.write_packet.specs.Meet.{usedOf, recordsRun, targetsRun, targetNormal, recordsNormal, targetsNormal}
 use Rattle.write_packet.specs.Writing.{partBytes, RecordsAsked, RecordsWriting, Small}
 use Rattle.write_packet.proofs.Steps.{tagAt, sizeAt, OneHere, one-here, mark-room, SeriesHere, series-here}

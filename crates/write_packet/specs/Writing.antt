@@ -13,7 +13,7 @@ use Rattle.items.specs.Meet.{levelOf}
 use Rattle.tally.specs.Runs.{Ran}
 use Rattle.quick_records.specs.Meet.{moreAt, partStep}
 use Rattle.write_laws.specs.Writing.{Writing}
-use Rattle.write_normal.specs.Meet.{seriesFront}
+use Rattle.store_coded.specs.Fronts.{seriesFront}
 use Rattle.write_packet.specs.Meet.{usedOf, recordsRun, targetNormal, recordsNormal, InnerParts}
 
 -- what a part writes, where the packs of a series take n bytes

@@ -11,7 +11,7 @@ ghost use Rattle.format.specs.Coding.{bytesNumber};
 ghost use Rattle.format.specs.Table.{pack};
 ghost use Rattle.format.specs.Packet.{flatItem};
 ghost use Rattle.format.specs.Calls.{itemOf};
-ghost use Rattle.write_normal.specs.Meet.{packFront};
+ghost use Rattle.store_coded.specs.Fronts.{packFront};
 ghost use Rattle.write_packet.specs.Meet.{usedOf, recordsRun, targetsRun, recordsNormal, targetsNormal};
 ghost use Rattle.write_packet.specs.Writing.{RecordsAsked, RecordsWriting, Small};
 use stores::Passed;
@@ -116,7 +116,7 @@ pub fn item_packet(s: &[u8], set: bool, alone: bool, inner: usize, out: &mut [u8
             return k;
         }
         if heads::records::is_mark(s, p, b'T', b'S') {
-            let m = write_normal::put_series(out, k, inner);
+            let m = store_coded::put_series(out, k, inner);
             let d = target_packet(&s[p + 2..], alone, &mut out[m..]);
             p = p + 2 + d.used;
             k = m + d.wrote;
@@ -138,10 +138,10 @@ fn put_head(out: &mut [u8], at: usize, n: usize, id: u64) -> usize
     ensures { λ r. ⌜ (r ≡ at + length (packFront n id)) × (now (out .exit) ≡ sets (now (out .entry)) at (packFront n id)) ⌝ }
 {
     if 127 < n {
-        return write_normal::put_pack(out, at, n, id);
+        return store_coded::put_pack(out, at, n, id);
     }
     if 16383 < id {
-        return write_normal::put_pack(out, at, n, id);
+        return store_coded::put_pack(out, at, n, id);
     }
     out[at] = n as u8;
     let a = at + 1;

@@ -21,8 +21,8 @@ use Rattle.write_normal.proofs.+item_normal+pack_normal.Lts-pack_normal
 use Rattle.heads.proofs.item_head.Reads as item-head-reads
 use Rattle.heads.proofs.quick_pack_head.Reads as quick-pack-head-reads
 use Rattle.write_normal.proofs.put_normal.Reads as put-normal-reads
-use Rattle.write_normal.proofs.put_pack.Reads as put-pack-reads
-use Rattle.write_normal.proofs.put_series.Reads as put-series-reads
+use Rattle.store_coded.proofs.put_pack.Reads as put-pack-reads
+use Rattle.store_coded.proofs.put_series.Reads as put-series-reads
 use Rattle.stores.proofs.copy_all.Reads as copy-all-reads
 use Rattle.tally.proofs.is_series.Reads as is-series-reads
 use Rattle.check_items.proofs.item_walk.Reads as item-walk-reads

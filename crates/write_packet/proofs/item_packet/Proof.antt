@@ -13,7 +13,7 @@ use Rattle.write_packet.proofs.item_packet.Tie as tie
 use Rattle.write_packet.proofs.item_packet.Reads as reads
 use Rattle.write_packet.proofs.item_packet.Lts as lts
 use Rattle.heads.proofs.records.is_mark.Reads as is-mark-reads
-use Rattle.write_normal.proofs.put_series.Reads as put-series-reads
+use Rattle.store_coded.proofs.put_series.Reads as put-series-reads
 use Rattle.write_packet.proofs.target_packet.Reads as target-packet-reads
 use Rattle.write_packet.proofs.two_at.Reads as two-at-reads
 use Rattle.quick_records.proofs.goes_on.Reads as goes-on-reads

@@ -1,13 +1,13 @@
--- `write_normal::put_pack` meets its contract.
+-- `store_coded::put_pack` meets its contract.
 use native.Mathlib.Omega.{arith}
 use mathlib.Core.Path.{ap}
 use lib.ListN.{length}
 use lib.Seq.{length-sets}
 use borrow.Author.Needs.{needs}
 use Rattle.format.specs.Coding.{lenWidth, lenBytes}
-use Rattle.write_normal.proofs.Pieces.{pack-long, pack-stored}
-use Rattle.write_normal.proofs.put_pack.Statement.{statement}
-use Rattle.write_normal.proofs.put_pack.Tie as tie
+use Rattle.store_coded.proofs.Fronts.{pack-long, pack-stored}
+use Rattle.store_coded.proofs.put_pack.Statement.{statement}
+use Rattle.store_coded.proofs.put_pack.Tie as tie
 
 put-len-requires : tie.Need-put-len-requires
 put-len-requires c κs =

@@ -1,13 +1,13 @@
--- `write_normal::put_series` meets its contract.
+-- `store_coded::put_series` meets its contract.
 use native.Mathlib.Omega.{arith}
 use mathlib.Core.Path.{ap}
 use lib.ListN.{length}
 use lib.Seq.{length-sets}
 use borrow.Author.Needs.{needs}
 use Rattle.format.specs.Coding.{fixed}
-use Rattle.write_normal.proofs.Pieces.{series-long, series-stored}
-use Rattle.write_normal.proofs.put_series.Statement.{statement}
-use Rattle.write_normal.proofs.put_series.Tie as tie
+use Rattle.store_coded.proofs.Fronts.{series-long, series-stored}
+use Rattle.store_coded.proofs.put_series.Statement.{statement}
+use Rattle.store_coded.proofs.put_series.Tie as tie
 
 put-number-requires : tie.Need-put-number-requires
 put-number-requires c κs = omega (arith, series-long (c .before .before .args .n), c .before .before .pre .1)

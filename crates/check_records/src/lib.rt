@@ -9,7 +9,7 @@ ghost use Rattle.items.specs.Meet.{formOf, levelOf, itemTable, glanceTable};
 ghost use Rattle.heads.specs.Meet.{peek, Past, Clear};
 ghost use Rattle.heads.specs.Records.{peekVal};
 ghost use Rattle.tally.specs.Meet.{Within};
-ghost use Rattle.quick_records.specs.Meet.{pieceBy, valueWhole, seriesWhole, targetWhole, seriesOpens, targetOpens, partPiece, moreAt, recordsWalk, targetsWalk};
+ghost use Rattle.tally_records.specs.Meet.{pieceBy, valueWhole, seriesWhole, targetWhole, seriesOpens, targetOpens, partPiece, recordsWalk, targetsWalk};
 use heads::records::Field;
 use tally::Piece;
 use tally::Sizes;
@@ -177,7 +177,7 @@ pub fn item_records(
     let mut low: u64 = 18446744073709551615;
     let mut clear: usize = 0;
     while p < s.len() {
-        if !quick_records::goes_on(s, p, set) {
+        if !tally_records::goes_on(s, p, set) {
             return Walked::Good { sizes: sum, held };
         }
         let a = part_at(table, glances, s, p, clear, set, alone, top, low);
@@ -247,7 +247,7 @@ pub fn target_records(
         let q = quick_records::quick::glance_records(glances, items, false, alone);
         let mut sizes = q.sizes;
         let mut held = q.held;
-        if quick_records::goes_on(items, q.at, false) {
+        if tally_records::goes_on(items, q.at, false) {
             let w = item_records(table, glances, items, false, alone, bits);
             let Walked::Good { sizes: z, held: m } = w else {
                 return tally::later(w, from);

@@ -1,5 +1,5 @@
 -- The quick way's turn over the series that ends the set: it is read as the walk over the set's records reads it.
-use mathlib.Core.Path.{_≡_, refl, sym, ap, _∙_}
+use mathlib.Core.Path.{_≡_, refl, sym, ap}
 use Prim.Native.Nat.{ℕ, _+_, _≤_, _<_}
 use native.Mathlib.Omega.{arith}
 use mathlib.Core.Bool.{Bool, true, false}
@@ -21,12 +21,12 @@ use Rattle.tally.specs.Meet.{seriesSizes, plusSizes, Small}
 use Rattle.tally.specs.Going.{stageAt}
 use Rattle.tally.proofs.Walks.{few-more}
 use Rattle.tally.proofs.Turns.{turn-done}
-use Rattle.tally.proofs.Begins.{begun-later}
-use Rattle.tally.proofs.Begins.{or-false}
-use Rattle.quick_records.specs.Meet.{partPiece}
-use Rattle.quick_records.specs.Going.{RecordsGoing, TargetsPassed}
-use Rattle.quick_records.proofs.Opens.{series-whole, part-series}
-use Rattle.quick_records.proofs.PartTurns.{ts-room, targetsAt, PartAt, PartTold, series-told, good-small, part-more}
+use Rattle.tally.proofs.Begins.{begun-later, or-false}
+use Rattle.tally_records.specs.Meet.{partPiece}
+use Rattle.tally_records.specs.Going.{RecordsGoing}
+use Rattle.quick_records.specs.Going.{TargetsPassed}
+use Rattle.tally_records.proofs.Opens.{series-whole, part-series}
+use Rattle.tally_records.proofs.PartTurns.{ts-room, targetsAt, PartAt, PartTold, series-told, good-small, part-more}
 
 -- a `TS` that the code has found at p, told to be new
 pub record SeriesAt (f : Form) (s : List ℕ) (p : ℕ) (sum : Sizes) (held : Bool) (top low : ℕ) : Type 0 where

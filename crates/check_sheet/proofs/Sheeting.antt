@@ -33,7 +33,7 @@ use Rattle.tally.proofs.Totals.{NoSeal, parts-normal}
 use Rattle.tally.proofs.Series.{after-not}
 use Rattle.check_sheet.specs.declared.Sheeted.{Sheeted}
 use Rattle.check_sheet.specs.declared.Sheeted.the-variants.{Fine, Wrong}
-use Rattle.quick_records.specs.Meet.{partStep, weightAt, recordsWalk}
+use Rattle.tally_records.specs.Meet.{partStep, weightAt, recordsWalk}
 use Rattle.check_sheet.specs.Meet.{sheetedOf, partsFault}
 use Rattle.tally.proofs.Maps.{Walk, walked-good, walked-bad}
 

@@ -18,7 +18,7 @@ use Rattle.coding.proofs.Counts.{len-most, oid-most}
 use Rattle.tally.specs.Meet.{itemSizes, seriesSizes, total, weightOfVal, weightOfTarget, weightOfPart}
 use Rattle.tally.proofs.Walks.{few-plus}
 use Rattle.tally.proofs.Totals.{NoSeal, parts-sheet, parts-normal, parts-inner}
-use Rattle.quick_records.proofs.Runs.{Slim, slim-series, slim-targets}
+use Rattle.tally_records.proofs.Runs.{Slim, slim-series, slim-targets}
 use Rattle.check_sheet.proofs.Sheeting.{no-seal}
 
 slim-item : (v : Val) → eqb (v .tag) 1 ≡ false → Slim (weightOfVal set v)

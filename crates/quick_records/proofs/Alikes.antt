@@ -2,7 +2,7 @@
 use mathlib.Core.Path.{_≡_, refl, sym, ap, _∙_}
 use Prim.Native.Nat.{ℕ, _+_, _-_, _*_, _≤_, _<_}
 use native.Mathlib.Omega.{arith}
-use mathlib.Core.Bool.{Bool, true, false, _||_, _&&_}
+use mathlib.Core.Bool.{Bool, false, _||_}
 use mathlib.Core.List.{List, [], _∷_}
 use lib.ListN.{length, take, drop, getD, length-drop}
 use lib.Seq.{getD-drop}
@@ -16,8 +16,9 @@ use Rattle.items.specs.Meet.{levelOf}
 use Rattle.items.specs.Quick.{Glanced}
 use Rattle.tally.specs.Meet.{askedTag}
 use Rattle.quick_packs.proofs.Alikes.{quick-alike}
-use Rattle.quick_records.specs.Going.{RecordsGoing, RecordGlanced}
-use Rattle.quick_records.proofs.Glances.{toldSizes, glance-room, glance-of, glance-next, glance-more}
+use Rattle.tally_records.specs.Going.{RecordsGoing}
+use Rattle.quick_records.specs.Going.{RecordGlanced}
+use Rattle.quick_records.proofs.Glances.{toldSizes, glance-of, glance-next, glance-more}
 
 -- ---- two bytes that are the same
 

@@ -9,7 +9,7 @@ use lib.Seq.{drop-drop, getD-drop, getD-take, length-take-le}
 use lib.Dec.{eqb}
 use borrow.Author.Tests.{lt-ltb, le-leb, eq-eqb}
 use Rattle.format.specs.Coding.{Bytes, bytesNumber, number, oidBytes, lenWidth}
-use Rattle.format.specs.Table.{Form, Level, isSet, isAlone, ruleOf, nameable}
+use Rattle.format.specs.Table.{Form, Level, isSet, ruleOf, nameable}
 use Rattle.format.specs.Sheet.{markOf, is, valueAt}
 use Rattle.format.proofs.words.Bytes.{bytes-drop}
 use Rattle.coding.proofs.Lens.{two-small}
@@ -30,11 +30,12 @@ use Rattle.tally.specs.Going.{Begun}
 use Rattle.tally.proofs.Walks.{same-sizes}
 use Rattle.tally.proofs.Begins.{begun-later}
 use Rattle.tally.proofs.ItemTurns.{level-is}
-use Rattle.quick_records.specs.Meet.{pieceBy, valueWhole, partPiece, moreAt}
-use Rattle.quick_records.specs.Going.{RecordsGoing, RecordGlanced, wordOf}
-use Rattle.quick_records.proofs.Values.{value-within, value-whole}
-use Rattle.quick_records.proofs.Opens.{part-inner, part-value}
-use Rattle.quick_records.proofs.PartTurns.{item-is, PartAt, item-told, part-more}
+use Rattle.tally_records.specs.Meet.{pieceBy, valueWhole, partPiece, moreAt}
+use Rattle.tally_records.specs.Going.{RecordsGoing}
+use Rattle.quick_records.specs.Going.{RecordGlanced, wordOf}
+use Rattle.tally_records.proofs.Values.{value-within, value-whole}
+use Rattle.tally_records.proofs.Opens.{part-inner, part-value}
+use Rattle.tally_records.proofs.PartTurns.{item-is, PartAt, item-told, part-more}
 
 -- the sizes of so many such records in p bytes
 abbrev pub toldSizes : ℕ → ℕ → Sizes

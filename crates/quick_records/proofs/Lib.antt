@@ -1,9 +1,3 @@
-pub mod Values
-pub mod Opens
-pub mod Parts
-pub mod Runs
-pub mod PartTurns
 pub mod Glances
 pub mod Alikes
-pub mod TargetTurns
 pub mod Models

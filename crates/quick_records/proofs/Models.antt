@@ -1,6 +1,6 @@
 -- A target's records as a model: what is laid out as they are is walked as they are, and a target that holds such records is walked.
-use mathlib.Core.Path.{_≡_, refl, sym, _∙_}
-use Prim.Native.Nat.{ℕ, _+_, _-_, _*_, _≤_, _<_}
+use mathlib.Core.Path.{_≡_, refl, sym}
+use Prim.Native.Nat.{ℕ, _+_, _-_, _*_, _≤_}
 use native.Mathlib.Omega.{arith}
 use mathlib.Core.Bool.{Bool, true, false, not, _||_}
 use mathlib.Core.List.{List}
@@ -21,11 +21,11 @@ use Rattle.tally.specs.Meet.{sizes, Within}
 use Rattle.quick_packs.specs.Packs.{As}
 use Rattle.tally.proofs.Turns.{turn-done}
 use Rattle.tally.proofs.PackTurns.{either-is}
-use Rattle.quick_records.specs.Meet.{recordsWalk}
-use Rattle.quick_records.specs.Going.{RecordsGoing, TargetsGoing}
+use Rattle.tally_records.specs.Meet.{recordsWalk}
+use Rattle.tally_records.specs.Going.{RecordsGoing, TargetsGoing}
 use Rattle.quick_records.specs.Targets.{Laid, Held, Over, Modelled}
 use Rattle.quick_records.proofs.Glances.{passed-plus}
-use Rattle.quick_records.proofs.TargetTurns.{TargetAt, records-over, lent, lent-long, lent-over, target-looks, target-more}
+use Rattle.tally_records.proofs.TargetTurns.{TargetAt, records-over, lent, lent-long, lent-over, target-looks, target-more}
 
 -- none, as the code says it
 pub no-records : {alone : Bool} {masks s : List ℕ} {m : Model} → (m .from ≡ 0) × (m .size ≡ 128) × (m .rows ≡ 0) → length masks ≡ 160 → Modelled alone masks s m

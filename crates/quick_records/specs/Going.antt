@@ -1,35 +1,22 @@
--- The walks over a level's records and over the series' targets while they go, and a record that is told at a glance.
+-- A record that is told at a glance, and how far the quick way over a series' targets took their walk.
 use mathlib.Core.Path.{_≡_}
 use Prim.Native.Nat.{ℕ, _+_, _^_, _<_}
 use mathlib.Core.Bool.{Bool, true, false}
 use mathlib.Core.List.{List}
 use lib.ListN.{take, drop, getD}
-use lib.Dec.{eqb}
 use Rattle.format.specs.Coding.{bytesNumber}
 use Rattle.format.specs.Table.{Form}
-use Rattle.format.specs.Sheet.{tagOfPart, idOfTarget, markOf, TG, is, field, targetAt}
+use Rattle.format.specs.Sheet.{markOf, TG, is, field}
 use Rattle.items.specs.Meet.{levelOf}
 use Rattle.items.specs.Quick as items
-use Rattle.heads.specs.Meet.{peek}
 use Rattle.heads.specs.Records.{fieldAnswer}
 use Rattle.heads.specs.declared.records.Field.the-variants.{Whole}
-use Rattle.tally.specs.declared.Sizes.{Sizes}
 use Rattle.tally.specs.declared.stages.Stage.{Stage}
-use Rattle.tally.specs.Meet.{askedTag, weightOfTarget}
-use Rattle.tally.specs.Going.{Going}
-use Rattle.quick_records.specs.Meet.{moreAt, partStep, weightAt, recordsWalk, targetsWalk}
+use Rattle.tally_records.specs.Going.{TargetsFrom}
 
-abbrev pub RecordsGoing : Bool → Form → List ℕ → ℕ → Sizes → Bool → ℕ → ℕ → Type 0
-RecordsGoing b f s p a m top low =
-    Going (peek true false b) (moreAt (levelOf b)) (weightAt (levelOf b)) (λ x. eqb (tagOfPart x) (askedTag (levelOf b))) tagOfPart (partStep (levelOf b) f) (recordsWalk (levelOf b) f s) s p a m top low
-
--- the walk over the series' targets
-abbrev pub TargetsGoing : Form → List ℕ → ℕ → Sizes → ℕ → ℕ → Type 0
-TargetsGoing f s p a top low = Going (peek true true false) (is TG) weightOfTarget (λ t. false) idOfTarget (targetAt f) (targetsWalk f s) s p a false top low
-
--- as far as a quick way took it: a target takes as many bytes as it adds to the sheet, and where it passed any, a `TG` stands first
+-- the walk over targets as far as the quick way took it: a target takes as many bytes as it adds to the sheet, and where it passed any, a `TG` stands first
 abbrev pub TargetsPassed : Form → List ℕ → Stage → Type 0
-TargetsPassed f s q = TargetsGoing f s (q .at) (q .sizes) (q .top) (q .low) × (q .top < 2 ^ 63) × (q .at ≡ q .sizes .sheet) × (0 < q .at → is TG s ≡ true)
+TargetsPassed f s q = TargetsFrom f s q × (q .top < 2 ^ 63) × (q .at ≡ q .sizes .sheet) × (0 < q .at → is TG s ≡ true)
 
 -- the mark of a level's records before a tag of 0, as one number
 abbrev pub wordOf : Bool → ℕ

@@ -1,3 +1,2 @@
-pub mod Meet
 pub mod Going
 pub mod Targets

@@ -12,7 +12,7 @@ use Rattle.items.specs.Meet.{formOf}
 use Rattle.tally.specs.declared.stages.Stage.{Stage}
 use Rattle.quick_packs.specs.declared.Model.{Model}
 use Rattle.tally.specs.Meet.{sizes}
-use Rattle.quick_records.specs.Going.{RecordsGoing}
+use Rattle.tally_records.specs.Going.{RecordsGoing}
 
 -- the records of a are walked so far; and if that is not too far for the masks, so is whatever is laid out as they are
 pub record Laid (f : Form) (masks a : List ℕ) (q : Stage) : Type 0 where

@@ -6,7 +6,8 @@ ghost use Rattle.format.specs.Coding.{bytesNumber};
 ghost use Rattle.items.specs.Meet.{formOf, glanceTable};
 ghost use Rattle.tally.specs.Meet.{sizes};
 ghost use Rattle.tally.specs.Going.{Begun};
-ghost use Rattle.quick_records.specs.Going.{RecordsGoing, RecordGlanced, wordOf};
+ghost use Rattle.tally_records.specs.Going.{RecordsGoing};
+ghost use Rattle.quick_records.specs.Going.{RecordGlanced, wordOf};
 use tally::Sizes;
 use tally::stages::Stage;
 

@@ -21,7 +21,7 @@ use Rattle.tally.specs.Meet.{total, weightOfPart}
 use Rattle.tally.specs.Runs.{Ran, madeOf}
 use Rattle.tally.proofs.Inners.{one-inside}
 use Rattle.tally.proofs.Totals.{val-inner, targets-normal}
-use Rattle.quick_records.specs.Meet.{partStep}
+use Rattle.tally_records.specs.Meet.{partStep}
 use Rattle.write_laws.proofs.Entries.{ran-ok}
 use Rattle.write_packet.specs.Meet.{recordsRun, partNormal, recordsNormal, InnerPart, InnerParts}
 use Rattle.write_packet.proofs.Forms.{flat-map}

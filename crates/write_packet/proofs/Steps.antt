@@ -17,9 +17,9 @@ use Rattle.format.proofs.table.Tags.{nameable-high}
 use Rattle.format.proofs.sheets.Values.{mark-says}
 use Rattle.items.specs.Meet.{levelOf}
 use Rattle.heads.proofs.Spans.{size-at}
-use Rattle.quick_records.specs.Meet.{moreAt, partStep}
+use Rattle.tally_records.specs.Meet.{moreAt, partStep}
 use Rattle.tally.proofs.Maps.{mapped}
-use Rattle.quick_records.proofs.Runs.{vals-run}
+use Rattle.tally_records.proofs.Runs.{vals-run}
 use Rattle.write_packet.specs.Meet.{recordsRun, targetsRun}
 
 -- ---- a part

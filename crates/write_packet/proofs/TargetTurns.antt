@@ -17,7 +17,7 @@ use Rattle.coding.proofs.Counts.{len-one}
 use Rattle.coding.proofs.Rooms.{tail-part}
 use Rattle.tally.specs.Meet.{total, weightOfVal}
 use Rattle.tally.specs.Runs.{madeOf}
-use Rattle.quick_records.proofs.Runs.{vals-used}
+use Rattle.tally_records.proofs.Runs.{vals-used}
 use Rattle.write_laws.specs.Writing.{Writing}
 use Rattle.stores.proofs.Puts.{Puts, Parted, head-room}
 use Rattle.stores.proofs.Stores.{sets-append, sets-swap, sets-under, tail-length, tail-stored}

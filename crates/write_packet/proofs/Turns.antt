@@ -19,8 +19,8 @@ use Rattle.coding.proofs.Rooms.{tail-part}
 use Rattle.coding.proofs.Lens.{two-small}
 use Rattle.items.specs.Meet.{levelOf}
 use Rattle.tally.specs.Runs.{Ran, madeOf}
-use Rattle.quick_records.specs.Meet.{moreAt, partStep}
-use Rattle.quick_records.proofs.Runs.{targets-used}
+use Rattle.tally_records.specs.Meet.{moreAt, partStep}
+use Rattle.tally_records.proofs.Runs.{targets-used}
 use Rattle.stores.proofs.Puts.{Puts, Parted, head-room, head-behind, rest-room, rest-put}
 use Rattle.write_laws.proofs.Writing.{each, writing-begins, none-over, writing-done, writing-over, Next, next-here, next-room, writing-passes, long}
 use Rattle.write_laws.proofs.Entries.{ran, ran-ok}

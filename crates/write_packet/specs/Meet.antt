@@ -12,7 +12,7 @@ use Rattle.format.specs.Sheet.{Target, Part, one, targets, idOfTarget, tagOfPar
 use Rattle.format.specs.Calls.{packOf, entryOf}
 use Rattle.format.specs.Valid.{All}
 use Rattle.tally.specs.Runs.{madeOf}
-use Rattle.quick_records.specs.Meet.{moreAt, partStep}
+use Rattle.tally_records.specs.Meet.{moreAt, partStep}
 
 unfoldable pub recordsRun : Level → Form → List ℕ → Ans (Got (List Part))
 recordsRun l f s = run (moreAt l) tagOfPart (partStep l f) s

@@ -11,7 +11,7 @@ use Rattle.format.specs.Sheet.{Part, one, targets, tagOfPart}
 use Rattle.format.specs.Calls.{itemOf}
 use Rattle.items.specs.Meet.{levelOf}
 use Rattle.tally.specs.Runs.{Ran}
-use Rattle.quick_records.specs.Meet.{moreAt, partStep}
+use Rattle.tally_records.specs.Meet.{moreAt, partStep}
 use Rattle.write_laws.specs.Writing.{Writing}
 use Rattle.store_coded.specs.Fronts.{seriesFront}
 use Rattle.write_packet.specs.Meet.{usedOf, recordsRun, targetNormal, recordsNormal, InnerParts}

@@ -112,7 +112,7 @@ pub fn item_packet(s: &[u8], set: bool, alone: bool, inner: usize, out: &mut [u8
     let mut p: usize = 0;
     let mut k: usize = 0;
     while p < s.len() {
-        if !quick_records::goes_on(s, p, set) {
+        if !tally_records::goes_on(s, p, set) {
             return k;
         }
         if heads::records::is_mark(s, p, b'T', b'S') {

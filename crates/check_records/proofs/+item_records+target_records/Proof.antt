@@ -17,13 +17,13 @@ use Rattle.repeats.proofs.Clears.{clear-none}
 use Rattle.tally.specs.declared.Walked.the-variants.{Good}
 use Rattle.tally.specs.Meet.{plusSizes, Within}
 use Rattle.tally.proofs.Turns.{within-more, told-as, turn-done, turn-over}
-use Rattle.quick_records.specs.Meet.{recordsWalk}
-use Rattle.quick_records.specs.Going.{RecordsGoing, TargetsGoing}
+use Rattle.tally_records.specs.Meet.{recordsWalk}
+use Rattle.tally_records.specs.Going.{RecordsGoing, TargetsGoing}
 use Rattle.tally.proofs.ItemTurns.{depth, series-deep}
 use Rattle.tally.proofs.PackTurns.{either-is}
-use Rattle.quick_records.proofs.PartTurns.{PartAt, records-start, piece-fault, PartTold, item-small, item-told, series-room, lent-small, series-told, part-bad, bad-within, part-room, good-small, part-more}
-use Rattle.quick_records.proofs.TargetTurns.{TargetAt, same-good, records-over, head-fault, target-room, vals-within, vals-fault, next-room, vals-small, no-location, target-small, target-more}
-use Rattle.quick_records.proofs.TargetTurns as target-turns
+use Rattle.tally_records.proofs.PartTurns.{PartAt, records-start, piece-fault, PartTold, item-small, item-told, series-room, lent-small, series-told, part-bad, bad-within, part-room, good-small, part-more}
+use Rattle.tally_records.proofs.TargetTurns.{TargetAt, same-good, records-over, head-fault, target-room, vals-within, vals-fault, next-room, vals-small, no-location, target-small, target-more}
+use Rattle.tally_records.proofs.TargetTurns as target-turns
 use Rattle.check_records.proofs.item_records.Reads as item-records
 use Rattle.check_records.proofs.item_records.Kinds as item-records-kinds
 use Rattle.check_records.proofs.+item_records+target_records.Lts-item_records as item-records-lts
@@ -33,7 +33,7 @@ use Rattle.check_records.proofs.+item_records+target_records.Lts-target
 use Rattle.coding.proofs.widths.oid_width.Reads as oid-width-reads
 use Rattle.repeats.proofs.clear.after.Reads as after-reads
 use Rattle.heads.proofs.records.is_mark.Reads as is-mark-reads
-use Rattle.quick_records.proofs.goes_on.Reads as goes-on-reads
+use Rattle.tally_records.proofs.goes_on.Reads as goes-on-reads
 use Rattle.check_records.proofs.higher.Reads as higher-reads
 use Rattle.quick_records.proofs.quick.glance_records.Reads as glance-records-reads
 use Rattle.quick_records.proofs.targets.strewn.Reads as strewn-reads

@@ -2,7 +2,7 @@
 use mathlib.Core.Path.{sym, _∙_}
 use native.Mathlib.Omega.{arith}
 use borrow.Author.Needs.{needs}
-use Rattle.quick_records.proofs.Opens.{value-inner, value-set, clear-set, past-set, part-inner, part-value, part-series, part-unknown}
+use Rattle.tally_records.proofs.Opens.{value-inner, value-set, clear-set, past-set, part-inner, part-value, part-series, part-unknown}
 use Rattle.quick_records.proofs.Glances.{glance-next, glance-piece}
 use Rattle.check_records.proofs.part_at.Statement.{statement}
 use Rattle.check_records.proofs.part_at.Tie as tie

@@ -1,7 +1,7 @@
 -- `check_records::series_at` meets its contract: each way out is a case of `seriesOpens`.
 use mathlib.Core.Path.{sym}
 use borrow.Author.Needs.{needs}
-use Rattle.quick_records.proofs.Opens.{series-key, series-alone, series-standing, series-whole}
+use Rattle.tally_records.proofs.Opens.{series-key, series-alone, series-standing, series-whole}
 use Rattle.check_records.proofs.series_at.Statement.{statement}
 use Rattle.check_records.proofs.series_at.Tie as tie
 

@@ -2,7 +2,7 @@
 use mathlib.Core.List.{[]}
 use native.Mathlib.Omega.{arith}
 use borrow.Author.Needs.{needs}
-use Rattle.quick_records.proofs.Opens.{target-key, target-cut, target-high, target-again, target-whole}
+use Rattle.tally_records.proofs.Opens.{target-key, target-cut, target-high, target-again, target-whole}
 use Rattle.check_records.proofs.target_at.Statement.{statement}
 use Rattle.check_records.proofs.target_at.Tie as tie
 

@@ -5,8 +5,8 @@ use Prim.Native.Nat.{_-_}
 use native.Mathlib.Omega.{arith}
 use lib.ListN.{length, take, drop}
 use borrow.Author.Needs.{needs}
-use Rattle.quick_records.proofs.Opens.{value-key}
-use Rattle.quick_records.proofs.Values.{value-tail, value-cut, value-within, value-empty, value-standing, value-valued, value-long, value-whole}
+use Rattle.tally_records.proofs.Opens.{value-key}
+use Rattle.tally_records.proofs.Values.{value-tail, value-cut, value-within, value-empty, value-standing, value-valued, value-long, value-whole}
 use Rattle.check_records.proofs.value_at.Statement.{statement}
 use Rattle.check_records.proofs.value_at.Tie as tie
 

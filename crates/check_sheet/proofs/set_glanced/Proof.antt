@@ -1,7 +1,7 @@
 -- `check_sheet::set_glanced` meets its contract.
 use borrow.Author.Needs.{needs}
 use borrow.Author.Tests.{not-false}
-use Rattle.quick_records.proofs.PartTurns.{records-start}
+use Rattle.tally_records.proofs.PartTurns.{records-start}
 use Rattle.check_sheet.proofs.set_glanced.Statement.{statement}
 use Rattle.check_sheet.proofs.set_glanced.Tie as tie
 

@@ -16,7 +16,7 @@ use Rattle.heads.proofs.records.is_mark.Reads as is-mark-reads
 use Rattle.store_coded.proofs.put_series.Reads as put-series-reads
 use Rattle.write_packet.proofs.target_packet.Reads as target-packet-reads
 use Rattle.write_packet.proofs.two_at.Reads as two-at-reads
-use Rattle.quick_records.proofs.goes_on.Reads as goes-on-reads
+use Rattle.tally_records.proofs.goes_on.Reads as goes-on-reads
 use Rattle.store_coded.proofs.put_short.Reads as put-short-reads
 
 abbrev Inv-loop : tie.InvT-loop

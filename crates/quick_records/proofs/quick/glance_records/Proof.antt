@@ -5,8 +5,8 @@ use native.Mathlib.Omega.{arith}
 use lib.ListN.{length}
 use borrow.Author.Needs.{needs}
 use Rattle.items.specs.Meet.{formOf}
-use Rattle.quick_records.specs.Going.{RecordsGoing}
-use Rattle.quick_records.proofs.PartTurns.{records-start}
+use Rattle.tally_records.specs.Going.{RecordsGoing}
+use Rattle.tally_records.proofs.PartTurns.{records-start}
 use Rattle.quick_records.proofs.Glances.{toldSizes, glance-next, glance-begun, glance-more}
 use Rattle.quick_records.proofs.quick.glance_records.Statement.{statement}
 use Rattle.quick_records.proofs.quick.glance_records.Tie as tie

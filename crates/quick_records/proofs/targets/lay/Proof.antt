@@ -8,7 +8,7 @@ use lib.ListN.{length}
 use borrow.Author.Needs.{needs}
 use Rattle.items.specs.Meet.{formOf}
 use Rattle.quick_records.specs.Going.{RecordGlanced}
-use Rattle.quick_records.proofs.PartTurns.{records-start}
+use Rattle.tally_records.proofs.PartTurns.{records-start}
 use Rattle.quick_records.proofs.Glances.{glance-next}
 use Rattle.quick_records.proofs.Alikes.{Laying, Remasked, laying-more}
 use Rattle.quick_records.proofs.targets.lay.Statement.{statement}

@@ -18,10 +18,11 @@ use Rattle.tally.specs.declared.Piece.the-variants as piece
 use Rattle.tally.specs.Meet.{sizes}
 use Rattle.tally.specs.Going.{stageAt}
 use Rattle.tally.proofs.Turns.{going-wide, Fresh, reached-fresh, fresh-within, reach-first, reach-over, reach-under}
-use Rattle.quick_records.specs.Going.{TargetsGoing, TargetsPassed}
+use Rattle.tally_records.specs.Going.{TargetsGoing}
+use Rattle.quick_records.specs.Going.{TargetsPassed}
 use Rattle.quick_records.specs.Targets.{Held, Over, Modelled}
-use Rattle.quick_records.proofs.Opens.{target-whole}
-use Rattle.quick_records.proofs.TargetTurns.{TargetAt, targets-start}
+use Rattle.tally_records.proofs.Opens.{target-whole}
+use Rattle.tally_records.proofs.TargetTurns.{TargetAt, targets-start}
 use Rattle.quick_records.proofs.Models.{no-records, as-held, held-looks, held-more}
 use Rattle.quick_records.proofs.targets.many.Statement.{statement}
 use Rattle.quick_records.proofs.targets.many.Tie as tie

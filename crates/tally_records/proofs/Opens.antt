@@ -26,7 +26,7 @@ use Rattle.heads.proofs.SheetRuns.{field-key}
 use Rattle.tally.specs.declared.Piece.{Piece}
 use Rattle.tally.specs.declared.Piece.the-variants as piece
 use Rattle.tally.proofs.Pieces.{answer-none, answer-some}
-use Rattle.quick_records.specs.Meet.{pieceBy, valueWhole, seriesWhole, targetWhole, seriesOpens, targetOpens, partPiece}
+use Rattle.tally_records.specs.Meet.{pieceBy, valueWhole, seriesWhole, targetWhole, seriesOpens, targetOpens, partPiece}
 
 -- ---- the series; x: a `TG` follows its mark
 

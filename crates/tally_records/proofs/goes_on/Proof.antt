@@ -1,7 +1,7 @@
--- `quick_records::goes_on` meets its contract.
+-- `tally_records::goes_on` meets its contract.
 use borrow.Author.Needs.{needs}
-use Rattle.quick_records.proofs.goes_on.Statement.{statement}
-use Rattle.quick_records.proofs.goes_on.Tie as tie
+use Rattle.tally_records.proofs.goes_on.Statement.{statement}
+use Rattle.tally_records.proofs.goes_on.Tie as tie
 
 returns : tie.Need-returns
 returns c = search needs

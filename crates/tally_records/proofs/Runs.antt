@@ -23,7 +23,7 @@ use Rattle.tally.proofs.Maps.{mapped, run-map, mapped-good, mapped-bad, walked-
 use Rattle.tally.proofs.Walks.{few-plus}
 use Rattle.tally.proofs.Maps.{total-map}
 use Rattle.tally.proofs.Totals.{vals-sheet, targets-sheet}
-use Rattle.quick_records.specs.Meet.{moreAt, partStep, weightAt, recordsWalk}
+use Rattle.tally_records.specs.Meet.{moreAt, partStep, weightAt, recordsWalk}
 
 -- ---- a target's values
 

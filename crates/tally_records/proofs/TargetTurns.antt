@@ -32,10 +32,10 @@ use Rattle.tally.specs.Going.{Going}
 use Rattle.tally.proofs.Walks.{few-more, going-start}
 use Rattle.tally.proofs.Series.{after-not}
 use Rattle.tally.proofs.Turns.{Reads, within-more, turn-done, turn-over, turn-bad, turn-more}
-use Rattle.quick_records.specs.Meet.{pieceBy, targetWhole, targetOpens, recordsWalk, targetsWalk}
-use Rattle.quick_records.specs.Going.{TargetsGoing}
-use Rattle.quick_records.proofs.Parts.{targetEnd, target-fault, TargetStood, target-stood}
-use Rattle.quick_records.proofs.Runs.{ValsRun, vals-good, vals-bad, vals-used, slim-vals, slim-pack}
+use Rattle.tally_records.specs.Meet.{pieceBy, targetWhole, targetOpens, recordsWalk, targetsWalk}
+use Rattle.tally_records.specs.Going.{TargetsGoing}
+use Rattle.tally_records.proofs.Parts.{targetEnd, target-fault, TargetStood, target-stood}
+use Rattle.tally_records.proofs.Runs.{ValsRun, vals-good, vals-bad, vals-used, slim-vals, slim-pack}
 
 pub targets-start : (f : Form) (s : List ℕ) → TargetsGoing f s 0 noSizes 0 18446744073709551615
 unfolding targetsWalk

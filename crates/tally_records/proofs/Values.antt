@@ -27,7 +27,7 @@ use Rattle.heads.proofs.Heads.{mid-part}
 use Rattle.tally.specs.declared.Piece.{Piece}
 use Rattle.tally.specs.declared.Piece.the-variants as piece
 use Rattle.tally.proofs.Pieces.{answer-none, answer-some}
-use Rattle.quick_records.specs.Meet.{pieceBy, valueWhole}
+use Rattle.tally_records.specs.Meet.{pieceBy, valueWhole}
 
 -- the rest of a level, as the borrow checker has it
 pub value-tail : {look : List ℕ → Got ℕ} {s : List ℕ} {p top low : ℕ} {seen : List ℕ} → Past look s p top low seen → (l : Level) (f : Form) {r : Piece}

@@ -26,8 +26,8 @@ use Rattle.heads.proofs.SheetRuns.{value-peek}
 use Rattle.tally.specs.declared.Piece.{Piece}
 use Rattle.tally.specs.declared.Piece.the-variants as piece
 use Rattle.tally.proofs.Levels.{here-zero}
-use Rattle.quick_records.specs.Meet.{pieceBy, valueWhole, seriesWhole, targetWhole, seriesOpens, targetOpens, partPiece, moreAt, partStep}
-use Rattle.quick_records.proofs.Values.{field-here}
+use Rattle.tally_records.specs.Meet.{pieceBy, valueWhole, seriesWhole, targetWhole, seriesOpens, targetOpens, partPiece, moreAt, partStep}
+use Rattle.tally_records.proofs.Values.{field-here}
 
 -- ---- do-blocks in two
 

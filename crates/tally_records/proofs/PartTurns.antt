@@ -32,11 +32,11 @@ use Rattle.tally.proofs.Walks.{few-more, going-start}
 use Rattle.tally.proofs.Series.{after-not}
 use Rattle.tally.proofs.ItemTurns.{level-is}
 use Rattle.tally.proofs.Turns.{Reads, within-of, turn-bad, turn-more}
-use Rattle.quick_records.specs.Meet.{partPiece, moreAt, partStep, weightAt, recordsWalk, targetsWalk}
-use Rattle.quick_records.specs.Going.{RecordsGoing}
-use Rattle.quick_records.proofs.Parts.{part-fault, ValueStood, value-stood, SeriesStood, series-stood}
+use Rattle.tally_records.specs.Meet.{partPiece, moreAt, partStep, weightAt, recordsWalk, targetsWalk}
+use Rattle.tally_records.specs.Going.{RecordsGoing}
+use Rattle.tally_records.proofs.Parts.{part-fault, ValueStood, value-stood, SeriesStood, series-stood}
 use Rattle.tally.proofs.Maps.{walked-good, walked-bad}
-use Rattle.quick_records.proofs.Runs.{targets-used, slim-targets, slim-series}
+use Rattle.tally_records.proofs.Runs.{targets-used, slim-targets, slim-series}
 
 pub records-start : (b : Bool) (f : Form) (s : List ℕ) {low : ℕ} → RecordsGoing b f s 0 noSizes false 0 low
 unfolding recordsWalk

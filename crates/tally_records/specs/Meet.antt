@@ -1,23 +1,20 @@
 -- Where the code that checks a sheet meets document 01: what its answers mean.
-use Prim.Native.Nat.{ℕ, _+_, _^_}
+use Prim.Native.Nat.{ℕ, _^_}
 use mathlib.Core.Bool.{Bool, true, false, not}
-use mathlib.Core.List.{List, map}
+use mathlib.Core.List.{List}
 use lib.ListN.{length, take, drop}
 use lib.Dec.{leb, ltb, eqb}
 use Rattle.format.specs.Answer.{Ans, ok, refused, Got, got, _>>=_, need}
 use Rattle.format.specs.Coding.{bytesNumber}
-use Rattle.format.specs.Lists.{has, flatAll}
-use Rattle.format.specs.Table.{Form, Level, set, pack, isAlone, standing}
-use Rattle.format.specs.Packet.{flatEntry}
+use Rattle.format.specs.Lists.{has}
+use Rattle.format.specs.Table.{Form, Level, set, pack, standing}
 use Rattle.format.specs.Run.{Step, run}
-use Rattle.format.specs.Sheet.{Val, Part, one, targets, Sheet, tagOfPart, idOfTarget, IT, TS, TG, TI, is, valueAt, targetAt, partAt}
-use Rattle.format.specs.Calls.{entryOf}
+use Rattle.format.specs.Sheet.{Val, Part, one, targets, tagOfPart, idOfTarget, IT, TS, TG, TI, is, valueAt, targetAt, partAt}
 use Rattle.tally.specs.declared.Piece.{Piece}
 use Rattle.tally.specs.declared.Piece.the-variants as piece
 use Rattle.tally.specs.declared.Sizes.{Sizes}
 use Rattle.tally.specs.declared.Walked.{Walked}
-use Rattle.tally.specs.declared.Walked.the-variants.{Good, Bad}
-use Rattle.tally.specs.Meet.{seriesSizes, total, weightOfVal, weightOfTarget, weightOfPart, walkedOf, askedTag}
+use Rattle.tally.specs.Meet.{seriesSizes, total, weightOfVal, weightOfTarget, walkedOf, askedTag}
 
 -- ---- one record: what was read, or the refusal's number
 

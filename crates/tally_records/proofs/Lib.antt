@@ -1,0 +1,6 @@
+pub mod Values
+pub mod Opens
+pub mod Parts
+pub mod Runs
+pub mod PartTurns
+pub mod TargetTurns

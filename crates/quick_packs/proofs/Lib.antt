@@ -1,2 +1,3 @@
 pub mod Alikes
 pub mod Models
+pub mod Fresh

@@ -1,1 +1,2 @@
 pub mod Packs
+pub mod Ids

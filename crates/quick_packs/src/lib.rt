@@ -286,3 +286,5 @@ pub fn is_lone(s: &[u8]) -> bool
     }
     s.len() - 1 == coding::wide(s[0]) as usize
 }
+
+pub mod bounds; // bounds.rt: the bounds of the ids, and whether one more is new

@@ -1,5 +1,5 @@
 -- Where the code that checks a packet meets document 01: what its answers mean.
-use Prim.Native.Nat.{ℕ, _+_, _-_, _*_, _≤_}
+use Prim.Native.Nat.{ℕ, _+_, _-_, _*_, _≤_, _<_}
 use mathlib.Core.Bool.{Bool, true, false, _&&_, _||_}
 use mathlib.Core.List.{List, [], _∷_}
 use lib.ListN.{length}
@@ -123,6 +123,11 @@ stopAt p (piece.Fault n) = Bad n p
 abbrev pub seriesFrom : ℕ → Walked → Walked
 seriesFrom k (Good a m) = Good (seriesSizes a) false
 seriesFrom k (Bad n p) = Bad n (k + p)
+
+-- the larger of two keys is above neither, and below whatever both are below
+pub record Larger (a b r : ℕ) : Type 0 where
+  pub over : (a ≤ r) × (b ≤ r)
+  pub below : (n : ℕ) → a < n → b < n → r < n
 
 -- how large what was read in n bytes can be, of a packet or of a sheet
 pub record Few (a : Sizes) (n : ℕ) : Type 0 where

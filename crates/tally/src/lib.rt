@@ -4,7 +4,7 @@ ghost use Prim.Native.Nat.{_≤_};
 ghost use mathlib.Core.Bool.{_&&_};
 ghost use lib.Dec.{eqb};
 ghost use Rattle.items.specs.Meet.{levelOf};
-ghost use Rattle.tally.specs.Meet.{itemSizes, stopAt, laterBy, seriesFrom, askedTag, Within};
+ghost use Rattle.tally.specs.Meet.{itemSizes, stopAt, laterBy, seriesFrom, askedTag, Larger, Within};
 
 // An item that may stand where it does: its tag, where its value begins, its length, and its shortest length; or the refusal's number.
 pub enum Piece {
@@ -67,7 +67,7 @@ pub fn later(w: Walked, k: usize) -> Walked
 }
 
 pub fn larger(a: u64, b: u64) -> u64
-    ensures { λ r. ⌜ (a ≤ r) × (b ≤ r) ⌝ }
+    ensures { λ r. ⌜ Larger a b r ⌝ }
 {
     if a < b { b } else { a }
 }

@@ -212,7 +212,7 @@ item-rest-loop-less t c =
 item-rest-loop-again : (t : ℕ) → item-rest-lts.Need-loop-again (item-claims t) (item-rest-at t) item-rest.Post item-rest-Inv-loop item-rest-μ-loop
 item-rest-loop-again t c =
     let a = c .before .before .before .before .before .before .before .before .before .before .before .before in
-    (entry-more (item-here t a) (item-told-at t (c .before .before .before .before .before .before .before .before .before)) (c .before .before .before .before .before .before .before .w .given .1) (c .before .before .before .before .before .plus .ensures) (c .before .before .before .before .either .ensures) (c .before .larger .ensures) (c .smaller .ensures), c .before .before .after .ensures)
+    (entry-more (item-here t a) (item-told-at t (c .before .before .before .before .before .before .before .before .before)) (c .before .before .before .before .before .before .before .w .given .1) (c .before .before .before .before .before .plus .ensures) (c .before .before .before .before .either .ensures) (c .before .larger .ensures .over) (c .smaller .ensures), c .before .before .after .ensures)
 
 item-rest-returns-3 : (t : ℕ) → item-rest-lts.Need-returns-3 (item-claims t) (item-rest-at t) item-rest.Post item-rest-Inv-loop item-rest-μ-loop
 item-rest-returns-3 t c = turn-done (c .before .loop .inv .0) (c .loop-test .left)
@@ -345,7 +345,7 @@ pack-walk-loop-less : (t : ℕ) → pack-walk-lts.Need-loop-less (pack-claims t)
 pack-walk-loop-less t c = omega (arith, head-stood (pack-here t (c .before .before .before .before .before .before .before .before .before .before .before .before .before .before .before .before .before .before)) .len, c .before .before .before .before .before .before .before .before .before .before .before .before .before .before .before .before .before .before .before .before .before .before .loop-test .taken)
 
 pack-walk-loop-again : (t : ℕ) → pack-walk-lts.Need-loop-again (pack-claims t) (pack-walk-at t) pack-walk.Post pack-walk-Inv-loop pack-walk-μ-loop
-pack-walk-loop-again t c = (pack-more (pack-here t (c .before .before .before .before .before .before .before .before .before .before .before .before .before .before .before .before .before .before)) (c .before .before .before .before .before .before .before .before .before .before .before .before .before .before .before .before .is-seen .ensures) (c .before .before .before .before .before .before .before .before .before .before .before .before .before .before .before .if1 .left) (c .before .before .before .before .before .before .before .before .before .before .before .item-rest .ensures) (c .before .before .before .before .before .before .before .before .before .w .given .1) (either-is (c .before .before .before .before .before .before .before .before .before .before .before .before .before .before .before .before .before .before .before .before .before .before .before .before .before .before .before .before .before .before .args .alone) _ (c .before .before .before .before .before .before .before .either .ensures)) (c .before .before .before .before .before .before .if2 .taken) (c .before .before .before .before .plus .ensures ∙ ap (plusSizes _) (c .before .before .before .before .before .pack-sizes .ensures)) (c .before .larger .ensures) (c .smaller .ensures), c .before .before .after .ensures)
+pack-walk-loop-again t c = (pack-more (pack-here t (c .before .before .before .before .before .before .before .before .before .before .before .before .before .before .before .before .before .before)) (c .before .before .before .before .before .before .before .before .before .before .before .before .before .before .before .before .is-seen .ensures) (c .before .before .before .before .before .before .before .before .before .before .before .before .before .before .before .if1 .left) (c .before .before .before .before .before .before .before .before .before .before .before .item-rest .ensures) (c .before .before .before .before .before .before .before .before .before .w .given .1) (either-is (c .before .before .before .before .before .before .before .before .before .before .before .before .before .before .before .before .before .before .before .before .before .before .before .before .before .before .before .before .before .before .args .alone) _ (c .before .before .before .before .before .before .before .either .ensures)) (c .before .before .before .before .before .before .if2 .taken) (c .before .before .before .before .plus .ensures ∙ ap (plusSizes _) (c .before .before .before .before .before .pack-sizes .ensures)) (c .before .larger .ensures .over) (c .smaller .ensures), c .before .before .after .ensures)
 
 pack-walk-returns-4 : (t : ℕ) → pack-walk-lts.Need-returns-4 (pack-claims t) (pack-walk-at t) pack-walk.Post pack-walk-Inv-loop pack-walk-μ-loop
 pack-walk-returns-4 t c = no-location (pack-here t (c .before .before .before .before .before .before .before .before .before .before .before .before)) (c .before .before .before .before .before .before .before .before .before .before .is-seen .ensures) (c .before .before .before .before .before .before .before .before .before .if1 .left) (c .before .before .before .before .before .item-rest .ensures) (c .before .before .before .w .given .1) (either-is (c .before .before .before .before .before .before .before .before .before .before .before .before .before .before .before .before .before .before .before .before .before .before .before .before .args .alone) _ (c .before .either .ensures)) (c .if2 .left) refl

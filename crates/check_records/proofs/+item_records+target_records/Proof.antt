@@ -234,7 +234,7 @@ item-records-loop-less t c =
 item-records-loop-again : (t : ℕ) → item-records-lts.Need-loop-again (item-claims t) (item-records-at t) item-records.Post item-records-Inv-loop item-records-μ-loop
 item-records-loop-again t c =
     let a = c .before .before .before .before .before .before .before .before .before .before .before .before .before in
-    (part-more (part-here t a) (part-told-at t (c .before .before .before .before .before .before .before .before .before .before)) (c .before .before .before .before .before .before .before .before .w .given .1) (c .before .before .before .before .before .before .plus .ensures) (c .before .before .before .before .before .either .ensures) (c .before .before .larger .ensures) (c .before .smaller .ensures), c .before .before .before .after .ensures)
+    (part-more (part-here t a) (part-told-at t (c .before .before .before .before .before .before .before .before .before .before)) (c .before .before .before .before .before .before .before .before .w .given .1) (c .before .before .before .before .before .before .plus .ensures) (c .before .before .before .before .before .either .ensures) (c .before .before .larger .ensures .over) (c .before .smaller .ensures), c .before .before .before .after .ensures)
 
 item-records-returns-4 : (t : ℕ) → item-records-lts.Need-returns-4 (item-claims t) (item-records-at t) item-records.Post item-records-Inv-loop item-records-μ-loop
 item-records-returns-4 t c = turn-done (c .before .loop .inv .0) (c .loop-test .left)

@@ -116,7 +116,7 @@ loop-less : tie.Need-loop-less Inv-loop μ-loop
 loop-less c = omega (arith, plain-next (here (c .before .before .before .before)))
 
 loop-again : tie.Need-loop-again Inv-loop μ-loop
-loop-again c = plain-more (here (c .before .before .before .before)) (c .before .before .before .plain-sizes .ensures) (c .before .before .plus .ensures) (c .before .larger .ensures) (c .smaller .ensures)
+loop-again c = plain-more (here (c .before .before .before .before)) (c .before .before .before .plain-sizes .ensures) (c .before .before .plus .ensures) (c .before .larger .ensures .over) (c .smaller .ensures)
 
 stage-at-requires-4 : tie.Need-stage-at-requires-4 Inv-loop μ-loop
 stage-at-requires-4 c κs = search needs

@@ -80,7 +80,7 @@ stage-at-requires c κs = search needs
 returns-3 : tie.Need-returns-3
 returns-3 c =
     let t = c .before .before .before .before .before .is-seal-next .ensures (not-false _ (c .before .before .before .before .if1 .left)) in
-    rw (c .stage-at .ensures) (seal-more (here (c .before .before .before .before .before .before .before)) (ap (λ x. isAlone (formOf x)) (t .0)) (t .1, t .2, t .3, t .4) (eqb-true _ _ (t .5)) (c .before .before .before .plain-sizes .ensures) (c .before .before .plus .ensures) (c .before .larger .ensures))
+    rw (c .stage-at .ensures) (seal-more (here (c .before .before .before .before .before .before .before)) (ap (λ x. isAlone (formOf x)) (t .0)) (t .1, t .2, t .3, t .4) (eqb-true _ _ (t .5)) (c .before .before .before .plain-sizes .ensures) (c .before .before .plus .ensures) (c .before .larger .ensures .over))
 
 pub seal-spec : {M : Type 1} → statement M
 seal-spec =

@@ -4,7 +4,7 @@ use Prim.Native.Nat.{ℕ, zero, suc, _+_, _-_, _/_, _%_, _≤_, _<_}
 use native.Mathlib.Omega.{arith}
 use native.Mathlib.Nat.{add-comm, mod-lt, mod-eq-of-lt, div-eq-of-lt}
 use native.Mathlib.Numerals.{add-one}
-use mathlib.Core.List.{List, _∷_, _++_}
+use mathlib.Core.List.{List, [], _∷_, _++_}
 use lib.ListN.{length, set, length-append}
 use lib.Seq.{sets}
 use lib.Dec.{lit<}
@@ -12,7 +12,7 @@ use lib.Bits.{bitAnd, bitOr, and-mask, or-shifted-r}
 use Rattle.format.specs.Coding.{digits, fixed, lenWidth, lenBytes, oidBytes}
 use Rattle.format.specs.Packet.{flatItem}
 use Rattle.format.specs.Calls.{itemOf}
-use Rattle.format.proofs.coding.Digits.{digits-zero}
+use Rattle.format.proofs.coding.Digits.{digits-zero, digits-pos}
 use Rattle.format.proofs.coding.Lengths.{length-len}
 use Rattle.coding.proofs.Counts.{len-one, len-above}
 use Rattle.stores.proofs.Stores.{sets-snoc}
@@ -63,6 +63,21 @@ short-oid n o a h =
     let z : n / 128 ≡ 0 = div-eq-of-lt h in
     let e : n % 128 ≡ n = mod-eq-of-lt h in
     rw (z, e, digits-zero 128 128 8) (refl, refl)
+
+-- of two bytes
+two-bytes : (n : ℕ) → 128 ≤ n → n < 16384 → oidBytes n ≡ (n / 128 % 128 + 128) ∷ n % 128 ∷ []
+unfolding oidBytes
+two-bytes n h l =
+    let z : n / 128 / 128 ≡ 0 = div-eq-of-lt (omega (arith, l)) in
+    rw (digits-pos 128 128 7 (n / 128) (omega (arith, h)), z, digits-zero 128 128 7) refl
+
+pub two-long : (n : ℕ) → 128 ≤ n → n < 16384 → length (oidBytes n) ≡ 2
+two-long n h l = ap length (two-bytes n h l)
+
+-- m is the id without its low seven bits, and x and y are the bytes stored
+pub two-oid : (n : ℕ) (o : List ℕ) (a : ℕ) → 128 ≤ n → n < 16384 → {m x y : ℕ} → m ≡ n / 128 → x ≡ m % 128 + 128 → y ≡ n % 128 → Puts o a (oidBytes n) (a + 2) (set (set o a x) (a + 1) y)
+two-oid n o a h l {m} {x} {y} em ex ey =
+    rw (two-bytes n h l, ey, ex, em) (refl, ap (λ i. set (set o a (n / 128 % 128 + 128)) i (n % 128)) (add-one a))
 
 -- the last byte first, and then those before it
 pub long-oid : (n : ℕ) (o : List ℕ) (a : ℕ) {k : ℕ} → k ≡ length (oidBytes n) → {d : ℕ} → d ≡ n % 128 → {o′ : List ℕ}

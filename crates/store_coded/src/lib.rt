@@ -90,11 +90,25 @@ pub fn put_series(out: &mut [u8], at: usize, n: usize) -> usize
     put_len(out, a, n)
 }
 
-// What stands in front of a pack's items, where its id and its items are n bytes; where it ends.
+// What stands in front of a pack's items, where its id and its items are n bytes; where it ends. Most packs have one byte for n, and one or two for
+// the id.
 pub fn put_pack(out: &mut [u8], at: usize, n: usize, id: u64) -> usize
     requires { ⌜ (n ≤ 65536) × (id < 2 ^ 63) × (at + length (packFront n id) ≤ length (now out)) ⌝ }
     ensures { λ r. ⌜ (r ≡ at + length (packFront n id)) × (now (out .exit) ≡ sets (now (out .entry)) at (packFront n id)) ⌝ }
 {
+    if n < 128 {
+        if id < 16384 {
+            out[at] = n as u8;
+            let a = at + 1;
+            if id < 128 {
+                out[a] = id as u8;
+                return a + 1;
+            }
+            out[a] = more7(coding::widths::above7(id));
+            out[a + 1] = low7(id);
+            return a + 2;
+        }
+    }
     let a = put_len(out, at, n);
     put_oid(out, a, id)
 }

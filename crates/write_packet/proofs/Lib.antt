@@ -2,6 +2,5 @@ pub mod Steps
 pub mod Forms
 pub mod Smalls
 pub mod Turns
-pub mod Heads
 pub mod TargetTurns
 pub mod Sheet

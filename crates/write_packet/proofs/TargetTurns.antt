@@ -29,7 +29,7 @@ use Rattle.write_packet.specs.Meet.{usedOf, recordsRun, targetsRun, targ
 use Rattle.write_packet.specs.Writing.{RecordsAsked}
 use Rattle.write_packet.proofs.Steps.{mark-room, TargetHere, target-here, vals-read}
 use Rattle.write_packet.proofs.Forms.{target-normal, len-some, vals-normal, no-inner}
-use Rattle.write_packet.proofs.Heads.{front-sized}
+use Rattle.store_coded.proofs.Fronts.{pack-long}
 use Rattle.write_packet.proofs.Turns.{TargetsAsked}
 
 pub record TargetsWriting (f : Form) (s out₀ out : List ℕ) (p k : ℕ) : Type 0 where
@@ -126,7 +126,7 @@ module _ {f : Form} {s out₀ out : List ℕ} {p k : ℕ} (i : TargetAt f s out�
       }
 
       front-long : length (packFront body id) ≡ lenWidth body + w
-      front-long = omega (arith, front-sized body id, ew .0)
+      front-long = omega (arith, pack-long body id, ew .0)
 
       whole-long : length written ≡ length (packFront body id) + length normal
       whole-long = ap length (parts .is) ∙ length-append (packFront body id) normal

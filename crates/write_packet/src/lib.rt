@@ -1,6 +1,6 @@
 // The entries of a packet's set in normal form, written into a lent output from a sheet that was checked, record by record.
 ghost use mathlib.Core.Path.{_≡_};
-ghost use Prim.Native.Nat.{ℕ, _+_, _^_, _≤_, _<_};
+ghost use Prim.Native.Nat.{ℕ, _+_, _≤_, _<_};
 ghost use mathlib.Core.Bool.{true, false};
 ghost use mathlib.Core.List.{List, [], _∷_};
 ghost use lib.ListN.{length, take, drop};
@@ -11,7 +11,6 @@ ghost use Rattle.format.specs.Coding.{bytesNumber};
 ghost use Rattle.format.specs.Table.{pack};
 ghost use Rattle.format.specs.Packet.{flatItem};
 ghost use Rattle.format.specs.Calls.{itemOf};
-ghost use Rattle.store_coded.specs.Fronts.{packFront};
 ghost use Rattle.write_packet.specs.Meet.{usedOf, recordsRun, targetsRun, recordsNormal, targetsNormal};
 ghost use Rattle.write_packet.specs.Writing.{RecordsAsked, RecordsWriting, Small};
 use stores::Passed;
@@ -131,29 +130,6 @@ pub fn item_packet(s: &[u8], set: bool, alone: bool, inner: usize, out: &mut [u8
     k
 }
 
-// What stands in front of a pack's items, where its id and its items are n bytes; where it ends. Most packs have one byte for n, and one or two for
-// the id.
-fn put_head(out: &mut [u8], at: usize, n: usize, id: u64) -> usize
-    requires { ⌜ (n ≤ 65536) × (id < 2 ^ 63) × (at + length (packFront n id) ≤ length (now out)) ⌝ }
-    ensures { λ r. ⌜ (r ≡ at + length (packFront n id)) × (now (out .exit) ≡ sets (now (out .entry)) at (packFront n id)) ⌝ }
-{
-    if 127 < n {
-        return store_coded::put_pack(out, at, n, id);
-    }
-    if 16383 < id {
-        return store_coded::put_pack(out, at, n, id);
-    }
-    out[at] = n as u8;
-    let a = at + 1;
-    if id < 128 {
-        out[a] = id as u8;
-        return a + 1;
-    }
-    out[a] = store_coded::more7(coding::widths::above7(id));
-    out[a + 1] = store_coded::low7(id);
-    a + 2
-}
-
 // The targets of the series.
 fn target_packet(s: &[u8], alone: bool, out: &mut [u8]) -> Passed
     requires { ⌜ (length (now s) ≤ 65536) × Ran (targetsRun (formOf alone) (now s)) × (length (targetsNormal (formOf alone) (now s)) ≤ length (now out)) × (length (targetsNormal (formOf alone) (now s)) ≤ 8192) ⌝ }
@@ -177,7 +153,7 @@ fn target_packet(s: &[u8], alone: bool, out: &mut [u8]) -> Passed
             let by = coding::widths::len_width(body) - 1;
             stores::shift(out, at, d.wrote, by);
         }
-        let m = put_head(out, k, body, id);
+        let m = store_coded::put_pack(out, k, body, id);
         k = m + d.wrote;
         p = next;
     }

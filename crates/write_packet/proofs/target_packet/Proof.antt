@@ -16,7 +16,7 @@ use Rattle.coding.proofs.number_of.Reads as number-of-reads
 use Rattle.coding.proofs.widths.len_width.Reads as len-width-reads
 use Rattle.heads.proofs.records.is_mark.Reads as is-mark-reads
 use Rattle.coding.proofs.widths.oid_width.Reads as oid-width-reads
-use Rattle.write_packet.proofs.put_head.Reads as put-head-reads
+use Rattle.store_coded.proofs.put_pack.Reads as put-pack-reads
 use Rattle.write_packet.proofs.put_vals.Reads as put-vals-reads
 use Rattle.stores.proofs.shift.Reads as shift-reads
 
@@ -27,7 +27,7 @@ abbrev μ-loop : tie.MeasureT-loop
 μ-loop s alone out₀ p₀ k₀ out p k = length s - p
 
 -- the target whose mark was seen
-target-at : (a : lts.Else1 (is-mark-reads.Asked, is-mark-reads.Learnt, number-of-reads.Asked, number-of-reads.Learnt, oid-width-reads.Asked, oid-width-reads.Learnt, put-vals-reads.Asked, put-vals-reads.Learnt, len-width-reads.Asked, len-width-reads.Learnt, shift-reads.Asked, shift-reads.Learnt, put-head-reads.Asked, put-head-reads.Learnt) reads.Pre reads.Post Inv-loop μ-loop)
+target-at : (a : lts.Else1 (is-mark-reads.Asked, is-mark-reads.Learnt, number-of-reads.Asked, number-of-reads.Learnt, oid-width-reads.Asked, oid-width-reads.Learnt, put-vals-reads.Asked, put-vals-reads.Learnt, len-width-reads.Asked, len-width-reads.Learnt, shift-reads.Asked, shift-reads.Learnt, put-pack-reads.Asked, put-pack-reads.Learnt) reads.Pre reads.Post Inv-loop μ-loop)
     → TargetAt (formOf (a .before .before .before .before .before .args .alone)) (a .before .before .before .before .before .args .s .now) (a .before .before .before .before .before .args .out .now) (a .before .before .loop .out) (a .before .before .loop .p) (a .before .before .loop .k)
 target-at a = record {
   going = a .before .before .loop .inv;
@@ -37,7 +37,7 @@ target-at a = record {
 }
 
 -- its items, behind where its head goes
-placed : (a : lts.Joined2 (is-mark-reads.Asked, is-mark-reads.Learnt, number-of-reads.Asked, number-of-reads.Learnt, oid-width-reads.Asked, oid-width-reads.Learnt, put-vals-reads.Asked, put-vals-reads.Learnt, len-width-reads.Asked, len-width-reads.Learnt, shift-reads.Asked, shift-reads.Learnt, put-head-reads.Asked, put-head-reads.Learnt) reads.Pre reads.Post Inv-loop μ-loop)
+placed : (a : lts.Joined2 (is-mark-reads.Asked, is-mark-reads.Learnt, number-of-reads.Asked, number-of-reads.Learnt, oid-width-reads.Asked, oid-width-reads.Learnt, put-vals-reads.Asked, put-vals-reads.Learnt, len-width-reads.Asked, len-width-reads.Learnt, shift-reads.Asked, shift-reads.Learnt, put-pack-reads.Asked, put-pack-reads.Learnt) reads.Pre reads.Post Inv-loop μ-loop)
     → Placed (target-at (a .before .before .before .before .before .before .before .before .before .before .before)) (a .before .before .before .before .before .before .before .before .before .number-of .ensures) (a .before .before .before .before .before .before .before .before .oid-width .ensures) (a .before .before .before .before .before .put-vals .ensures) (a .if2 .out)
 placed a = ⊎-elim
     (λ m. rw (m .6) (vals-move (target-at (a .before .before .before .before .before .before .before .before .before .before .before)) (a .before .before .before .before .before .before .before .before .before .number-of .ensures) (a .before .before .before .before .before .before .before .before .oid-width .ensures) (a .before .before .before .before .before .put-vals .ensures) (m .1 .ensures) (m .3 .ensures)))
@@ -119,17 +119,17 @@ sub-by c = wide-some (target-at (c .before .before .before .before .before .befo
 shift-requires : tie.Need-shift-requires Inv-loop μ-loop
 shift-requires c κs = move-asked (target-at (c .before .before .before .before .before .before .before .before .before .before .before .before .before)) (c .before .before .before .before .before .before .before .before .before .before .before .number-of .ensures) (c .before .before .before .before .before .before .before .before .before .before .oid-width .ensures) (c .before .before .before .before .before .before .before .put-vals .ensures) (c .before .len-width .ensures)
 
-put-head-requires : tie.Need-put-head-requires Inv-loop μ-loop
-put-head-requires c κs = pack-asked (target-at (c .before .before .before .before .before .before .before .before .before .before .before .before)) (c .before .before .before .before .before .before .before .before .before .before .number-of .ensures) (c .before .before .before .before .before .before .before .before .before .oid-width .ensures) (c .before .before .before .before .before .before .put-vals .ensures) (placed (c .before))
+put-pack-requires : tie.Need-put-pack-requires Inv-loop μ-loop
+put-pack-requires c κs = pack-asked (target-at (c .before .before .before .before .before .before .before .before .before .before .before .before)) (c .before .before .before .before .before .before .before .before .before .before .number-of .ensures) (c .before .before .before .before .before .before .before .before .before .oid-width .ensures) (c .before .before .before .before .before .before .put-vals .ensures) (placed (c .before))
 
 add-k : tie.Need-add-k Inv-loop μ-loop
-add-k c = omega (arith, ends-few (target-at (c .before .before .before .before .before .before .before .before .before .before .before .before .before .before .before .before)) (c .before .before .before .before .before .before .before .before .before .before .before .before .before .before .number-of .ensures) (c .before .before .before .before .before .before .before .before .before .before .before .before .before .oid-width .ensures) (c .before .before .before .before .before .before .before .before .before .before .put-vals .ensures) (placed (c .before .before .before .before .before)) (c .before .before .before .put-head .ensures))
+add-k c = omega (arith, ends-few (target-at (c .before .before .before .before .before .before .before .before .before .before .before .before .before .before .before .before)) (c .before .before .before .before .before .before .before .before .before .before .before .before .before .before .number-of .ensures) (c .before .before .before .before .before .before .before .before .before .before .before .before .before .oid-width .ensures) (c .before .before .before .before .before .before .before .before .before .before .put-vals .ensures) (placed (c .before .before .before .before .before)) (c .before .before .before .put-pack .ensures))
 
 loop-less : tie.Need-loop-less Inv-loop μ-loop
 loop-less c = omega (arith, target-next (target-at (c .before .before .before .before .before .before .before .before .before .before .before .before .before .before .before .before)) (c .before .before .before .before .before .before .before .before .before .before .before .before .before .before .number-of .ensures) (c .before .before .before .before .before .before .before .before .before .before .before .before .before .oid-width .ensures) (c .before .before .before .before .before .before .before .before .before .before .put-vals .ensures))
 
 loop-again : tie.Need-loop-again Inv-loop μ-loop
-loop-again c = target-more (target-at (c .before .before .before .before .before .before .before .before .before .before .before .before .before .before .before .before)) (c .before .before .before .before .before .before .before .before .before .before .before .before .before .before .number-of .ensures) (c .before .before .before .before .before .before .before .before .before .before .before .before .before .oid-width .ensures) (c .before .before .before .before .before .before .before .before .before .before .put-vals .ensures) (placed (c .before .before .before .before .before)) (c .before .before .before .put-head .ensures)
+loop-again c = target-more (target-at (c .before .before .before .before .before .before .before .before .before .before .before .before .before .before .before .before)) (c .before .before .before .before .before .before .before .before .before .before .before .before .before .before .number-of .ensures) (c .before .before .before .before .before .before .before .before .before .before .before .before .before .oid-width .ensures) (c .before .before .before .before .before .before .before .before .before .before .put-vals .ensures) (placed (c .before .before .before .before .before)) (c .before .before .before .put-pack .ensures)
 
 pub target-packet-spec : {M : Type 1} → statement M
 target-packet-spec =
@@ -162,7 +162,7 @@ target-packet-spec =
     len-width-requires
     sub-by
     shift-requires
-    put-head-requires
+    put-pack-requires
     add-k
     loop-less
     loop-again)

@@ -14,5 +14,5 @@ abbrev pub answerOf : ℕ → ℕ → Answer
 answerOf n p = record { number = n; place = p }
 
 abbrev pub refusalOf : Checked → Answer
-refusalOf (Fine a) = answerOf 0 0
+refusalOf (Fine a k) = answerOf 0 0
 refusalOf (Wrong n p) = answerOf n p

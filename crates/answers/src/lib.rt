@@ -20,7 +20,7 @@ pub fn refusal(c: Checked) -> Answer
     ensures { λ r. ⌜ r ≡ refusalOf c ⌝ }
 {
     match c {
-        Checked::Fine(_) => answer_of(0, 0),
+        Checked::Fine { sizes: _, from: _ } => answer_of(0, 0),
         Checked::Wrong { number, place } => answer_of(number, place),
     }
 }

@@ -46,20 +46,20 @@ sealed-is s p l q =
 pub alone-room : {n : ℕ} {alone : Bool} → alone ≡ true → start (formOf alone) 0 ≤ n → 16 ≤ n
 alone-room t h = rw t at h
 
-pub closed-embedded : (s : List ℕ) (m : Bool) (a : Sizes) {alone : Bool} {r : Checked} → alone ≡ false → r ≡ fineOf a → r ≡ closingBy (formOf alone) s m a
-closed-embedded s m a t e = rw t e
+pub closed-embedded : (s : List ℕ) (m : Bool) (a : Sizes) (k : ℕ) {alone : Bool} {r : Checked} → alone ≡ false → r ≡ fineOf a k → r ≡ closingBy (formOf alone) s m a k
+closed-embedded s m a k t e = rw t e
 
-module _ (s : List ℕ) (a : Sizes) {alone m : Bool} (t : alone ≡ true) where
-  pub closed-14 : m ≡ false → Wrong 14 (length s) ≡ closingBy (formOf alone) s m a
+module _ (s : List ℕ) (a : Sizes) (k : ℕ) {alone m : Bool} (t : alone ≡ true) where
+  pub closed-14 : m ≡ false → Wrong 14 (length s) ≡ closingBy (formOf alone) s m a k
   unfolding _>>=_ need after
   closed-14 e = rw (t, e, add-zero)
 
   module _ (e : m ≡ true) {x : Bool} (ex : x ≡ sumRight s) where
-    pub closed-15 : x ≡ false → Wrong 15 (length s - 4) ≡ closingBy (formOf alone) s m a
+    pub closed-15 : x ≡ false → Wrong 15 (length s - 4) ≡ closingBy (formOf alone) s m a k
     unfolding _>>=_ need after
     closed-15 q = rw (t, e, ← ex, q, add-zero)
 
-    pub closed-fine : {r : Checked} → x ≡ true → r ≡ fineOf a → r ≡ closingBy (formOf alone) s m a
+    pub closed-fine : {r : Checked} → x ≡ true → r ≡ fineOf a k → r ≡ closingBy (formOf alone) s m a k
     unfolding _>>=_ need after
     closed-fine q z = rw (t, e, ← ex, q) z
 
@@ -82,17 +82,17 @@ module _ (p : Packet) (h : All (λ e. eqb (tagOfEntry e) 1 ≡ false) (p .entrie
 
   -- a is what its entries weigh, with the checksum or without
   fine-is : {a : Sizes} → a .sheet ≡ summed (p .entries) .sheet → a .rows ≡ length (rowsOf p) → a .normal ≡ summed (p .entries) .normal → a .inner ≡ summed (p .entries) .inner
-      → fineOf a ≡ checkedOf (ok p)
-  fine-is es er en ei = ap Fine (same-sizes (ap (λ n. 3 + n) es ∙ sym sheet-size) er (en ∙ sym normal-size) ei)
+      → fineOf a (start (p .form) (p .width)) ≡ checkedOf (ok p)
+  fine-is es er en ei = ap (λ z. Fine z (start (p .form) (p .width))) (same-sizes (ap (λ n. 3 + n) es ∙ sym sheet-size) er (en ∙ sym normal-size) ei)
 
-fine-embedded : (w : ℕ) (es : List Entry) → SetRead embedded [] es → fineOf (summed es) ≡ checkedOf (ok (packetOf embedded w es []))
+fine-embedded : (w : ℕ) (es : List Entry) → SetRead embedded [] es → fineOf (summed es) (start embedded w) ≡ checkedOf (ok (packetOf embedded w es []))
 unfolding rowsOf sealed
 fine-embedded w es h =
     let k = split embedded [] es h in
     let z = ap summed (split-embedded es k) in
     fine-is (packetOf embedded w es []) (k .no-seal) (ap (λ a. a .sheet) z) (ap (λ a. a .rows) z ∙ sym (entries-count (start embedded w) (unsealed es))) (ap (λ a. a .normal) z) (ap (λ a. a .inner) z)
 
-fine-alone : (w : ℕ) (es : List Entry) (c : List ℕ) → SetRead standalone [] es → has 1 (map tagOfEntry es) ≡ true → fineOf (summed es) ≡ checkedOf (ok (packetOf standalone w es c))
+fine-alone : (w : ℕ) (es : List Entry) (c : List ℕ) → SetRead standalone [] es → has 1 (map tagOfEntry es) ≡ true → fineOf (summed es) (start standalone w) ≡ checkedOf (ok (packetOf standalone w es c))
 unfolding rowsOf sealed
 fine-alone w es c h o =
     let k = split standalone [] es h in
@@ -115,19 +115,19 @@ any-has (e ∷ es) = ap (λ b. eqb (tagOfEntry e) 1 || b) (any-has es)
 abbrev close : Form → List ℕ → ℕ → List Entry → Checked
 close f s w es = checkedOf (closing f s es >>= λ c. ok (packetOf f w es c))
 
-close-alone : (s : List ℕ) (w : ℕ) (es : List Entry) → SetRead standalone [] es → closingBy standalone s (has 1 (map tagOfEntry es)) (summed es) ≡ close standalone s w es
+close-alone : (s : List ℕ) (w : ℕ) (es : List Entry) → SetRead standalone [] es → closingBy standalone s (has 1 (map tagOfEntry es)) (summed es) (start standalone w) ≡ close standalone s w es
 unfolding closing _>>=_ need after
 close-alone s w es h = by-held (has 1 (map tagOfEntry es)) refl
   where
-    by-sum : has 1 (map tagOfEntry es) ≡ true → (q : Bool) → sumRight s ≡ q → closingBy standalone s (has 1 (map tagOfEntry es)) (summed es) ≡ close standalone s w es
+    by-sum : has 1 (map tagOfEntry es) ≡ true → (q : Bool) → sumRight s ≡ q → closingBy standalone s (has 1 (map tagOfEntry es)) (summed es) (start standalone w) ≡ close standalone s w es
     by-sum z true q = rw (z, q) (fine-alone w es (drop (length s - 2) s) h z)
     by-sum z false q = rw (z, q)
 
-    by-held : (m : Bool) → has 1 (map tagOfEntry es) ≡ m → closingBy standalone s (has 1 (map tagOfEntry es)) (summed es) ≡ close standalone s w es
+    by-held : (m : Bool) → has 1 (map tagOfEntry es) ≡ m → closingBy standalone s (has 1 (map tagOfEntry es)) (summed es) (start standalone w) ≡ close standalone s w es
     by-held true z = by-sum z (sumRight s) refl
     by-held false z = rw z
 
-pub close-set : (f : Form) (s : List ℕ) (w : ℕ) (es : List Entry) → SetRead f [] es → closingBy f s (any (λ e. eqb (tagOfEntry e) 1) es) (summed es) ≡ close f s w es
+pub close-set : (f : Form) (s : List ℕ) (w : ℕ) (es : List Entry) → SetRead f [] es → closingBy f s (any (λ e. eqb (tagOfEntry e) 1) es) (summed es) (start f w) ≡ close f s w es
 unfolding closing _>>=_
 close-set embedded s w es h = fine-embedded w es h
-close-set standalone s w es h = ap (λ m. closingBy standalone s m (summed es)) (any-has es) ∙ close-alone s w es h
+close-set standalone s w es h = ap (λ m. closingBy standalone s m (summed es) (start standalone w)) (any-has es) ∙ close-alone s w es h

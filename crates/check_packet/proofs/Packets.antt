@@ -57,15 +57,6 @@ module _ (s : List ℕ) (k : ℕ) (l : length s ≤ 8192) (x : Walked) (h : With
   pub good-within : {a : Sizes} {m : Bool} → x ≡ Good a m → a .sheet ≤ 40960
   good-within {a} {m} e = let z : Within (Good a m) 8192 = rw e at set-within in omega (arith, z .sheet)
 
--- ---- what opens it, by the answer on it
-
-module _ (f : Form) (s : List ℕ) {a : Num} (ea : widthOf a ≡ opening f s) where
-  pub not-opened : {X : Type 0} {n : ℕ} → a ≡ Refused n → (w : ℕ) → opening f s ≡ ok w → X
-  not-opened {n = n} t w e = never n 0 w (ap widthOf (sym t) ∙ ea ∙ e)
-
-  pub width-is : {v u : ℕ} → a ≡ Value v u → (w : ℕ) → opening f s ≡ ok w → {r : ℕ} → r ≡ start f u → r ≡ start f w
-  width-is t w e q = q ∙ ap (start f) (ok-inj _ _ (ap widthOf (sym t) ∙ ea ∙ e))
-
 -- ---- 1, what opens it, the set, what closes it
 
 module _ (f : Form) (s : List ℕ) where
@@ -104,13 +95,14 @@ module _ (f : Form) (s : List ℕ) where
             let q = walked-bad (weightOfEntry set) (λ e. eqb (tagOfEntry e) 1) (setRun f (drop (start f w) s)) n p (sym z ∙ walk-is) in
             e ∙ ap (walkFault k) z ∙ rw (parse-is, q, ek)
 
-        pub check-good : {b : Sizes} {m : Bool} {r : Checked} → Bytes s → x ≡ Good b m → r ≡ closingBy f s m b → r ≡ checkedOf (parse f s)
+        pub check-good : {b : Sizes} {m : Bool} {r : Checked} → Bytes s → x ≡ Good b m → r ≡ closingBy f s m b k → r ≡ checkedOf (parse f s)
         check-good {b} {m} h z e =
             let d : List ℕ = drop (start f w) s in
             let g = walked-good (weightOfEntry set) (λ e. eqb (tagOfEntry e) 1) (setRun f d) b m (sym z ∙ walk-is) in
             let read = set-says f d (g .rs) (bytes-drop (start f w) s h) (g .ran) .1 in
             e
-            ∙ ap (closingBy f s m) (sym (g .weighs))
-            ∙ ap (λ y. closingBy f s y (total (weightOfEntry set) (g .rs .val))) (sym (g .holds))
+            ∙ ap (closingBy f s m b) ek
+            ∙ ap (λ y. closingBy f s m y (start f w)) (sym (g .weighs))
+            ∙ ap (λ y. closingBy f s y (total (weightOfEntry set) (g .rs .val)) (start f w)) (sym (g .holds))
             ∙ close-set f s w (g .rs .val) read
             ∙ ap checkedOf (sym (parse-is ∙ bind-so _ (closes w) (g .rs) (after-ok (start f w) (setRun f d) (g .rs) (g .ran))))

@@ -61,12 +61,12 @@ parsed f s p b e =
 
 -- ---- by the answer on the check
 
-pub fine-parsed : (f : Form) (s : List ℕ) (a : Sizes) → Fine a ≡ checkedOf (parse f s) → (p : Packet) × (parse f s ≡ ok p) × (checkedOf (ok p) ≡ Fine a)
-fine-parsed f s a e = go (parse f s) refl e
+pub fine-parsed : (f : Form) (s : List ℕ) (a : Sizes) (k : ℕ) → Fine a k ≡ checkedOf (parse f s) → (p : Packet) × (parse f s ≡ ok p) × (checkedOf (ok p) ≡ Fine a k)
+fine-parsed f s a k e = go (parse f s) refl e
   where
-    go : (x : Ans Packet) → parse f s ≡ x → Fine a ≡ checkedOf x → (p : Packet) × (parse f s ≡ ok p) × (checkedOf (ok p) ≡ Fine a)
+    go : (x : Ans Packet) → parse f s ≡ x → Fine a k ≡ checkedOf x → (p : Packet) × (parse f s ≡ ok p) × (checkedOf (ok p) ≡ Fine a k)
     go (ok p) q e = (p, q, sym e)
-    go (refused n k) q e = absurd (let z : _≡_ {A = ℕ} 0 1 = cc in omega arith)
+    go (refused n j) q e = absurd (let z : _≡_ {A = ℕ} 0 1 = cc in omega arith)
 
 pub wrong-parsed : (f : Form) (s : List ℕ) (n k : ℕ) → Wrong n k ≡ checkedOf (parse f s) → parse f s ≡ refused n k
 wrong-parsed f s n k e = go (parse f s) refl e

@@ -10,7 +10,7 @@ use Rattle.format.specs.Coding.{bytesNumber}
 use Rattle.format.specs.Lists.{flatAll}
 use Rattle.format.specs.Table.{Form, embedded, standalone, set}
 use Rattle.format.specs.Packet.{Packet, flatEntry, checksum}
-use Rattle.format.specs.Read.{headOf}
+use Rattle.format.specs.Read.{headOf, start}
 use Rattle.format.specs.Sheet.{content, sheetBytes}
 use Rattle.format.specs.Calls.{entryOf}
 use Rattle.format.specs.Rows.{rowsOf}
@@ -26,8 +26,17 @@ use Rattle.tally.specs.Meet.{sizes, total, weightOfEntry}
 use Rattle.check_packet.specs.declared.Checked.{Checked}
 use Rattle.check_packet.specs.declared.Checked.the-variants.{Fine, Wrong}
 
+-- the sizes of a packet's sheet, of its rows, of its normal form and of the series' packs in that
+abbrev pub packetSizes : Packet → Sizes
+packetSizes p = sizes
+    (length (sheetBytes (content p)))
+    (length (rowsOf p))
+    (length (flatAll flatEntry (map entryOf (content p .parts))))
+    (total (weightOfEntry set) (p .entries) .inner)
+
+-- these, and where its set begins
 abbrev pub checkedOf : Ans Packet → Checked
-checkedOf (ok p) = Fine (sizes (length (sheetBytes (content p))) (length (rowsOf p)) (length (flatAll flatEntry (map entryOf (content p .parts)))) (total (weightOfEntry set) (p .entries) .inner))
+checkedOf (ok p) = Fine (packetSizes p) (start (p .form) (p .width))
 checkedOf (refused n p) = Wrong n p
 
 -- how many bytes the outer length takes
@@ -44,9 +53,9 @@ abbrev pub walkFault : ℕ → Walked → Checked
 walkFault k (Good a m) = Wrong 0 0
 walkFault k (Bad n p) = Wrong n (k + p)
 
--- a packet whose set has these sizes
-abbrev pub fineOf : Sizes → Checked
-fineOf a = Fine (sizes (3 + a .sheet) (a .rows) (a .normal) (a .inner))
+-- a packet whose set has these sizes and begins at k
+abbrev pub fineOf : Sizes → ℕ → Checked
+fineOf a k = Fine (sizes (3 + a .sheet) (a .rows) (a .normal) (a .inner)) k
 
 -- what closes a packet, where m says whether its set has a checksum
 abbrev pub sumBy : Form → List ℕ → Bool → Ans (Unit {0})
@@ -55,12 +64,12 @@ sumBy standalone s m =
     after (length s) (need m 14) >>= λ _.
     after (length s - 4) (need (eqb (checksum (take (length s - 2) s)) (bytesNumber (drop (length s - 2) s))) 15)
 
-abbrev pub finish : Sizes → Ans (Unit {0}) → Checked
-finish a (ok c) = fineOf a
-finish a (refused n p) = Wrong n p
+abbrev pub finish : Sizes → ℕ → Ans (Unit {0}) → Checked
+finish a k (ok c) = fineOf a k
+finish a k (refused n p) = Wrong n p
 
-abbrev pub closingBy : Form → List ℕ → Bool → Sizes → Checked
-closingBy f s m a = finish a (sumBy f s m)
+abbrev pub closingBy : Form → List ℕ → Bool → Sizes → ℕ → Checked
+closingBy f s m a k = finish a k (sumBy f s m)
 
 -- the head of an item of the set at p, if one was read
 abbrev pub HeadIf : List ℕ → ℕ → Head → Type 0

@@ -1,9 +1,8 @@
 // The whole packet: what opens it, its set, and what closes it.
 ghost use mathlib.Core.Path.{_≡_};
-ghost use Prim.Native.Nat.{ℕ, _-_, _≤_};
+ghost use Prim.Native.Nat.{_-_, _≤_};
 ghost use lib.ListN.{length, take, drop};
 ghost use lib.Dec.{eqb};
-ghost use Rattle.format.specs.Answer.{ok};
 ghost use Rattle.format.specs.Coding.{bytesNumber};
 ghost use Rattle.format.specs.Packet.{checksum};
 ghost use Rattle.format.specs.Table.{standalone};
@@ -15,9 +14,9 @@ use coding::Num;
 use tally::Sizes;
 use tally::Walked;
 
-// The sizes of what a packet says, or the refusal.
+// The sizes of what a packet says, and where its set begins; or the refusal.
 pub enum Checked {
-    Fine(Sizes),
+    Fine { sizes: Sizes, from: usize },
     Wrong { number: u64, place: usize },
 }
 
@@ -72,27 +71,30 @@ fn is_sealed(s: &[u8]) -> bool
 }
 
 // Three bytes stand before the parts of a sheet.
-fn fine(a: Sizes) -> Checked
+fn fine(a: Sizes, from: usize) -> Checked
     requires { ⌜ a .sheet ≤ 40960 ⌝ }
-    ensures { λ r. ⌜ r ≡ fineOf a ⌝ }
+    ensures { λ r. ⌜ r ≡ fineOf a from ⌝ }
 {
-    Checked::Fine(Sizes {
-        sheet: 3 + a.sheet,
-        rows: a.rows,
-        normal: a.normal,
-        inner: a.inner,
-    })
+    Checked::Fine {
+        sizes: Sizes {
+            sheet: 3 + a.sheet,
+            rows: a.rows,
+            normal: a.normal,
+            inner: a.inner,
+        },
+        from,
+    }
 }
 
-// Of a set of these sizes, with a checksum or without: 14, 15.
-fn closing_of(s: &[u8], alone: bool, held: bool, a: Sizes) -> Checked
+// Of a set of these sizes, with a checksum or without, that begins at `from`: 14, 15.
+fn closing_of(s: &[u8], alone: bool, held: bool, a: Sizes, from: usize) -> Checked
     requires { ⌜ (start (formOf alone) 0 ≤ length (now s)) × (length (now s) ≤ 8192) × (a .sheet ≤ 40960) ⌝ }
-    ensures { λ r. ⌜ r ≡ closingBy (formOf alone) (now (s .entry)) held a ⌝ }
+    ensures { λ r. ⌜ r ≡ closingBy (formOf alone) (now (s .entry)) held a from ⌝ }
 {
     if alone {
         if held {
             if is_sealed(s) {
-                return fine(a);
+                return fine(a, from);
             }
             return Checked::Wrong {
                 number: 15,
@@ -104,7 +106,7 @@ fn closing_of(s: &[u8], alone: bool, held: bool, a: Sizes) -> Checked
             place: s.len(),
         };
     }
-    fine(a)
+    fine(a, from)
 }
 
 // ---- refusals passed up
@@ -140,7 +142,7 @@ fn wrong_set(w: Walked, k: usize) -> Checked
     }
 }
 
-// The sizes of what a packet says, or the refusal: 1, what opens it, the set, what closes it.
+// The sizes of what a packet says, and where its set begins; or the refusal: 1, what opens it, the set, what closes it.
 pub fn check(glances: &[u32], s: &[u8], alone: bool) -> Checked
     requires { ⌜ now glances ≡ glanceTable ⌝ }
     ensures { λ r. ⌜ r ≡ checkedOf (parse (formOf alone) (now (s .entry))) ⌝ }
@@ -164,23 +166,7 @@ pub fn check(glances: &[u32], s: &[u8], alone: bool) -> Checked
     let Walked::Good { sizes, held } = w else {
         return wrong_set(w, from);
     };
-    closing_of(s, alone, held, sizes)
-}
-
-// Where the set of a packet begins, if what opens it was accepted.
-pub fn set_start(s: &[u8], alone: bool) -> usize
-    requires { ⌜ length (now s) ≤ 8192 ⌝ }
-    ensures { λ r. ⌜ ((w : ℕ) → opening (formOf alone) (now (s .entry)) ≡ ok w → r ≡ start (formOf alone) w) ⌝ }
-{
-    let a = opening_of(s, alone);
-    let Num::Value {
-        value: _,
-        used: width,
-    } = a
-    else {
-        return 0;
-    };
-    start_of(alone, width)
+    closing_of(s, alone, held, sizes, from)
 }
 
 pub mod sets; // sets.rt: its set

@@ -120,10 +120,9 @@ pub fn edit(
 {
     let glances = items::quick::glances();
     let c = check_packet::check(&glances, packet, alone);
-    let Checked::Fine(_) = c else {
+    let Checked::Fine { sizes: _, from } = c else {
         return refusal(c);
     };
-    let from = check_packet::set_start(packet, alone);
     let s = &packet[from..];
     edit_set(&glances, s, alone, set, id, tag, removal, value, out)
 }

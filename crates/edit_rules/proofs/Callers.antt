@@ -11,7 +11,7 @@ use Rattle.format.specs.Answer.{ok, refused, _>>=_}
 use Rattle.format.specs.Coding.{Bytes}
 use Rattle.format.specs.Table.{Form, embedded, standalone, Level, set, pack, Rule, Most, upTo, any, isNumber, within, rules, find, ruleOf, sized, short}
 use Rattle.format.specs.Packet.{Entry, Packet, closed}
-use Rattle.format.specs.Read.{opening, start, unsealed, closing, parse}
+use Rattle.format.specs.Read.{start, unsealed, closing, parse}
 use Rattle.format.specs.Sheet.{Sheet, partOf, content}
 use Rattle.format.specs.Calls.{packed}
 use Rattle.format.specs.Edit.{Holder, Change, put, editRules, editEntries, editPacket, edit}
@@ -72,12 +72,12 @@ module _ (f : Form) (s : List ℕ) (p : Packet) (k : Parsed f s p) where
       ∙ ap (λ es. editRules h tag c (sheetFrom f es) >>= λ _. packed (closed f (editEntries h tag c (unsealed es)))) (sym entries-are)
 
 -- the set that is lent
-module _ (f : Form) (s : List ℕ) {c : Checked} (ec : c ≡ checkedOf (parse f s)) (b : Bytes s) {a : Sizes} (t : c ≡ Fine a) {k : ℕ} (ek : (w : ℕ) → opening f s ≡ ok w → k ≡ start f w) where
-  pub set-is : SetOf f (lentSet f s ec b t ek)
-  set-is = rw (lent-is f s ec b t ek) (set-of f s (fine f s ec b t .0) (opened f s ec b t))
+module _ (f : Form) (s : List ℕ) {c : Checked} (ec : c ≡ checkedOf (parse f s)) (b : Bytes s) {a : Sizes} {k : ℕ} (t : c ≡ Fine a k) where
+  pub set-is : SetOf f (lentSet f s ec b t)
+  set-is = rw (lent-is f s ec b t) (set-of f s (fine f s ec b t .0) (opened f s ec b t))
 
-  pub edit-is : (h : Holder) (tag : ℕ) (ch : Change) → edit f h tag ch s ≡ setEdited f h tag ch (lentSet f s ec b t ek)
-  edit-is h tag ch = rw (lent-is f s ec b t ek) (edit-at-set f s (fine f s ec b t .0) (opened f s ec b t) (fine f s ec b t .1) h tag ch)
+  pub edit-is : (h : Holder) (tag : ℕ) (ch : Change) → edit f h tag ch s ≡ setEdited f h tag ch (lentSet f s ec b t)
+  edit-is h tag ch = rw (lent-is f s ec b t) (edit-at-set f s (fine f s ec b t .0) (opened f s ec b t) (fine f s ec b t .1) h tag ch)
 
 -- ---- what was judged
 

@@ -6,21 +6,23 @@ use mathlib.Core.List.{List}
 use lib.ListN.{length}
 use lib.Seq.{sets}
 use borrow.Author.Tests.{le-leb, lt-leb}
-use Rattle.format.specs.Answer.{ok}
+use Rattle.format.specs.Answer.{ok, Got}
 use Rattle.format.specs.Coding.{Bytes}
 use Rattle.format.specs.Table.{Form, set}
-use Rattle.format.specs.Read.{opening, start, parse}
+use Rattle.format.specs.Packet.{Entry}
+use Rattle.format.specs.Read.{start, parse}
 use Rattle.format.specs.Rows.{Row, rowsOf, locate}
 use Rattle.format.proofs.demands.Sizes.{sizes as size-law}
 use Rattle.items.proofs.Tests.{bind-so, bind-not}
 use Rattle.tally.specs.declared.Sizes.{Sizes}
+use Rattle.tally.specs.Runs.{levelRun}
 use Rattle.check_packet.specs.declared.Checked.{Checked}
 use Rattle.check_packet.specs.declared.Checked.the-variants.{Fine, Wrong}
 use Rattle.check_packet.specs.Meet.{checkedOf}
 use Rattle.check_packet.proofs.Parsing.{wrong-parsed}
 use Rattle.check_packet.proofs.Opened.{fine, opened, start-is, lentSet, lent-is}
 use Rattle.stores.proofs.Stores.{sets-start}
-use Rattle.write_rows.specs.Meet.{numbers, levelNumbers}
+use Rattle.write_rows.specs.Meet.{numbers, levelRows, levelNumbers}
 use Rattle.write_rows.proofs.Numbers.{numbers-long, level-set}
 use Rattle.write_rows.proofs.Packet.{rows-whole}
 use Rattle.answers.specs.declared.Answer.{Answer}
@@ -35,13 +37,17 @@ rows-written : (lent : List ℕ) (rs : List Row) → 4 * length rs ≤ length le
 unfolding leavesRows
 rows-written lent rs h = rw (le-leb (4 * length rs) (length lent) h, leavesRows, sets-start lent (numbers rs) (omega (arith, numbers-long rs)), numbers-long rs)
 
+-- the rows of a set, by where it begins and by its bytes
+rows-at : (f : Form) (es : Got (List Entry)) {n k : ℕ} → n ≡ k → {d u : List ℕ} → d ≡ u → levelRun set f d ≡ ok es → numbers (levelRows 0 n (es .val)) ≡ levelNumbers set f 0 k u
+rows-at f es e z r = rw (← e, ← z, r)
+
 module _ (f : Form) (s lent : List ℕ) {c : Checked} (ec : c ≡ checkedOf (parse f s)) where
   pub locate-refused : {n k : ℕ} {r : Answer} → c ≡ Wrong n k → r ≡ refusalOf c → leftOf r lent ≡ leavesRows lent (locate f s)
   unfolding locate leavesRows
   locate-refused {n = n} {k = k} t e =
       ap (λ x. leftOf x lent) (e ∙ ap refusalOf t) ∙ ap (leavesRows lent) (sym (bind-not (parse f s) _ n k (wrong-parsed f s n k (sym t ∙ ec))))
 
-  module _ (b : Bytes s) {a : Sizes} (t : c ≡ Fine a) where
+  module _ (b : Bytes s) {a : Sizes} {k : ℕ} (t : c ≡ Fine a k) where
     abbrev found : List Row
     found = rowsOf (fine f s ec b t .0)
 
@@ -59,20 +65,19 @@ module _ (f : Form) (s lent : List ℕ) {c : Checked} (ec : c ≡ checkedOf (par
     locate-short h er =
         ap (λ r. leftOf r lent) (er ∙ ap (answerOf 16) (sym count-is)) ∙ rows-short lent found (omega (arith, count-is)) ∙ ap (leavesRows lent) (sym locate-is)
 
-    module _ {k : ℕ} (ek : (w : ℕ) → opening f s ≡ ok w → k ≡ start f w) where
-      found-is : numbers found ≡ levelNumbers set f 0 k (lentSet f s ec b t ek)
-      found-is =
-          let o = opened f s ec b t in
-          ap numbers (rows-whole o ∙ sym (level-set (start f (o .width)) (o .es .val))) ∙ rw (lent-is f s ec b t ek, o .runs, start-is f s ec b t ek)
+    found-is : numbers found ≡ levelNumbers set f 0 k (lentSet f s ec b t)
+    found-is =
+        let o = opened f s ec b t in
+        ap numbers (rows-whole o ∙ sym (level-set (start f (o .width)) (o .es .val))) ∙ rows-at f (o .es) (sym (start-is f s ec b t)) (sym (lent-is f s ec b t)) (o .runs)
 
-      pub found-size : length (levelNumbers set f 0 k (lentSet f s ec b t ek)) ≡ 4 * a .rows
-      found-size = omega (arith, ap length found-is, numbers-long found, count-is)
+    pub found-size : length (levelNumbers set f 0 k (lentSet f s ec b t)) ≡ 4 * a .rows
+    found-size = omega (arith, ap length found-is, numbers-long found, count-is)
 
-      pub locate-done : 4 * a .rows ≤ length lent → {out : List ℕ} → out ≡ sets lent 0 (levelNumbers set f 0 k (lentSet f s ec b t ek))
-          → {r : Answer} → r ≡ answerOf 0 (a .rows) → leftOf r out ≡ leavesRows lent (locate f s)
-      locate-done h {out = out} eo {r = r} er =
-          let stored : out ≡ sets lent 0 (numbers found) = eo ∙ ap (sets lent 0) (sym found-is) in
-          ap (leftOf r) stored
-          ∙ ap (λ r. leftOf r (sets lent 0 (numbers found))) (er ∙ ap (answerOf 0) (sym count-is))
-          ∙ rows-written lent found (omega (arith, count-is))
-          ∙ ap (leavesRows lent) (sym locate-is)
+    pub locate-done : 4 * a .rows ≤ length lent → {out : List ℕ} → out ≡ sets lent 0 (levelNumbers set f 0 k (lentSet f s ec b t))
+        → {r : Answer} → r ≡ answerOf 0 (a .rows) → leftOf r out ≡ leavesRows lent (locate f s)
+    locate-done h {out = out} eo {r = r} er =
+        let stored : out ≡ sets lent 0 (numbers found) = eo ∙ ap (sets lent 0) (sym found-is) in
+        ap (leftOf r) stored
+        ∙ ap (λ r. leftOf r (sets lent 0 (numbers found))) (er ∙ ap (answerOf 0) (sym count-is))
+        ∙ rows-written lent found (omega (arith, count-is))
+        ∙ ap (leavesRows lent) (sym locate-is)

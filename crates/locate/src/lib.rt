@@ -13,13 +13,12 @@ pub fn locate_numbers(packet: &[u8], alone: bool, rows: &mut [u64]) -> Answer
 {
     let glances = items::quick::glances();
     let c = check_packet::check(&glances, packet, alone);
-    let Checked::Fine(sizes) = c else {
+    let Checked::Fine { sizes, from } = c else {
         return refusal(c);
     };
     if rows.len() < 4 * sizes.rows {
         return answer_of(16, sizes.rows);
     }
-    let from = check_packet::set_start(packet, alone);
     write_rows::item_rows(&packet[from..], from, 0, true, alone, rows);
     answer_of(0, sizes.rows)
 }

@@ -12,7 +12,7 @@ use Rattle.format.specs.Coding.{Bytes}
 use Rattle.format.specs.Lists.{flatAll}
 use Rattle.format.specs.Table.{Form, set}
 use Rattle.format.specs.Packet.{Entry, Packet, tagOfEntry, flatEntry, flat, closed}
-use Rattle.format.specs.Read.{opening, start, parse}
+use Rattle.format.specs.Read.{parse}
 use Rattle.format.specs.Sheet.{content}
 use Rattle.format.specs.Calls.{entryOf, packetOf, packed, normalise}
 use Rattle.format.specs.Room.{leaves}
@@ -43,7 +43,7 @@ module _ (f : Form) (s : List ℕ) {c : Checked} (ec : c ≡ checkedOf (parse f 
   unfolding normalise
   normal-refused lent {n = n} {k = k} t e = left-refused lent (bind-not (parse f s) _ n k (wrong-parsed f s n k (sym t ∙ ec))) (e ∙ ap refusalOf t)
 
-  module _ (b : Bytes s) {a : Sizes} (t : c ≡ Fine a) where
+  module _ (b : Bytes s) {a : Sizes} {k : ℕ} (t : c ≡ Fine a k) where
     abbrev packet : Packet
     packet = fine f s ec b t .0
 
@@ -91,12 +91,11 @@ module _ (f : Form) (s : List ℕ) {c : Checked} (ec : c ≡ checkedOf (parse f 
           eo ∙ ap (sets lent 0) (sym (k .lies-flat) ∙ sym (normal-same packet (k .valid) n) ∙ normal-form)
 
     -- what the walk that writes is asked for
-    module _ {k : ℕ} (ek : (w : ℕ) → opening f s ≡ ok w → k ≡ start f w) where
-      pub written-is : levelNormal set f (lentSet f s ec b t ek) ≡ flatAll flatEntry es
-      written-is = ap (levelNormal set f) (lent-is f s ec b t ek) ∙ sym (normal-whole (opened f s ec b t))
+    pub written-is : levelNormal set f (lentSet f s ec b t) ≡ flatAll flatEntry es
+    written-is = ap (levelNormal set f) (lent-is f s ec b t) ∙ sym (normal-whole (opened f s ec b t))
 
-      pub inner-asked : (a .inner ≤ 65536) × InnerRun (a .inner) (levelRun set f (lentSet f s ec b t ek))
-      inner-asked = (
-        omega (arith, inner, inner-less packet no-seal, entries, normal-small),
-        rw (lent-is f s ec b t ek) (inner-run (opened f s ec b t) b inner),
-      )
+    pub inner-asked : (a .inner ≤ 65536) × InnerRun (a .inner) (levelRun set f (lentSet f s ec b t))
+    inner-asked = (
+      omega (arith, inner, inner-less packet no-seal, entries, normal-small),
+      rw (lent-is f s ec b t) (inner-run (opened f s ec b t) b inner),
+    )

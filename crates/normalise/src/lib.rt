@@ -13,7 +13,7 @@ pub fn normalise(packet: &[u8], alone: bool, out: &mut [u8]) -> Answer
 {
     let glances = items::quick::glances();
     let c = check_packet::check(&glances, packet, alone);
-    let Checked::Fine(sizes) = c else {
+    let Checked::Fine { sizes, from } = c else {
         return refusal(c);
     };
     let size = frames::frame_size(alone, sizes.normal);
@@ -25,7 +25,6 @@ pub fn normalise(packet: &[u8], alone: bool, out: &mut [u8]) -> Answer
         stores::copy_all(out, 0, packet);
         return answer_of(0, size);
     }
-    let from = check_packet::set_start(packet, alone);
     let a = frames::open(out, alone, sizes.normal);
     let table = items::table();
     let mut bits = [0u64; 64];

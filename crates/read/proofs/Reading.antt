@@ -10,7 +10,7 @@ use borrow.Rule.Slice.PartMut.{putMid}
 use Rattle.format.specs.Answer.{ok}
 use Rattle.format.specs.Coding.{Bytes, fixed}
 use Rattle.format.specs.Table.{Form, set}
-use Rattle.format.specs.Read.{opening, start, parse}
+use Rattle.format.specs.Read.{parse}
 use Rattle.format.specs.Sheet.{content, formByte, sheetBytes}
 use Rattle.format.specs.Calls.{read}
 use Rattle.format.specs.Room.{leaves}
@@ -43,7 +43,7 @@ module _ (f : Form) (s lent : List ℕ) {c : Checked} (ec : c ≡ checkedOf (par
   unfolding read
   read-refused {n = n} {k = k} t e = left-refused lent (bind-not (parse f s) _ n k (wrong-parsed f s n k (sym t ∙ ec))) (e ∙ ap refusalOf t)
 
-  module _ (b : Bytes s) {a : Sizes} (t : c ≡ Fine a) where
+  module _ (b : Bytes s) {a : Sizes} {k : ℕ} (t : c ≡ Fine a k) where
     abbrev sheet : List ℕ
     sheet = sheetBytes (content (fine f s ec b t .0))
 
@@ -57,14 +57,14 @@ module _ (f : Form) (s lent : List ℕ) {c : Checked} (ec : c ≡ checkedOf (par
     pub read-short : length lent < a .sheet → {r : Answer} → r ≡ answerOf 16 (a .sheet) → leftOf r lent ≡ leaves lent (read f s)
     read-short h er = left-short lent read-is size-is h er
 
-    module _ {k : ℕ} (ek : (w : ℕ) → opening f s ≡ ok w → k ≡ start f w) (h : ℕ) (eh : fixed 3 h ≡ 0x50 ∷ 0x4B ∷ formByte f ∷ []) (room : a .sheet ≤ length lent) where
+    module _ (h : ℕ) (eh : fixed 3 h ≡ 0x50 ∷ 0x4B ∷ formByte f ∷ []) (room : a .sheet ≤ length lent) where
       abbrev parts : List ℕ
-      parts = levelSheet set f (lentSet f s ec b t ek)
+      parts = levelSheet set f (lentSet f s ec b t)
 
       sheet-is : sheet ≡ fixed 3 h ++ parts
-      sheet-is = sheet-whole (opened f s ec b t) ∙ rw (eh, lent-is f s ec b t ek)
+      sheet-is = sheet-whole (opened f s ec b t) ∙ rw (eh, lent-is f s ec b t)
 
-      pub set-size : 3 + length (levelSheet set f (lentSet f s ec b t ek)) ≡ a .sheet
+      pub set-size : 3 + length (levelSheet set f (lentSet f s ec b t)) ≡ a .sheet
       set-size = omega (arith, size-is, ap length sheet-is, length-append (fixed 3 h) parts, length-fixed 3 h)
 
       head-kept : {out : List ℕ} → out ≡ sets lent 0 (fixed 3 h) → length out ≡ length lent
@@ -73,11 +73,11 @@ module _ (f : Form) (s lent : List ℕ) {c : Checked} (ec : c ≡ checkedOf (par
       pub rest-from : {out : List ℕ} → out ≡ sets lent 0 (fixed 3 h) → 3 ≤ length out
       rest-from eo = omega (arith, head-kept eo, set-size)
 
-      pub rest-room : {out : List ℕ} → out ≡ sets lent 0 (fixed 3 h) → length (levelSheet set f (lentSet f s ec b t ek)) ≤ length (take (length out - 3) (drop 3 out))
+      pub rest-room : {out : List ℕ} → out ≡ sets lent 0 (fixed 3 h) → length (levelSheet set f (lentSet f s ec b t)) ≤ length (take (length out - 3) (drop 3 out))
       rest-room {out = out} eo = omega (arith, tail-length out 3, head-kept eo, set-size)
 
       -- out has the head, and its rest came back as e
-      pub read-done : {out : List ℕ} → out ≡ sets lent 0 (fixed 3 h) → {e : List ℕ} → e ≡ sets (take (length out - 3) (drop 3 out)) 0 (levelSheet set f (lentSet f s ec b t ek))
+      pub read-done : {out : List ℕ} → out ≡ sets lent 0 (fixed 3 h) → {e : List ℕ} → e ≡ sets (take (length out - 3) (drop 3 out)) 0 (levelSheet set f (lentSet f s ec b t))
           → {r : Answer} → r ≡ answerOf 0 (a .sheet) → leftOf r (putMid 3 (length out - 3) out e) ≡ leaves lent (read f s)
       read-done {out = out} eo {e = e} ee {r = r} er =
           let stored : putMid 3 (length out - 3) out e ≡ sets lent 0 sheet

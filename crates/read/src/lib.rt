@@ -22,13 +22,12 @@ pub fn read(packet: &[u8], alone: bool, sheet: &mut [u8]) -> Answer
 {
     let glances = items::quick::glances();
     let c = check_packet::check(&glances, packet, alone);
-    let Checked::Fine(sizes) = c else {
+    let Checked::Fine { sizes, from } = c else {
         return refusal(c);
     };
     if sheet.len() < sizes.sheet {
         return answer_of(16, sizes.sheet);
     }
-    let from = check_packet::set_start(packet, alone);
     stores::put_number(sheet, 0, head_of(alone), 3);
     let table = items::table();
     write_sheet::item_sheet(&table, &packet[from..], true, alone, &mut sheet[3..]);

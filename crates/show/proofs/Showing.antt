@@ -12,7 +12,7 @@ use Rattle.format.specs.Answer.{Ans, ok, refused, _>>=_}
 use Rattle.format.specs.Coding.{Bytes}
 use Rattle.format.specs.Table.{Form, embedded, standalone, set}
 use Rattle.format.specs.Packet.{Entry, Packet}
-use Rattle.format.specs.Read.{opening, start, unsealed, parse}
+use Rattle.format.specs.Read.{start, unsealed, parse}
 use Rattle.format.specs.Rows.{Row, entryRows}
 use Rattle.format.specs.Edit.{Holder}
 use Rattle.format.specs.Show.{reviewer, detector, Shown, shown, nothing, numberOf, findRow, showable, eitherRow, showIn, show}
@@ -53,18 +53,18 @@ row-is f s p k h tag =
     ap (λ rs. numberOf h (p .entries) >>= λ n. rowFor n tag rs) (rows-whole k)
     ∙ ap (λ m. m >>= λ n. rowFor n tag (entryRows (start f (k .width)) (k .es .val))) (ap (λ q. numberOf h (q .entries)) (k .packet-is) ∙ sealed-number f h (k .es .val) (k .sum) (k .sealing))
 
-module _ (f : Form) (s : List ℕ) (b : Bytes s) {a : Sizes} (t : checkedOf (parse f s) ≡ Fine a) {k : ℕ} (ek : (w : ℕ) → opening f s ≡ ok w → k ≡ start f w) (h : Holder) (tag : ℕ) where
+module _ (f : Form) (s : List ℕ) (b : Bytes s) {a : Sizes} {k : ℕ} (t : checkedOf (parse f s) ≡ Fine a k) (h : Holder) (tag : ℕ) where
   -- what was found in the set, as it is lent
-  pub value-found : {v : Value} → (v ≡ valueOf (rowIn h tag k (entriesOf set f (lentSet f s refl b t ek)))) × (v .offset + v .size ≤ k + length (lentSet f s refl b t ek))
+  pub value-found : {v : Value} → (v ≡ valueOf (rowIn h tag k (entriesOf set f (lentSet f s refl b t)))) × (v .offset + v .size ≤ k + length (lentSet f s refl b t))
       → (v ≡ valueOf (rowNamed h tag (parse f s))) × (v .offset + v .size ≤ length s)
   value-found (e, l) =
       let o = opened f s refl b t in
-      let lent-long : length (lentSet f s refl b t ek) ≡ length s - k = ap length (tail-part k s) ∙ length-drop k s in
-      let entries : entriesOf set f (lentSet f s refl b t ek) ≡ o .es .val = ap (entriesOf set f) (lent-is f s refl b t ek) ∙ ap thingsOf (o .runs) in (
+      let lent-long : length (lentSet f s refl b t) ≡ length s - k = ap length (tail-part k s) ∙ length-drop k s in
+      let entries : entriesOf set f (lentSet f s refl b t) ≡ o .es .val = ap (entriesOf set f) (lent-is f s refl b t) ∙ ap thingsOf (o .runs) in (
         e ∙ ap (λ x. valueOf (rowIn h tag k x)) entries
-            ∙ ap (λ x. valueOf (rowIn h tag x (o .es .val))) (start-is f s refl b t ek)
+            ∙ ap (λ x. valueOf (rowIn h tag x (o .es .val))) (start-is f s refl b t)
             ∙ ap valueOf (sym (bind-so (parse f s) _ (fine f s refl b t .0) (fine f s refl b t .1) ∙ row-is f s (fine f s refl b t .0) o h tag)),
-        omega (arith, set-room f s refl b t ek, lent-long),
+        omega (arith, set-room f s refl b t, lent-long),
       )
 
 -- ---- in two
@@ -111,7 +111,7 @@ module _ (f : Form) (r d : List ℕ) (h : Holder) (tag : ℕ) (hr : Bytes r) (hd
   pub unnamed : {x : Bool} → x ≡ showable h tag → x ≡ false → {p : Part} → p ≡ noPart → Names f r d h tag p
   unnamed ex z e = none-shown e (show-unnamed f r d h tag (sym ex ∙ z))
 
-  module _ {a b : Sizes} (ta : checkedOf (parse f r) ≡ Fine a) (tb : checkedOf (parse f d) ≡ Fine b) (n : showable h tag ≡ true) where
+  module _ {a b : Sizes} {j k : ℕ} (ta : checkedOf (parse f r) ≡ Fine a j) (tb : checkedOf (parse f d) ≡ Fine b k) (n : showable h tag ≡ true) where
     in-two : show f r d h tag ≡ eitherRow (rowNamed h tag (parse f r)) (rowNamed h tag (parse f d))
     unfolding show showIn _>>=_
     in-two = rw (fine f r refl hr ta .1, fine f d refl hd tb .1) (rw (n, showIn))

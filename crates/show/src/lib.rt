@@ -47,12 +47,11 @@ fn is_showable(set: bool, tag: u64) -> bool
     true
 }
 
-// Where the item's value stands in a packet that was found fine.
-fn value_in(packet: &[u8], alone: bool, set: bool, id: u64, tag: u64) -> Value
-    requires { ⌜ (Show.showable (holderOf set id) tag ≡ true) × ((a : Sizes) × (checkedOf (parse (formOf alone) (now packet)) ≡ Fine a)) ⌝ }
+// Where the item's value stands in a packet that was found fine, with its set at `from`.
+fn value_in(packet: &[u8], from: usize, alone: bool, set: bool, id: u64, tag: u64) -> Value
+    requires { ⌜ (Show.showable (holderOf set id) tag ≡ true) × ((a : Sizes) × (checkedOf (parse (formOf alone) (now packet)) ≡ Fine a from)) ⌝ }
     ensures { λ r. ⌜ (r ≡ valueOf (rowNamed (holderOf set id) tag (parse (formOf alone) (now (packet .entry))))) × (r .offset + r .size ≤ length (now (packet .entry))) ⌝ }
 {
-    let from = check_packet::set_start(packet, alone);
     shows::value_at(&packet[from..], from, alone, set, id, tag)
 }
 
@@ -62,17 +61,25 @@ pub fn shown(reviewer: &[u8], detector: &[u8], alone: bool, set: bool, id: u64, 
 {
     let glances = items::quick::glances();
     let a = check_packet::check(&glances, reviewer, alone);
-    let Checked::Fine(_) = a else {
+    let Checked::Fine {
+        sizes: _,
+        from: first,
+    } = a
+    else {
         return nothing();
     };
     let b = check_packet::check(&glances, detector, alone);
-    let Checked::Fine(_) = b else {
+    let Checked::Fine {
+        sizes: _,
+        from: second,
+    } = b
+    else {
         return nothing();
     };
     if !is_showable(set, tag) {
         return nothing();
     }
-    let v = value_in(reviewer, alone, set, id, tag);
+    let v = value_in(reviewer, first, alone, set, id, tag);
     if v.there {
         return Part {
             detectors: false,
@@ -80,7 +87,7 @@ pub fn shown(reviewer: &[u8], detector: &[u8], alone: bool, set: bool, id: u64, 
             size: v.size,
         };
     }
-    let w = value_in(detector, alone, set, id, tag);
+    let w = value_in(detector, second, alone, set, id, tag);
     if w.there {
         return Part {
             detectors: true,

@@ -12,22 +12,22 @@ fine-requires : tie.Need-fine-requires
 fine-requires c κs = search needs
 
 returns : tie.Need-returns
-returns c = closed-fine _ _ (c .before .before .before .before .if1 .taken) (c .before .before .before .if2 .taken) (c .before .before .is-sealed .ensures) (c .before .if3 .taken) (c .fine .ensures)
+returns c = closed-fine _ _ _ (c .before .before .before .before .if1 .taken) (c .before .before .before .if2 .taken) (c .before .before .is-sealed .ensures) (c .before .if3 .taken) (c .fine .ensures)
 
-sub-t9 : tie.Need-sub-t9
-sub-t9 c = omega (arith, alone-room (c .before .before .before .if1 .taken) (c .before .before .before .before .before .pre .0))
+sub-t10 : tie.Need-sub-t10
+sub-t10 c = omega (arith, alone-room (c .before .before .before .if1 .taken) (c .before .before .before .before .before .pre .0))
 
 returns-2 : tie.Need-returns-2
-returns-2 c = closed-15 _ _ (c .before .before .before .if1 .taken) (c .before .before .if2 .taken) (c .before .is-sealed .ensures) (c .if3 .left)
+returns-2 c = closed-15 _ _ _ (c .before .before .before .if1 .taken) (c .before .before .if2 .taken) (c .before .is-sealed .ensures) (c .if3 .left)
 
 returns-3 : tie.Need-returns-3
-returns-3 c = closed-14 _ _ (c .before .if1 .taken) (c .if2 .left)
+returns-3 c = closed-14 _ _ _ (c .before .if1 .taken) (c .if2 .left)
 
 fine-requires-2 : tie.Need-fine-requires-2
 fine-requires-2 c κs = search needs
 
 returns-4 : tie.Need-returns-4
-returns-4 c = closed-embedded _ _ _ (c .before .if1 .left) (c .fine2 .ensures)
+returns-4 c = closed-embedded _ _ _ _ (c .before .if1 .left) (c .fine2 .ensures)
 
 pub closing-of-spec : {M : Type 1} → statement M
 closing-of-spec =
@@ -36,7 +36,7 @@ closing-of-spec =
     is-sealed-requires
     fine-requires
     returns
-    sub-t9
+    sub-t10
     returns-2
     returns-3
     fine-requires-2

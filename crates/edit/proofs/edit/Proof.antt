@@ -1,8 +1,8 @@
--- `edit::edit` meets its contract. a is where the packet was found fine, k where its set begins.
+-- `edit::edit` meets its contract. a is where the packet was found fine.
 use mathlib.Core.Path.{sym, ap, _∙_}
 use borrow.Author.Needs.{needs}
 use Rattle.format.specs.Room.{leaves}
-use Rattle.check_packet.proofs.Opened.{opened, set-room}
+use Rattle.check_packet.proofs.Opened.{set-room}
 use Rattle.edit_rules.proofs.Callers.{set-is, edit-is}
 use Rattle.edit.proofs.Editing.{edit-unread}
 use Rattle.edit.proofs.edit.Statement.{statement}
@@ -17,28 +17,22 @@ slice-aggregate-check c = search needs
 check-requires : tie.Need-check-requires
 check-requires c κs = c .before .glances .ensures
 
+enum-known-c : tie.Need-enum-known-c
+enum-known-c c = search needs
+
 enum-told : tie.Need-enum-told
 enum-told c = search needs
-
-enum-told-2 : tie.Need-enum-told-2
-enum-told-2 c = search needs
 
 refusal-requires : tie.Need-refusal-requires
 refusal-requires c κs = search needs
 
 returns : tie.Need-returns
-returns c = edit-unread _ _ _ _ _ (c .before .before .before .check .ensures) _ (c .before .enum-told2 .given .1) (c .refusal .ensures)
-
-set-start-requires : tie.Need-set-start-requires
-set-start-requires c κs =
-    let a = c in
-    opened _ _ (a .before .before .check .ensures) (λ i. a .before .before .before .before .before .before .before .shared-slice-known .given i .fits) (a .enum-told .given .1) .short
+returns c = edit-unread _ _ _ _ _ (c .before .before .before .check .ensures) _ (c .before .enum-told .given .1) (c .refusal .ensures)
 
 sub-s : tie.Need-sub-s
 sub-s c =
-    let k = c in
-    let a = k .before in
-    set-room _ _ (a .before .before .check .ensures) (λ i. a .before .before .before .before .before .before .before .shared-slice-known .given i .fits) (a .enum-told .given .1) (k .set-start .ensures)
+    let a = c .before in
+    set-room _ _ (a .before .before .check .ensures) (λ i. a .before .before .before .before .before .before .before .shared-slice-known .given i .fits) (a .c .given .1)
 
 part-s-start : tie.Need-part-s-start
 part-s-start c = sub-s c
@@ -51,19 +45,17 @@ slice-aggregate-edit-set c = search needs
 
 edit-set-requires : tie.Need-edit-set-requires
 edit-set-requires c κs =
-    let k = c .before .before .before in
-    let a = k .before in
-    (a .before .before .before .before .glances .ensures, set-is _ _ (a .before .before .check .ensures) (λ i. a .before .before .before .before .before .before .before .shared-slice-known .given i .fits) (a .enum-told .given .1) (k .set-start .ensures))
+    let a = c .before .before .before .before in
+    (a .before .before .before .before .glances .ensures, set-is _ _ (a .before .before .check .ensures) (λ i. a .before .before .before .before .before .before .before .shared-slice-known .given i .fits) (a .c .given .1))
 
 same-length : tie.Need-same-length
 same-length c = search needs
 
 returns-2 : tie.Need-returns-2
 returns-2 c =
-    let k = c .before .before .before .before .before .before in
-    let a = k .before in
+    let a = c .before .before .before .before .before .before .before in
     c .before .before .edit-set .ensures
-    ∙ ap (leaves _) (sym (edit-is _ _ (a .before .before .check .ensures) (λ i. a .before .before .before .before .before .before .before .shared-slice-known .given i .fits) (a .enum-told .given .1) (k .set-start .ensures) _ _ _))
+    ∙ ap (leaves _) (sym (edit-is _ _ (a .before .before .check .ensures) (λ i. a .before .before .before .before .before .before .before .shared-slice-known .given i .fits) (a .c .given .1) _ _ _))
 
 pub edit-spec : {M : Type 1} → statement M
 edit-spec =
@@ -72,11 +64,10 @@ edit-spec =
     glances-requires
     slice-aggregate-check
     check-requires
+    enum-known-c
     enum-told
-    enum-told-2
     refusal-requires
     returns
-    set-start-requires
     sub-s
     part-s-start
     part-s-end

@@ -1,8 +1,8 @@
 -- `locate::locate_numbers` meets its contract: each way out is a case of what is left behind.
--- In each answer a is where the check was found fine, and k where the set begins.
+-- In each answer a is where the check was found fine, and k where there is room.
 use native.Mathlib.Omega.{arith}
 use borrow.Author.Needs.{needs}
-use Rattle.check_packet.proofs.Opened.{opened, set-room, set-ran, set-long}
+use Rattle.check_packet.proofs.Opened.{set-room, set-ran, set-long}
 use Rattle.locate.proofs.Locating.{locate-refused, found-few, locate-short, found-size, locate-done}
 use Rattle.locate.proofs.locate_numbers.Statement.{statement}
 use Rattle.locate.proofs.locate_numbers.Tie as tie
@@ -41,15 +41,10 @@ returns-2 c =
     let a = c .before .before .before .before in
     locate-short _ _ _ (a .before .before .check .ensures) (λ i. a .before .before .before .before .before .before .shared-slice-known .given i .fits) (a .c .given .1) (c .before .if1 .taken) (c .answer-of .ensures)
 
-set-start-requires : tie.Need-set-start-requires
-set-start-requires c κs =
-    let a = c .before .before .before in
-    opened _ _ (a .before .before .check .ensures) (λ i. a .before .before .before .before .before .before .shared-slice-known .given i .fits) (a .c .given .1) .short
-
 sub-item-rows : tie.Need-sub-item-rows
 sub-item-rows c =
-    let a = c .before .before .before .before in
-    set-room _ _ (a .before .before .check .ensures) (λ i. a .before .before .before .before .before .before .shared-slice-known .given i .fits) (a .c .given .1) (c .set-start .ensures)
+    let a = c .before .before .before in
+    set-room _ _ (a .before .before .check .ensures) (λ i. a .before .before .before .before .before .before .shared-slice-known .given i .fits) (a .c .given .1)
 
 part-item-rows-start : tie.Need-part-item-rows-start
 part-item-rows-start c = sub-item-rows c
@@ -60,10 +55,10 @@ part-item-rows-end c = search needs
 item-rows-requires : tie.Need-item-rows-requires
 item-rows-requires c κs =
     let k = c .before .before in
-    let a = k .before .before .before .before in (
-      set-long _ _ (a .before .before .check .ensures) (λ i. a .before .before .before .before .before .before .shared-slice-known .given i .fits) (a .c .given .1) (k .set-start .ensures),
-      set-ran _ _ (a .before .before .check .ensures) (λ i. a .before .before .before .before .before .before .shared-slice-known .given i .fits) (a .c .given .1) (k .set-start .ensures),
-      omega (arith, found-size _ _ (a .before .before .before .before .before .before .before .args .rows .now) (a .before .before .check .ensures) (λ i. a .before .before .before .before .before .before .shared-slice-known .given i .fits) (a .c .given .1) (k .set-start .ensures), k .before .if1 .left),
+    let a = k .before .before .before in (
+      set-long _ _ (a .before .before .check .ensures) (λ i. a .before .before .before .before .before .before .shared-slice-known .given i .fits) (a .c .given .1),
+      set-ran _ _ (a .before .before .check .ensures) (λ i. a .before .before .before .before .before .before .shared-slice-known .given i .fits) (a .c .given .1),
+      omega (arith, found-size _ _ (a .before .before .before .before .before .before .before .args .rows .now) (a .before .before .check .ensures) (λ i. a .before .before .before .before .before .before .shared-slice-known .given i .fits) (a .c .given .1), k .if1 .left),
     )
 
 answer-of-requires-2 : tie.Need-answer-of-requires-2
@@ -75,8 +70,8 @@ same-length c = search needs
 returns-3 : tie.Need-returns-3
 returns-3 c =
     let k = c .before .before .before .before .before .before in
-    let a = k .before .before .before .before in
-    locate-done _ _ _ (a .before .before .check .ensures) (λ i. a .before .before .before .before .before .before .shared-slice-known .given i .fits) (a .c .given .1) (k .set-start .ensures) (k .before .if1 .left) (c .before .before .before .item-rows .ensures .1) (c .answer-of2 .ensures)
+    let a = k .before .before .before in
+    locate-done _ _ _ (a .before .before .check .ensures) (λ i. a .before .before .before .before .before .before .shared-slice-known .given i .fits) (a .c .given .1) (k .if1 .left) (c .before .before .before .item-rows .ensures .1) (c .answer-of2 .ensures)
 
 pub locate-numbers-spec : {M : Type 1} → statement M
 locate-numbers-spec =
@@ -92,7 +87,6 @@ locate-numbers-spec =
     mul-if1
     answer-of-requires
     returns-2
-    set-start-requires
     sub-item-rows
     part-item-rows-start
     part-item-rows-end

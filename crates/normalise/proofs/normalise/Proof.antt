@@ -1,9 +1,9 @@
 -- `normalise::normalise` meets its contract: each way out is a case of what is left behind.
 -- In each answer a is where the check was found fine, z where the size is known, q where it is the packet's, p where the packet was
--- copied; and else k where the set begins, o where the packet was opened, and n where its entries were written.
+-- copied; and else k where it is not, o where the packet was opened, and n where its entries were written.
 use native.Mathlib.Omega.{arith}
 use borrow.Author.Needs.{needs}
-use Rattle.check_packet.proofs.Opened.{opened, set-room, set-ran, set-long}
+use Rattle.check_packet.proofs.Opened.{set-room, set-ran, set-long}
 use Rattle.answers.proofs.Framed.{open-asked, rest-from, rest-room, entries-end, close-asked, all-written}
 use Rattle.answers.proofs.Packing.{packs-short, packs-fit, packs-done}
 use Rattle.normalise.proofs.Normalising.{normal-refused, normal-small, normal-packs, normal-within, normal-copied, written-is, inner-asked}
@@ -63,17 +63,12 @@ returns-3 c =
     packs-done (normal-packs _ _ (a .before .before .check .ensures) (λ i. a .before .before .before .before .before .before .shared-slice-known .given i .fits) (a .c .given .1) (z .frame-size .ensures)) _ (normal-within _ _ (a .before .before .check .ensures) (λ i. a .before .before .before .before .before .before .shared-slice-known .given i .fits) (a .c .given .1) (z .frame-size .ensures)) (q .before .if1 .left)
     (normal-copied _ _ (a .before .before .check .ensures) (λ i. a .before .before .before .before .before .before .shared-slice-known .given i .fits) (a .c .given .1) (z .frame-size .ensures) _ (q .if2 .taken) (p .copy-all .ensures .1)) (c .answer-of2 .ensures)
 
-set-start-requires : tie.Need-set-start-requires
-set-start-requires c κs =
-    let a = c .before .before .before .before in
-    opened _ _ (a .before .before .check .ensures) (λ i. a .before .before .before .before .before .before .shared-slice-known .given i .fits) (a .c .given .1) .short
-
 open-requires : tie.Need-open-requires
 open-requires c κs =
     let k = c .before in
-    let z = k .before .before .before in
+    let z = k .before .before in
     let a = z .before .before in
-    open-asked (packs-fit (normal-packs _ _ (a .before .before .check .ensures) (λ i. a .before .before .before .before .before .before .shared-slice-known .given i .fits) (a .c .given .1) (z .frame-size .ensures)) (a .before .before .before .before .before .before .before .args .out .now) (normal-within _ _ (a .before .before .check .ensures) (λ i. a .before .before .before .before .before .before .shared-slice-known .given i .fits) (a .c .given .1) (z .frame-size .ensures)) (k .before .before .if1 .left))
+    open-asked (packs-fit (normal-packs _ _ (a .before .before .check .ensures) (λ i. a .before .before .before .before .before .before .shared-slice-known .given i .fits) (a .c .given .1) (z .frame-size .ensures)) (a .before .before .before .before .before .before .before .args .out .now) (normal-within _ _ (a .before .before .check .ensures) (λ i. a .before .before .before .before .before .before .shared-slice-known .given i .fits) (a .c .given .1) (z .frame-size .ensures)) (k .before .if1 .left))
 
 table-requires : tie.Need-table-requires
 table-requires c κs = search needs
@@ -87,9 +82,9 @@ slice-aggregate-item-normal-2 c = search needs
 sub-item-normal : tie.Need-sub-item-normal
 sub-item-normal c =
     let k = c .before .before .before .before .before .before .before in
-    let z = k .before .before .before in
+    let z = k .before .before in
     let a = z .before .before in
-    set-room _ _ (a .before .before .check .ensures) (λ i. a .before .before .before .before .before .before .shared-slice-known .given i .fits) (a .c .given .1) (k .set-start .ensures)
+    set-room _ _ (a .before .before .check .ensures) (λ i. a .before .before .before .before .before .before .shared-slice-known .given i .fits) (a .c .given .1)
 
 part-item-normal-start : tie.Need-part-item-normal-start
 part-item-normal-start c = sub-item-normal c
@@ -101,9 +96,9 @@ sub-item-normal-2 : tie.Need-sub-item-normal-2
 sub-item-normal-2 c =
     let o = c .before .before .before .before .before .before .before in
     let k = o .before .before in
-    let z = k .before .before .before in
+    let z = k .before .before in
     let a = z .before .before in
-    rest-from (packs-fit (normal-packs _ _ (a .before .before .check .ensures) (λ i. a .before .before .before .before .before .before .shared-slice-known .given i .fits) (a .c .given .1) (z .frame-size .ensures)) (a .before .before .before .before .before .before .before .args .out .now) (normal-within _ _ (a .before .before .check .ensures) (λ i. a .before .before .before .before .before .before .shared-slice-known .given i .fits) (a .c .given .1) (z .frame-size .ensures)) (k .before .before .if1 .left)) (o .«open» .ensures)
+    rest-from (packs-fit (normal-packs _ _ (a .before .before .check .ensures) (λ i. a .before .before .before .before .before .before .shared-slice-known .given i .fits) (a .c .given .1) (z .frame-size .ensures)) (a .before .before .before .before .before .before .before .args .out .now) (normal-within _ _ (a .before .before .check .ensures) (λ i. a .before .before .before .before .before .before .shared-slice-known .given i .fits) (a .c .given .1) (z .frame-size .ensures)) (k .before .if1 .left)) (o .«open» .ensures)
 
 part-item-normal-start-2 : tie.Need-part-item-normal-start-2
 part-item-normal-start-2 c = sub-item-normal-2 c
@@ -115,16 +110,16 @@ item-normal-requires : tie.Need-item-normal-requires
 item-normal-requires c κs =
     let o = c .before .before .before .before .before .before .before .before in
     let k = o .before .before in
-    let z = k .before .before .before in
+    let z = k .before .before in
     let a = z .before .before in
-    let inner = inner-asked _ _ (a .before .before .check .ensures) (λ i. a .before .before .before .before .before .before .shared-slice-known .given i .fits) (a .c .given .1) (k .set-start .ensures) in (
+    let inner = inner-asked _ _ (a .before .before .check .ensures) (λ i. a .before .before .before .before .before .before .shared-slice-known .given i .fits) (a .c .given .1) in (
       c .before .before .before .before .before .table .ensures,
       (
-        omega (arith, set-long _ _ (a .before .before .check .ensures) (λ i. a .before .before .before .before .before .before .shared-slice-known .given i .fits) (a .c .given .1) (k .set-start .ensures)),
-        set-ran _ _ (a .before .before .check .ensures) (λ i. a .before .before .before .before .before .before .shared-slice-known .given i .fits) (a .c .given .1) (k .set-start .ensures),
+        omega (arith, set-long _ _ (a .before .before .check .ensures) (λ i. a .before .before .before .before .before .before .shared-slice-known .given i .fits) (a .c .given .1)),
+        set-ran _ _ (a .before .before .check .ensures) (λ i. a .before .before .before .before .before .before .shared-slice-known .given i .fits) (a .c .given .1),
         inner .0,
         inner .1,
-        rest-room (packs-fit (normal-packs _ _ (a .before .before .check .ensures) (λ i. a .before .before .before .before .before .before .shared-slice-known .given i .fits) (a .c .given .1) (z .frame-size .ensures)) (a .before .before .before .before .before .before .before .args .out .now) (normal-within _ _ (a .before .before .check .ensures) (λ i. a .before .before .before .before .before .before .shared-slice-known .given i .fits) (a .c .given .1) (z .frame-size .ensures)) (k .before .before .if1 .left)) (o .«open» .ensures) (written-is _ _ (a .before .before .check .ensures) (λ i. a .before .before .before .before .before .before .shared-slice-known .given i .fits) (a .c .given .1) (k .set-start .ensures)),
+        rest-room (packs-fit (normal-packs _ _ (a .before .before .check .ensures) (λ i. a .before .before .before .before .before .before .shared-slice-known .given i .fits) (a .c .given .1) (z .frame-size .ensures)) (a .before .before .before .before .before .before .before .args .out .now) (normal-within _ _ (a .before .before .check .ensures) (λ i. a .before .before .before .before .before .before .shared-slice-known .given i .fits) (a .c .given .1) (z .frame-size .ensures)) (k .before .if1 .left)) (o .«open» .ensures) (written-is _ _ (a .before .before .check .ensures) (λ i. a .before .before .before .before .before .before .shared-slice-known .given i .fits) (a .c .given .1)),
       ),
       a .before .before .before .before .glances .ensures,
     )
@@ -134,18 +129,18 @@ add-close c =
     let n = c .before .before .before in
     let o = n .before .before .before .before .before .before .before .before .before in
     let k = o .before .before in
-    let z = k .before .before .before in
+    let z = k .before .before in
     let a = z .before .before in
-    omega (arith, entries-end (packs-fit (normal-packs _ _ (a .before .before .check .ensures) (λ i. a .before .before .before .before .before .before .shared-slice-known .given i .fits) (a .c .given .1) (z .frame-size .ensures)) (a .before .before .before .before .before .before .before .args .out .now) (normal-within _ _ (a .before .before .check .ensures) (λ i. a .before .before .before .before .before .before .shared-slice-known .given i .fits) (a .c .given .1) (z .frame-size .ensures)) (k .before .before .if1 .left)) (o .«open» .ensures) (written-is _ _ (a .before .before .check .ensures) (λ i. a .before .before .before .before .before .before .shared-slice-known .given i .fits) (a .c .given .1) (k .set-start .ensures)) (n .item-normal .ensures))
+    omega (arith, entries-end (packs-fit (normal-packs _ _ (a .before .before .check .ensures) (λ i. a .before .before .before .before .before .before .shared-slice-known .given i .fits) (a .c .given .1) (z .frame-size .ensures)) (a .before .before .before .before .before .before .before .args .out .now) (normal-within _ _ (a .before .before .check .ensures) (λ i. a .before .before .before .before .before .before .shared-slice-known .given i .fits) (a .c .given .1) (z .frame-size .ensures)) (k .before .if1 .left)) (o .«open» .ensures) (written-is _ _ (a .before .before .check .ensures) (λ i. a .before .before .before .before .before .before .shared-slice-known .given i .fits) (a .c .given .1)) (n .item-normal .ensures))
 
 close-requires : tie.Need-close-requires
 close-requires c κs =
     let n = c .before .before .before in
     let o = n .before .before .before .before .before .before .before .before .before in
     let k = o .before .before in
-    let z = k .before .before .before in
+    let z = k .before .before in
     let a = z .before .before in
-    close-asked (packs-fit (normal-packs _ _ (a .before .before .check .ensures) (λ i. a .before .before .before .before .before .before .shared-slice-known .given i .fits) (a .c .given .1) (z .frame-size .ensures)) (a .before .before .before .before .before .before .before .args .out .now) (normal-within _ _ (a .before .before .check .ensures) (λ i. a .before .before .before .before .before .before .shared-slice-known .given i .fits) (a .c .given .1) (z .frame-size .ensures)) (k .before .before .if1 .left)) (o .«open» .ensures) (written-is _ _ (a .before .before .check .ensures) (λ i. a .before .before .before .before .before .before .shared-slice-known .given i .fits) (a .c .given .1) (k .set-start .ensures)) (n .item-normal .ensures)
+    close-asked (packs-fit (normal-packs _ _ (a .before .before .check .ensures) (λ i. a .before .before .before .before .before .before .shared-slice-known .given i .fits) (a .c .given .1) (z .frame-size .ensures)) (a .before .before .before .before .before .before .before .args .out .now) (normal-within _ _ (a .before .before .check .ensures) (λ i. a .before .before .before .before .before .before .shared-slice-known .given i .fits) (a .c .given .1) (z .frame-size .ensures)) (k .before .if1 .left)) (o .«open» .ensures) (written-is _ _ (a .before .before .check .ensures) (λ i. a .before .before .before .before .before .before .shared-slice-known .given i .fits) (a .c .given .1)) (n .item-normal .ensures)
 
 answer-of-requires-3 : tie.Need-answer-of-requires-3
 answer-of-requires-3 c κs = search needs
@@ -158,11 +153,11 @@ returns-4 c =
     let n = c .before .before .before .before .before .before .before in
     let o = n .before .before .before .before .before .before .before .before .before in
     let k = o .before .before in
-    let z = k .before .before .before in
+    let z = k .before .before in
     let a = z .before .before in
-    let w = (packs-fit (normal-packs _ _ (a .before .before .check .ensures) (λ i. a .before .before .before .before .before .before .shared-slice-known .given i .fits) (a .c .given .1) (z .frame-size .ensures)) (a .before .before .before .before .before .before .before .args .out .now) (normal-within _ _ (a .before .before .check .ensures) (λ i. a .before .before .before .before .before .before .shared-slice-known .given i .fits) (a .c .given .1) (z .frame-size .ensures)) (k .before .before .if1 .left)) in
-    packs-done (normal-packs _ _ (a .before .before .check .ensures) (λ i. a .before .before .before .before .before .before .shared-slice-known .given i .fits) (a .c .given .1) (z .frame-size .ensures)) _ (normal-within _ _ (a .before .before .check .ensures) (λ i. a .before .before .before .before .before .before .shared-slice-known .given i .fits) (a .c .given .1) (z .frame-size .ensures)) (k .before .before .if1 .left)
-    (all-written w (o .«open» .ensures) (written-is _ _ (a .before .before .check .ensures) (λ i. a .before .before .before .before .before .before .shared-slice-known .given i .fits) (a .c .given .1) (k .set-start .ensures)) (n .item-normal .ensures) (c .before .before .before .close .ensures)) (c .answer-of3 .ensures)
+    let w = (packs-fit (normal-packs _ _ (a .before .before .check .ensures) (λ i. a .before .before .before .before .before .before .shared-slice-known .given i .fits) (a .c .given .1) (z .frame-size .ensures)) (a .before .before .before .before .before .before .before .args .out .now) (normal-within _ _ (a .before .before .check .ensures) (λ i. a .before .before .before .before .before .before .shared-slice-known .given i .fits) (a .c .given .1) (z .frame-size .ensures)) (k .before .if1 .left)) in
+    packs-done (normal-packs _ _ (a .before .before .check .ensures) (λ i. a .before .before .before .before .before .before .shared-slice-known .given i .fits) (a .c .given .1) (z .frame-size .ensures)) _ (normal-within _ _ (a .before .before .check .ensures) (λ i. a .before .before .before .before .before .before .shared-slice-known .given i .fits) (a .c .given .1) (z .frame-size .ensures)) (k .before .if1 .left)
+    (all-written w (o .«open» .ensures) (written-is _ _ (a .before .before .check .ensures) (λ i. a .before .before .before .before .before .before .shared-slice-known .given i .fits) (a .c .given .1)) (n .item-normal .ensures) (c .before .before .before .close .ensures)) (c .answer-of3 .ensures)
 
 pub normalise-spec : {M : Type 1} → statement M
 normalise-spec =
@@ -182,7 +177,6 @@ normalise-spec =
     answer-of-requires-2
     same-length
     returns-3
-    set-start-requires
     open-requires
     table-requires
     slice-aggregate-item-normal

@@ -1,8 +1,8 @@
 -- `read::read` meets its contract: each way out is a case of what is left behind.
--- In each answer a is where the check was found fine, k where the set begins, and h where the sheet's head is known.
+-- In each answer a is where the check was found fine, k where there is room, and h where the sheet's head is known.
 use native.Mathlib.Omega.{arith}
 use borrow.Author.Needs.{needs}
-use Rattle.check_packet.proofs.Opened.{opened, set-room, set-ran, set-long}
+use Rattle.check_packet.proofs.Opened.{set-room, set-ran, set-long}
 use Rattle.read.proofs.Reading.{head-bytes, read-refused, read-short, set-size, rest-from, rest-room, read-done}
 use Rattle.read.proofs.read.Statement.{statement}
 use Rattle.read.proofs.read.Tie as tie
@@ -36,11 +36,6 @@ returns-2 c =
     let a = c .before .before .before .before in
     read-short _ _ _ (a .before .before .check .ensures) (λ i. a .before .before .before .before .before .before .shared-slice-known .given i .fits) (a .c .given .1) (c .before .if1 .taken) (c .answer-of .ensures)
 
-set-start-requires : tie.Need-set-start-requires
-set-start-requires c κs =
-    let a = c .before .before .before in
-    opened _ _ (a .before .before .check .ensures) (λ i. a .before .before .before .before .before .before .shared-slice-known .given i .fits) (a .c .given .1) .short
-
 head-of-requires : tie.Need-head-of-requires
 head-of-requires c κs = search needs
 
@@ -48,8 +43,8 @@ put-number-requires : tie.Need-put-number-requires
 put-number-requires c κs =
     let h = c in
     let k = h .before .before in
-    let a = k .before .before .before .before in
-    omega (arith, set-size _ _ (a .before .before .before .before .before .before .before .args .sheet .now) (a .before .before .check .ensures) (λ i. a .before .before .before .before .before .before .shared-slice-known .given i .fits) (a .c .given .1) (k .set-start .ensures) _ (head-bytes (a .before .before .before .before .before .before .before .args .alone) (h .head-of .ensures)) (k .before .if1 .left), k .before .if1 .left)
+    let a = k .before .before .before in
+    omega (arith, set-size _ _ (a .before .before .before .before .before .before .before .args .sheet .now) (a .before .before .check .ensures) (λ i. a .before .before .before .before .before .before .shared-slice-known .given i .fits) (a .c .given .1) _ (head-bytes (a .before .before .before .before .before .before .before .args .alone) (h .head-of .ensures)) (k .if1 .left), k .if1 .left)
 
 table-requires : tie.Need-table-requires
 table-requires c κs = search needs
@@ -61,8 +56,8 @@ sub-item-sheet : tie.Need-sub-item-sheet
 sub-item-sheet c =
     let h = c .before .before .before .before .before in
     let k = h .before .before in
-    let a = k .before .before .before .before in
-    set-room _ _ (a .before .before .check .ensures) (λ i. a .before .before .before .before .before .before .shared-slice-known .given i .fits) (a .c .given .1) (k .set-start .ensures)
+    let a = k .before .before .before in
+    set-room _ _ (a .before .before .check .ensures) (λ i. a .before .before .before .before .before .before .shared-slice-known .given i .fits) (a .c .given .1)
 
 part-item-sheet-start : tie.Need-part-item-sheet-start
 part-item-sheet-start c = sub-item-sheet c
@@ -74,8 +69,8 @@ sub-item-sheet-2 : tie.Need-sub-item-sheet-2
 sub-item-sheet-2 c =
     let h = c .before .before .before .before .before .before in
     let k = h .before .before in
-    let a = k .before .before .before .before in
-    rest-from _ _ (a .before .before .before .before .before .before .before .args .sheet .now) (a .before .before .check .ensures) (λ i. a .before .before .before .before .before .before .shared-slice-known .given i .fits) (a .c .given .1) (k .set-start .ensures) _ (head-bytes (a .before .before .before .before .before .before .before .args .alone) (h .head-of .ensures)) (k .before .if1 .left) (c .before .before .before .before .before .put-number .ensures .1)
+    let a = k .before .before .before in
+    rest-from _ _ (a .before .before .before .before .before .before .before .args .sheet .now) (a .before .before .check .ensures) (λ i. a .before .before .before .before .before .before .shared-slice-known .given i .fits) (a .c .given .1) _ (head-bytes (a .before .before .before .before .before .before .before .args .alone) (h .head-of .ensures)) (k .if1 .left) (c .before .before .before .before .before .put-number .ensures .1)
 
 part-item-sheet-start-2 : tie.Need-part-item-sheet-start-2
 part-item-sheet-start-2 c = sub-item-sheet-2 c
@@ -87,12 +82,12 @@ item-sheet-requires : tie.Need-item-sheet-requires
 item-sheet-requires c κs =
     let h = c .before .before .before .before .before .before .before in
     let k = h .before .before in
-    let a = k .before .before .before .before in (
+    let a = k .before .before .before in (
       c .before .before .before .table .ensures,
       (
-        omega (arith, set-long _ _ (a .before .before .check .ensures) (λ i. a .before .before .before .before .before .before .shared-slice-known .given i .fits) (a .c .given .1) (k .set-start .ensures)),
-        set-ran _ _ (a .before .before .check .ensures) (λ i. a .before .before .before .before .before .before .shared-slice-known .given i .fits) (a .c .given .1) (k .set-start .ensures),
-        rest-room _ _ (a .before .before .before .before .before .before .before .args .sheet .now) (a .before .before .check .ensures) (λ i. a .before .before .before .before .before .before .shared-slice-known .given i .fits) (a .c .given .1) (k .set-start .ensures) _ (head-bytes (a .before .before .before .before .before .before .before .args .alone) (h .head-of .ensures)) (k .before .if1 .left) (c .before .before .before .before .before .before .put-number .ensures .1),
+        omega (arith, set-long _ _ (a .before .before .check .ensures) (λ i. a .before .before .before .before .before .before .shared-slice-known .given i .fits) (a .c .given .1)),
+        set-ran _ _ (a .before .before .check .ensures) (λ i. a .before .before .before .before .before .before .shared-slice-known .given i .fits) (a .c .given .1),
+        rest-room _ _ (a .before .before .before .before .before .before .before .args .sheet .now) (a .before .before .check .ensures) (λ i. a .before .before .before .before .before .before .shared-slice-known .given i .fits) (a .c .given .1) _ (head-bytes (a .before .before .before .before .before .before .before .args .alone) (h .head-of .ensures)) (k .if1 .left) (c .before .before .before .before .before .before .put-number .ensures .1),
       ),
     )
 
@@ -106,8 +101,8 @@ returns-3 : tie.Need-returns-3
 returns-3 c =
     let h = c .before .before .before .before .before .before .before .before .before .before .before in
     let k = h .before .before in
-    let a = k .before .before .before .before in
-    read-done _ _ _ (a .before .before .check .ensures) (λ i. a .before .before .before .before .before .before .shared-slice-known .given i .fits) (a .c .given .1) (k .set-start .ensures) _ (head-bytes (a .before .before .before .before .before .before .before .args .alone) (h .head-of .ensures)) (k .before .if1 .left) (c .before .before .before .before .before .before .before .before .before .before .put-number .ensures .1) (c .before .before .before .item-sheet .ensures .1) (c .answer-of2 .ensures)
+    let a = k .before .before .before in
+    read-done _ _ _ (a .before .before .check .ensures) (λ i. a .before .before .before .before .before .before .shared-slice-known .given i .fits) (a .c .given .1) _ (head-bytes (a .before .before .before .before .before .before .before .args .alone) (h .head-of .ensures)) (k .if1 .left) (c .before .before .before .before .before .before .before .before .before .before .put-number .ensures .1) (c .before .before .before .item-sheet .ensures .1) (c .answer-of2 .ensures)
 
 pub read-spec : {M : Type 1} → statement M
 read-spec =
@@ -122,7 +117,6 @@ read-spec =
     returns
     answer-of-requires
     returns-2
-    set-start-requires
     head-of-requires
     put-number-requires
     table-requires

@@ -1,13 +1,13 @@
 -- Packs laid out alike: what is told of one by the masks of another, its model.
 use mathlib.Core.Path.{_≡_}
-use Prim.Native.Nat.{ℕ, _+_, _*_, _≤_, _<_}
+use Prim.Native.Nat.{ℕ, _+_, _-_, _*_, _≤_, _<_}
 use mathlib.Core.Bool.{Bool, true, false, not, _||_}
 use mathlib.Core.List.{List}
 use lib.ListN.{length, take, drop}
 use Rattle.format.specs.Coding.{Bytes}
 use Rattle.format.specs.Table.{Form}
 use Rattle.coding.specs.Alike.{AlikeTo}
-use Rattle.items.specs.Meet.{formOf}
+use Rattle.items.specs.Meet.{formOf, glanceTable}
 use Rattle.tally.specs.declared.Sizes.{Sizes}
 use Rattle.tally.specs.declared.stages.Stage.{Stage}
 use Rattle.quick_packs.specs.declared.Model.{Model}
@@ -44,3 +44,21 @@ pub record Modelled (alone : Bool) (masks s : List ℕ) (m : Model) : Type 0 whe
 -- the sizes of such packs in p bytes with so many rows
 abbrev pub packedSizes : ℕ → ℕ → ℕ → Sizes
 packedSizes p rows more = sizes (p + 4 * rows + more) rows p 0
+
+-- what is asked of a pack's items, which stand from one place of s to another
+pub record ItemsAsked (glances s : List ℕ) (from next : ℕ) : Type 0 where
+  pub rows : glances ≡ glanceTable
+  pub ordered : from ≤ next
+  pub room : next ≤ length s
+  pub few : next - from < 128
+  pub bytes : Bytes s
+
+-- they are told, if the model has rows
+abbrev pub ItemsTold : Bool → List ℕ → ℕ → ℕ → Model → Type 0
+ItemsTold alone s from next m = 0 < m .rows → Told alone (take (next - from) (drop from s)) (m .rows)
+
+-- the model as which they are told, in the masks
+pub record Chosen (alone : Bool) (masks s : List ℕ) (from next : ℕ) (m : Model) : Type 0 where
+  pub modelled : Modelled alone masks s m
+  pub earlier : m .from ≤ from
+  pub told : ItemsTold alone s from next m

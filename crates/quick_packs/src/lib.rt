@@ -1,14 +1,13 @@
 // The quick way over a series, from its start: packs of items told at a glance. Most packs of a series are laid out alike, with the same heads
-// at the same places, and such a one is told by one comparison with the last that was walked, its model.
+// at the same places, and such a one is told by one comparison with the last that was walked, its model. It does not know a pack whose length has
+// more than a byte or whose id has more than two, one with an item that is not told at a glance, nor any refusal: what stops it is left to the walks.
 ghost use mathlib.Core.Path.{_≡_};
 ghost use mathlib.Core.Bool.{true, false};
 ghost use Prim.Native.Nat.{_+_, _*_, _-_, _≤_, _<_};
-ghost use lib.ListN.{length, take, drop};
-ghost use Rattle.format.specs.Coding.{Bytes};
+ghost use lib.ListN.{length};
 ghost use Rattle.items.specs.Meet.{formOf, glanceTable};
-ghost use Rattle.tally.specs.Meet.{sizes};
-ghost use Rattle.tally.specs.Going.{SeriesGoing, stageAt};
-ghost use Rattle.quick_packs.specs.Packs.{Laid, As, Modelled, Told};
+ghost use Rattle.tally.specs.Going.{SeriesTo, stageAt};
+ghost use Rattle.quick_packs.specs.Packs.{packedSizes, Laid, As, Modelled, ItemsAsked, ItemsTold, Chosen};
 use heads::Head;
 use tally::Sizes;
 use tally::stages;
@@ -94,8 +93,8 @@ fn model_of(
     alone: bool,
     masks: &mut [u8; 160],
 ) -> Model
-    requires { ⌜ (now glances ≡ glanceTable) × (from ≤ next) × (next ≤ length (now s)) × (next - from < 128) × (length (now masks) ≡ 160) × Bytes (now s) ⌝ }
-    ensures { λ r. ⌜ Modelled alone (now (masks .exit)) (now (s .entry)) r × (r .from ≤ from) × (0 < r .rows → Told alone (take (next - from) (drop from (now (s .entry)))) (r .rows)) ⌝ }
+    requires { ⌜ ItemsAsked (now glances) (now s) from next × (length (now masks) ≡ 160) ⌝ }
+    ensures { λ r. ⌜ Chosen alone (now (masks .exit)) (now (s .entry)) from next r ⌝ }
 {
     *masks = [0; 160];
     let q = lay(glances, &s[from..next], alone, masks);
@@ -114,8 +113,8 @@ fn model_of(
 
 // Such items where no model is worth its masks; no rows where they are not such.
 fn unmodelled(glances: &[u32], s: &[u8], from: usize, next: usize, alone: bool) -> Model
-    requires { ⌜ (now glances ≡ glanceTable) × (from ≤ next) × (next ≤ length (now s)) × (next - from < 128) ⌝ }
-    ensures { λ r. ⌜ (r .from ≡ 0) × (r .size ≡ 128) × (0 < r .rows → Told alone (take (next - from) (drop from (now (s .entry)))) (r .rows)) ⌝ }
+    requires { ⌜ ItemsAsked (now glances) (now s) from next ⌝ }
+    ensures { λ r. ⌜ (r .from ≡ 0) × (r .size ≡ 128) × ItemsTold alone (now (s .entry)) from next r ⌝ }
 {
     let q = quick_items::glance_items(glances, &s[from..next], false, alone);
     if q.at != next - from {
@@ -131,12 +130,48 @@ fn unmodelled(glances: &[u32], s: &[u8], from: usize, next: usize, alone: bool) 
     }
 }
 
+// The model in use, and how many packs were not laid out as theirs.
+struct Choice {
+    model: Model,
+    misses: usize,
+}
+
+// The model as which a pack's items are told: the one in use, if they are laid out as its items are; else they themselves, or none where so many
+// packs were not as their model that none is worth its masks. It has no rows where they are not told at a glance.
+fn choose(
+    glances: &[u32],
+    s: &[u8],
+    from: usize,
+    next: usize,
+    alone: bool,
+    c: Choice,
+    masks: &mut [u8; 160],
+) -> Choice
+    requires { ⌜ ItemsAsked (now glances) (now s) from next × Modelled alone (now masks) (now s) (c .model) × (c .model .from ≤ from) × (c .misses ≤ 8192) ⌝ }
+    ensures { λ r. ⌜ Chosen alone (now (masks .exit)) (now (s .entry)) from next (r .model) × (r .misses ≤ 1 + c .misses) ⌝ }
+{
+    let m = c.model;
+    if is_pack_as(m, masks, s, from, next) {
+        return c;
+    }
+    let misses = c.misses;
+    let model = if 64 * misses <= 512 + from {
+        model_of(glances, s, from, next, alone, masks)
+    } else {
+        unmodelled(glances, s, from, next, alone)
+    };
+    Choice {
+        model,
+        misses: misses + 1,
+    }
+}
+
 // ---- packs
 
 // Where the pack walk goes on after packs of p bytes and so many rows, each with a byte for its length.
 fn passed(p: usize, rows: usize, more: usize, top: u64, low: u64) -> Stage
     requires { ⌜ p + 4 * rows + more ≤ 65536 ⌝ }
-    ensures { λ r. ⌜ r ≡ stageAt p (sizes (p + 4 * rows + more) rows p 0) false top low ⌝ }
+    ensures { λ r. ⌜ r ≡ stageAt p (packedSizes p rows more) false top low ⌝ }
 {
     let sizes = Sizes {
         sheet: p + 4 * rows + more,
@@ -152,17 +187,17 @@ fn passed(p: usize, rows: usize, more: usize, top: u64, low: u64) -> Stage
 // those of its id.
 fn many(glances: &[u32], s: &[u8], alone: bool, bits: &mut [u64]) -> Stage
     requires { ⌜ (now glances ≡ glanceTable) × (length (now s) ≤ 8192) ⌝ }
-    ensures { λ r. ⌜ SeriesGoing (formOf alone) (now (s .entry)) (r .at) (r .sizes) (r .top) (r .low) ⌝ }
+    ensures { λ r. ⌜ SeriesTo (formOf alone) (now (s .entry)) r ⌝ }
 {
     let mut p: usize = 0;
     let mut rows: usize = 0;
     let mut more: usize = 0;
-    let mut top: u64 = 0;
-    let mut low: u64 = 18446744073709551615;
+    let mut b = bounds::none();
     let mut masks: [u8; 160] = [0; 160];
-    let mut m = no_model();
-    // packs that were not laid out as their model: where they are many, none is laid out
-    let mut misses: usize = 0;
+    let mut c = Choice {
+        model: no_model(),
+        misses: 0,
+    };
     while p < s.len() {
         let h = heads::short_pack_head(&s[p..]);
         let Head::Whole {
@@ -172,42 +207,23 @@ fn many(glances: &[u32], s: &[u8], alone: bool, bits: &mut [u64]) -> Stage
             size,
         } = h
         else {
-            return passed(p, rows, more, top, low);
+            return passed(p, rows, more, b.top, b.low);
         };
-        // an id above or below all before moves one bound, but for the first
-        if top < key {
-            top = key;
-            if p == 0 {
-                low = key;
-            }
-        } else {
-            if key < low {
-                low = key;
-            } else {
-                if !repeats::notes::is_unnoted(bits, key) {
-                    return passed(p, rows, more, top, low);
-                }
-            }
+        b = bounds::reach(bits, p, b, key);
+        if !b.new {
+            return passed(p, rows, more, b.top, b.low);
         }
-        repeats::notes::note(bits, key);
         let from = p + width + used;
         let next = p + width + size;
-        if !is_pack_as(m, &masks, s, from, next) {
-            if 64 * misses <= 512 + p {
-                m = model_of(glances, s, from, next, alone, &mut masks);
-            } else {
-                m = unmodelled(glances, s, from, next, alone);
-            }
-            if m.rows == 0 {
-                return passed(p, rows, more, top, low);
-            }
-            misses += 1;
+        c = choose(glances, s, from, next, alone, c, &mut masks);
+        if c.model.rows == 0 {
+            return passed(p, rows, more, b.top, b.low);
         }
-        rows = rows + m.rows;
+        rows = rows + c.model.rows;
         more = more + 5 - used;
         p = next;
     }
-    passed(p, rows, more, top, low)
+    passed(p, rows, more, b.top, b.low)
 }
 
 // Whether it was an id neither above nor below all before that ended it.
@@ -234,7 +250,7 @@ fn is_between(s: &[u8], q: Stage) -> bool
 // Packs told at a glance from a series' start, ids rising or falling. Most series have ids that rise, and nothing is noted for them.
 pub fn packs(glances: &[u32], s: &[u8], alone: bool) -> Stage
     requires { ⌜ (now glances ≡ glanceTable) × (length (now s) ≤ 8192) ⌝ }
-    ensures { λ r. ⌜ SeriesGoing (formOf alone) (now (s .entry)) (r .at) (r .sizes) (r .top) (r .low) ⌝ }
+    ensures { λ r. ⌜ SeriesTo (formOf alone) (now (s .entry)) r ⌝ }
 {
     let mut none = [0u64; 1];
     many(glances, s, alone, &mut none[0..0])
@@ -242,8 +258,8 @@ pub fn packs(glances: &[u32], s: &[u8], alone: bool) -> Stage
 
 // The same from where that ended: if it was at an id that neither rises nor falls, anew, the first 4,096 noted in the bits lent, whatever these were.
 pub fn noted(glances: &[u32], s: &[u8], alone: bool, q: Stage, bits: &mut [u64; 64]) -> Stage
-    requires { ⌜ (now glances ≡ glanceTable) × (length (now s) ≤ 8192) × SeriesGoing (formOf alone) (now s) (q .at) (q .sizes) (q .top) (q .low) ⌝ }
-    ensures { λ r. ⌜ SeriesGoing (formOf alone) (now (s .entry)) (r .at) (r .sizes) (r .top) (r .low) ⌝ }
+    requires { ⌜ (now glances ≡ glanceTable) × (length (now s) ≤ 8192) × SeriesTo (formOf alone) (now s) q ⌝ }
+    ensures { λ r. ⌜ SeriesTo (formOf alone) (now (s .entry)) r ⌝ }
 {
     if is_between(s, q) {
         *bits = [0; 64];
@@ -255,7 +271,7 @@ pub fn noted(glances: &[u32], s: &[u8], alone: bool, q: Stage, bits: &mut [u64; 
 // The same of a series of one pack, for which no model is laid out: apart, so that it stands where it is called.
 pub fn lone(glances: &[u32], s: &[u8], alone: bool) -> Stage
     requires { ⌜ (now glances ≡ glanceTable) × (length (now s) ≤ 8192) × (0 < length (now s)) ⌝ }
-    ensures { λ r. ⌜ SeriesGoing (formOf alone) (now (s .entry)) (r .at) (r .sizes) (r .top) (r .low) ⌝ }
+    ensures { λ r. ⌜ SeriesTo (formOf alone) (now (s .entry)) r ⌝ }
 {
     let p: usize = 0;
     let h = heads::short_pack_head(&s[p..]);

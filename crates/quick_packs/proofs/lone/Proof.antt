@@ -11,7 +11,7 @@ use Rattle.tally.specs.Going.{Reached}
 use Rattle.quick_packs.specs.Packs.{packedSizes}
 use Rattle.tally.proofs.Turns.{new-key, reach-only}
 use Rattle.tally.proofs.PackTurns.{PackAt, series-start, head-stood, head-room, lent-long}
-use Rattle.quick_packs.proofs.Models.{told-first}
+use Rattle.quick_packs.proofs.Models.{items-asked, told-first}
 use Rattle.quick_packs.proofs.lone.Statement.{statement}
 use Rattle.quick_packs.proofs.lone.Tie as tie
 use Rattle.quick_packs.proofs.lone.Reads as reads
@@ -82,7 +82,7 @@ add-next-2 : tie.Need-add-next-2
 add-next-2 c = omega (arith, room (c .before))
 
 unmodelled-requires : tie.Need-unmodelled-requires
-unmodelled-requires c κs = let a = c .before in (c .before .before .before .before .before .before .before .pre .0, omega (arith, room a), omega (arith, room a), omega (arith, room a, short a))
+unmodelled-requires c κs = let a = c .before in items-asked (here a) (short a) (c .before .before .before .before .before .before .before .pre .0)
 
 passed-requires-2 : tie.Need-passed-requires-2
 passed-requires-2 c κs = search needs

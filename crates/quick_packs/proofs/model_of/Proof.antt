@@ -2,7 +2,7 @@
 use mathlib.Core.Path.{sym, _∙_}
 use native.Mathlib.Omega.{arith}
 use borrow.Author.Tests.{not-false}
-use Rattle.quick_packs.proofs.Models.{no-items, items-told, items-model}
+use Rattle.quick_packs.proofs.Models.{unchosen, items-told, items-chosen}
 use borrow.Author.Needs.{needs}
 use Rattle.quick_packs.proofs.model_of.Statement.{statement}
 use Rattle.quick_packs.proofs.model_of.Tie as tie
@@ -26,7 +26,7 @@ no-model-requires : tie.Need-no-model-requires
 no-model-requires c κs = search needs
 
 returns : tie.Need-returns
-returns c = let n = c .no-model .ensures in (no-items (n .0) (n .1) (c .before .before .before .lay .ensures .1), omega (arith, n .0), λ h. absurd (omega (arith, h, n .2)))
+returns c = unchosen (c .no-model .ensures) (c .before .before .before .lay .ensures .1)
 
 either-requires : tie.Need-either-requires
 either-requires c κs = search needs
@@ -35,22 +35,22 @@ no-model-requires-2 : tie.Need-no-model-requires-2
 no-model-requires-2 c κs = search needs
 
 returns-2 : tie.Need-returns-2
-returns-2 c = let n = c .no-model2 .ensures in (no-items (n .0) (n .1) (c .before .before .before .before .before .lay .ensures .1), omega (arith, n .0), λ h. absurd (omega (arith, h, n .2)))
+returns-2 c = unchosen (c .no-model2 .ensures) (c .before .before .before .before .before .lay .ensures .1)
 
 add-t9 : tie.Need-add-t9
 add-t9 c =
     let a = c .before .before .before .before .before .before .before .before .before .before .before in
     let l = c .before .before .before .before .before .lay .ensures in
     let located = sym (c .before .before .either .ensures) ∙ not-false _ (c .before .if2 .left) in
-    let t = items-told (a .args .alone) (a .args .s .now) (a .args .from) (a .args .next) (l .0) (a .pre .1) (a .pre .2) (omega (arith, c .before .before .before .if1 .left)) located (a .pre .5) in
-    omega (arith, t .rows-are, t .going .few .rows, a .pre .2, a .good)
+    let t = items-told (a .args .alone) (a .args .s .now) (a .args .from) (a .args .next) (l .0) (a .pre .0) (omega (arith, c .before .before .before .if1 .left)) located in
+    omega (arith, t .rows-are, t .going .few .rows, a .pre .0 .room, a .good)
 
 returns-3 : tie.Need-returns-3
 returns-3 c =
     let a = c .before .before .before .before .before .before .before .before .before .before .before in
     let l = c .before .before .before .before .before .lay .ensures in
     let located = sym (c .before .before .either .ensures) ∙ not-false _ (c .before .if2 .left) in
-    (items-model (a .args .alone) (a .args .s .now) (a .args .from) (a .args .next) (l .0) (a .pre .1) (a .pre .2) (omega (arith, c .before .before .before .if1 .left)) located (l .1), omega arith, λ _. items-told (a .args .alone) (a .args .s .now) (a .args .from) (a .args .next) (l .0) (a .pre .1) (a .pre .2) (omega (arith, c .before .before .before .if1 .left)) located (a .pre .5))
+    items-chosen (a .args .alone) (a .args .s .now) (a .args .from) (a .args .next) (l .0) (a .pre .0) (omega (arith, c .before .before .before .if1 .left)) located (l .1)
 
 pub model-of-spec : {M : Type 1} → statement M
 model-of-spec =

@@ -43,7 +43,7 @@ add-t8 c = search needs
 returns-3 : tie.Need-returns-3
 returns-3 c =
     let a = c .before .before .before .before .before .before .before .before .before in
-    let long = part-long (a .args .s .now) (a .args .from) (a .args .next) (a .pre .1) (a .pre .2) in
+    let long = part-long (a .args .s .now) (a .args .from) (a .args .next) (a .pre .ordered) (a .pre .room) in
     (refl, refl, λ _. run-told (a .args .alone) (c .before .before .before .before .before .glance-items .ensures) (omega (arith, long, c .before .before .before .if1 .left)) (sym (c .before .before .either .ensures) ∙ not-false _ (c .before .if2 .left)))
 
 pub unmodelled-spec : {M : Type 1} → statement M

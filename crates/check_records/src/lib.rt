@@ -10,6 +10,7 @@ ghost use Rattle.heads.specs.Meet.{peek, Past, Clear};
 ghost use Rattle.heads.specs.Records.{peekVal};
 ghost use Rattle.tally.specs.Meet.{Within};
 ghost use Rattle.tally_records.specs.Meet.{pieceBy, valueWhole, seriesWhole, targetWhole, seriesOpens, targetOpens, partPiece, recordsWalk, targetsWalk};
+use heads::records;
 use heads::records::Field;
 use tally::Piece;
 use tally::Sizes;
@@ -32,7 +33,7 @@ fn value_at(
     ensures { λ r. ⌜ ((seen : List ℕ) → Past (peek true false set) (now (s .entry)) p top low seen → r ≡ pieceBy valueWhole (valueAt (levelOf set) (formOf alone) seen (drop p (now (s .entry))))) ⌝ }
 {
     let t = &s[p..];
-    let h = heads::records::field_of(t, set);
+    let h = records::field_of(t, set);
     let Field::Whole { tag, size } = h else {
         return Piece::Fault(17);
     };
@@ -67,7 +68,7 @@ fn series_at(s: &[u8], p: usize, clear: usize, alone: bool, top: u64, low: u64) 
     requires { ⌜ (p ≤ length (now s)) × Clear (peek true false true) (now s) clear × (is TS (drop p (now s)) ≡ true) ⌝ }
     ensures { λ r. ⌜ ((seen : List ℕ) → Past (peek true false true) (now (s .entry)) p top low seen → r ≡ pieceBy seriesWhole (seriesOpens (formOf alone) seen (drop p (now (s .entry))))) ⌝ }
 {
-    if heads::records::is_mark(s, p + 2, b'T', b'G') {
+    if records::is_mark(s, p + 2, records::TG) {
         let dup = repeats::is_seen(s, p, clear, top, low, 101, true, false, true);
         let k = items::standing_of(true, alone, dup, p == 0, 101, true);
         if k != 0 {
@@ -109,10 +110,10 @@ pub fn part_at(
         };
     }
     if set {
-        if heads::records::is_mark(s, p, b'I', b'T') {
+        if records::is_mark(s, p, records::IT) {
             return value_at(table, s, p, clear, set, alone, top, low);
         }
-        if heads::records::is_mark(s, p, b'T', b'S') {
+        if records::is_mark(s, p, records::TS) {
             return series_at(s, p, clear, alone, top, low);
         }
         return Piece::Fault(17);
@@ -226,7 +227,7 @@ pub fn target_records(
     let mut low = q.low;
     let mut clear: usize = 0;
     while p < s.len() {
-        if !heads::records::is_mark(s, p, b'T', b'G') {
+        if !records::is_mark(s, p, records::TG) {
             return Walked::Good {
                 sizes: sum,
                 held: false,

@@ -15,7 +15,7 @@ use Rattle.format.specs.Lists.{none?, flatAll}
 use Rattle.format.specs.Table.{Form, Level, set, isAlone, isSet}
 use Rattle.format.specs.Packet.{flatEntry}
 use Rattle.format.specs.Run.{run, always}
-use Rattle.format.specs.Sheet.{Part, one, targets, Sheet, tagOfPart, is, partAt, sheetLimit, unsheet}
+use Rattle.format.specs.Sheet.{Part, one, targets, Sheet, tagOfPart, PK, is, partAt, sheetLimit, unsheet}
 use Rattle.format.specs.Sheet as sheet
 use Rattle.format.specs.Calls.{entryOf}
 use Rattle.format.specs.Valid.{All, PartValid}
@@ -111,29 +111,29 @@ module _ (s : List ℕ) where
   begins f = after 3 (partsRun f (drop 3 s)) >>= ends f
 
   module _ (l : length s ≤ 65536) where
-    small : unsheet s ≡ (need (is (0x50, 0x4B) s) 17 >>= λ _. sheet.formOf (drop 2 s) >>= begins)
+    small : unsheet s ≡ (need (is PK s) 17 >>= λ _. sheet.formOf (drop 2 s) >>= begins)
     unfolding unsheet sheetLimit
     small = need-so _ _ _ (le-leb (length s) 65536 l)
 
-    check-mark : {r : Sheeted} → r ≡ Wrong 17 0 → is (0x50, 0x4B) s ≡ false → r ≡ sheetedOf (unsheet s)
+    check-mark : {r : Sheeted} → r ≡ Wrong 17 0 → is PK s ≡ false → r ≡ sheetedOf (unsheet s)
     check-mark e m = e ∙ ap sheetedOf (sym (small ∙ need-not _ _ _ m))
 
-    unformed : is (0x50, 0x4B) s ≡ true → sheet.formOf (drop 2 s) ≡ refused 17 0 → unsheet s ≡ refused 17 0
+    unformed : is PK s ≡ true → sheet.formOf (drop 2 s) ≡ refused 17 0 → unsheet s ≡ refused 17 0
     unformed m f = small ∙ need-so _ _ _ m ∙ bind-not (sheet.formOf (drop 2 s)) begins 17 0 f
 
     pub check-cut : {r : Sheeted} → r ≡ Wrong 17 0 → length s < 3 → r ≡ sheetedOf (unsheet s)
-    check-cut {r = r} e h = go (is (0x50, 0x4B) s) refl
+    check-cut {r = r} e h = go (is PK s) refl
       where
-        go : (b : Bool) → is (0x50, 0x4B) s ≡ b → r ≡ sheetedOf (unsheet s)
+        go : (b : Bool) → is PK s ≡ b → r ≡ sheetedOf (unsheet s)
         go true m = e ∙ ap sheetedOf (sym (unformed m (ap sheet.formOf (drop-of-length-le s {i = 2} (omega arith)))))
         go false m = check-mark e m
 
     -- x: `PK` stands first
-    pub check-unmarked : {r : Sheeted} → r ≡ Wrong 17 0 → {x : Bool} → x ≡ is (0x50, 0x4B) s → not x ≡ true → r ≡ sheetedOf (unsheet s)
+    pub check-unmarked : {r : Sheeted} → r ≡ Wrong 17 0 → {x : Bool} → x ≡ is PK s → not x ≡ true → r ≡ sheetedOf (unsheet s)
     check-unmarked e {x} ex tx = check-mark e (sym ex ∙ not-true x tx)
 
-    module _ (h : 3 ≤ length s) {x : Bool} (ex : x ≡ is (0x50, 0x4B) s) (tx : not x ≡ false) where
-      m : is (0x50, 0x4B) s ≡ true
+    module _ (h : 3 ≤ length s) {x : Bool} (ex : x ≡ is PK s) (tx : not x ≡ false) where
+      m : is PK s ≡ true
       m = sym ex ∙ not-false x tx
 
       third : drop 2 s ≡ getD s 2 0 ∷ drop 3 s

@@ -12,6 +12,7 @@ ghost use Rattle.tally.specs.Going.{Begun};
 ghost use Rattle.tally_records.specs.Meet.{recordsWalk};
 ghost use Rattle.tally_records.specs.Going.{RecordsGoing};
 ghost use Rattle.check_sheet.specs.Meet.{sheetedOf, partsFault};
+use heads::records;
 use quick_records::quick;
 use quick_records::targets;
 use tally::Walked;
@@ -49,7 +50,7 @@ fn series(glances: &[u32], s: &[u8], alone: bool, q: Stage) -> Stage
     ensures { λ r. ⌜ RecordsGoing true (formOf alone) (now (s .entry)) (r .at) (r .sizes) (r .held) (r .top) (r .low) ⌝ }
 {
     let p = q.at;
-    if !heads::records::is_mark(s, p, b'T', b'S') {
+    if !records::is_mark(s, p, records::TS) {
         return q;
     }
     if p == 0 {
@@ -158,7 +159,7 @@ pub fn check(s: &[u8]) -> Sheeted
     if s.len() < 3 {
         return wrong(17, 0);
     }
-    if !heads::records::is_mark(s, 0, b'P', b'K') {
+    if !records::is_mark(s, 0, records::PK) {
         return wrong(17, 0);
     }
     if 1 < s[2] {

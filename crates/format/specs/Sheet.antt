@@ -1,5 +1,5 @@
 -- The sheet: what a packet says, without its widths and its checksum; as bytes, and back (document 01, The sheet).
-use Prim.Native.Nat.{ℕ, zero, suc, _+_, _^_}
+use Prim.Native.Nat.{ℕ, zero, suc, _+_, _*_, _^_}
 use mathlib.Core.Bool.{Bool, true, false, not, _&&_, _||_}
 use mathlib.Core.List.{List, [], _∷_, _++_, map}
 use lib.ListN.{length, take, drop}
@@ -58,6 +58,9 @@ content p = record { form = p .form; parts = map partOf (p .entries) }
 abbrev pub Mark : Type 0
 Mark = ℕ × ℕ
 
+abbrev pub PK : Mark
+PK = (0x50, 0x4B)
+
 abbrev pub IT : Mark
 IT = (0x49, 0x54)
 
@@ -69,6 +72,10 @@ TG = (0x54, 0x47)
 
 abbrev pub TI : Mark
 TI = (0x54, 0x49)
+
+-- as one number
+abbrev pub markNumber : Mark → ℕ
+markNumber m = 256 * m .0 + m .1
 
 abbrev pub markOf : Level → Mark
 markOf set = IT
@@ -90,7 +97,7 @@ formByte standalone = 1
 
 -- `PK`, the form, and the parts
 unfoldable pub sheetBytes : Sheet → List ℕ
-sheetBytes s = 0x50 ∷ 0x4B ∷ formByte (s .form) ∷ flatAll partBytes (s .parts)
+sheetBytes s = PK .0 ∷ PK .1 ∷ formByte (s .form) ∷ flatAll partBytes (s .parts)
 
 -- ---- and back: 17, 7, 9 or 10, 13, 14, 11, 12, and a number that is not shortest last
 
@@ -156,7 +163,7 @@ sheetLimit = 65536
 unfoldable pub unsheet : List ℕ → Ans Sheet
 unsheet s = do
   _ ← need (leb (length s) sheetLimit) 1
-  _ ← need (is (0x50, 0x4B) s) 17
+  _ ← need (is PK s) 17
   f ← formOf (drop 2 s)
   ps ← after 3 (run always tagOfPart (partAt f) (drop 3 s))
   _ ← after (length s) (need (not (isAlone f) || not (none? (ps .val))) 14)

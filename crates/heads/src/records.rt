@@ -1,5 +1,6 @@
 // What heads the records of a sheet: marks, an item's fields, and a key with the bytes of all that it heads.
 ghost use mathlib.Core.Path.{_≡_};
+ghost use Prim.Native.Nat.{_/_, _%_};
 ghost use lib.ListN.{drop};
 ghost use Rattle.format.specs.Sheet.{is, field};
 ghost use Rattle.items.specs.Meet.{levelOf};
@@ -7,9 +8,20 @@ ghost use Rattle.heads.specs.Meet.{Peeked};
 ghost use Rattle.heads.specs.Records.{fieldAnswer, peekVal, recordSize, span, peekTarget, peekPart, peekRecord};
 use super::Next;
 
-// Whether the mark a, b stands at p.
-pub fn is_mark(s: &[u8], p: usize, a: u8, b: u8) -> bool
-    ensures { λ r. ⌜ r ≡ is (a, b) (drop p (now (s .entry))) ⌝ }
+// The marks, each as one number of two bytes: of the sheet, an item of the set, the series, a target, an item of a target.
+pub const PK: u64 = 0x504B;
+
+pub const IT: u64 = 0x4954;
+
+pub const TS: u64 = 0x5453;
+
+pub const TG: u64 = 0x5447;
+
+pub const TI: u64 = 0x5449;
+
+// Whether a mark stands at p.
+pub fn is_mark(s: &[u8], p: usize, mark: u64) -> bool
+    ensures { λ r. ⌜ r ≡ is (mark / 256, mark % 256) (drop p (now (s .entry))) ⌝ }
 {
     if s.len() < 2 {
         return false;
@@ -17,10 +29,10 @@ pub fn is_mark(s: &[u8], p: usize, a: u8, b: u8) -> bool
     if s.len() - 2 < p {
         return false;
     }
-    if s[p] != a {
+    if coding::wide(s[p]) != mark >> 8 {
         return false;
     }
-    s[p + 1] == b
+    coding::wide(s[p + 1]) == mark % 256
 }
 
 // An item's record, whatever its mark.
@@ -70,12 +82,12 @@ pub fn field_of(s: &[u8], set: bool) -> Field
 fn record_size(s: &[u8], tg: bool) -> usize
     ensures { λ r. ⌜ r ≡ recordSize tg (now (s .entry)) ⌝ }
 {
-    if is_mark(s, 0, b'T', b'I') {
+    if is_mark(s, 0, TI) {
         let n = val_next(s);
         return n.used;
     }
     if tg {
-        if is_mark(s, 0, b'T', b'G') {
+        if is_mark(s, 0, TG) {
             if s.len() < 10 {
                 return 0;
             }
@@ -109,7 +121,7 @@ fn target_next(s: &[u8]) -> Next
     }
     let key = coding::eight_of(&s[2..]);
     // one that holds nothing, at once: the longest look back is over these
-    if is_mark(s, 10, b'T', b'G') {
+    if is_mark(s, 10, TG) {
         return Next { key, used: 10 };
     }
     let n = span_of(&s[10..], false);
@@ -120,7 +132,7 @@ fn target_next(s: &[u8]) -> Next
 fn part_next(s: &[u8]) -> Next
     ensures { λ r. ⌜ Peeked peekPart (now (s .entry)) (r .key) (r .used) ⌝ }
 {
-    if is_mark(s, 0, b'T', b'S') {
+    if is_mark(s, 0, TS) {
         let n = span_of(&s[2..], true);
         return Next {
             key: 101,

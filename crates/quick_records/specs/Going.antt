@@ -1,12 +1,12 @@
 -- A record that is told at a glance, and how far the quick way over a series' targets took their walk.
 use mathlib.Core.Path.{_≡_}
-use Prim.Native.Nat.{ℕ, _+_, _^_, _<_}
+use Prim.Native.Nat.{ℕ, _+_, _*_, _^_, _<_}
 use mathlib.Core.Bool.{Bool, true, false}
 use mathlib.Core.List.{List}
 use lib.ListN.{take, drop, getD}
 use Rattle.format.specs.Coding.{bytesNumber}
 use Rattle.format.specs.Table.{Form}
-use Rattle.format.specs.Sheet.{markOf, TG, is, field}
+use Rattle.format.specs.Sheet.{markNumber, markOf, IT, TG, TI, is, field}
 use Rattle.items.specs.Meet.{levelOf}
 use Rattle.items.specs.Quick as items
 use Rattle.heads.specs.Records.{fieldAnswer}
@@ -20,8 +20,8 @@ TargetsPassed f s q = TargetsFrom f s q × (q .top < 2 ^ 63) × (q .at ≡ q .si
 
 -- the mark of a level's records before a tag of 0, as one number
 abbrev pub wordOf : Bool → ℕ
-wordOf true = 0x49540000
-wordOf false = 0x54490000
+wordOf true = markNumber IT * 65536
+wordOf false = markNumber TI * 65536
 
 -- a level's record at p, told at a glance, whose tag is above top, and whose value has n bytes
 pub record RecordGlanced (b : Bool) (f : Form) (s : List ℕ) (p top tag n : ℕ) : Type 0 where

@@ -8,6 +8,7 @@ ghost use Rattle.tally.specs.Meet.{sizes};
 ghost use Rattle.tally.specs.Going.{Begun};
 ghost use Rattle.tally_records.specs.Going.{RecordsGoing};
 ghost use Rattle.quick_records.specs.Going.{RecordGlanced, wordOf};
+use heads::records;
 use tally::Sizes;
 use tally::stages::Stage;
 
@@ -27,7 +28,11 @@ fn nothing() -> Told
 fn word_of(set: bool) -> u32
     ensures { λ r. ⌜ r ≡ wordOf set ⌝ }
 {
-    if set { 0x49540000 } else { 0x54490000 }
+    if set {
+        (records::IT as u32) << 16
+    } else {
+        (records::TI as u32) << 16
+    }
 }
 
 // A level's record at p that is told at a glance, its tag above top.

@@ -12,6 +12,7 @@ ghost use Rattle.quick_packs.specs.Packs.{As};
 ghost use Rattle.quick_records.specs.Going.{TargetsPassed};
 ghost use Rattle.quick_records.specs.Targets.{Laid, Held, Over, Modelled};
 use super::quick;
+use heads::records;
 use quick_packs::Model;
 use tally::Sizes;
 use tally::stages::Stage;
@@ -49,7 +50,7 @@ fn is_over(s: &[u8], p: usize) -> bool
     if s.len() <= p {
         return true;
     }
-    heads::records::is_mark(s, p, b'T', b'G')
+    records::is_mark(s, p, records::TG)
 }
 
 // Whether a target's records from there are laid out as the model's.
@@ -116,7 +117,7 @@ pub fn many(glances: &[u32], s: &[u8], alone: bool, bits: &mut [u64]) -> Stage
     let mut low: u64 = 18446744073709551615;
     let mut masks: [u8; 160] = [0; 160];
     let mut m = quick_packs::no_model();
-    if !heads::records::is_mark(s, p, b'T', b'G') {
+    if !records::is_mark(s, p, records::TG) {
         return passed(p, rows, normal, top, low);
     }
     loop {

@@ -1,6 +1,6 @@
 -- The call `read`, case by case: a refusal, too little room, and the sheet written.
 use mathlib.Core.Path.{_≡_, sym, ap, _∙_}
-use Prim.Native.Nat.{ℕ, _+_, _-_, _≤_, _<_}
+use Prim.Native.Nat.{ℕ, _+_, _*_, _-_, _≤_, _<_}
 use native.Mathlib.Omega.{arith}
 use mathlib.Core.Bool.{Bool, true, false}
 use mathlib.Core.List.{List, [], _∷_, _++_}
@@ -11,7 +11,7 @@ use Rattle.format.specs.Answer.{ok}
 use Rattle.format.specs.Coding.{Bytes, fixed}
 use Rattle.format.specs.Table.{Form, set}
 use Rattle.format.specs.Read.{parse}
-use Rattle.format.specs.Sheet.{content, formByte, sheetBytes}
+use Rattle.format.specs.Sheet.{content, PK, markNumber, formByte, sheetBytes}
 use Rattle.format.specs.Calls.{read}
 use Rattle.format.specs.Room.{leaves}
 use Rattle.format.proofs.coding.Digits.{length-fixed}
@@ -31,7 +31,7 @@ use Rattle.answers.specs.Meet.{leftOf, answerOf, refusalOf}
 use Rattle.answers.proofs.Leaving.{left-refused, left-short, left-whole}
 
 -- the head of a sheet, as one number in three bytes
-pub head-bytes : (alone : Bool) {h : ℕ} → h ≡ 5262080 + formByte (formOf alone) → fixed 3 h ≡ 0x50 ∷ 0x4B ∷ formByte (formOf alone) ∷ []
+pub head-bytes : (alone : Bool) {h : ℕ} → h ≡ markNumber PK * 256 + formByte (formOf alone) → fixed 3 h ≡ PK .0 ∷ PK .1 ∷ formByte (formOf alone) ∷ []
 unfolding fixed
 head-bytes true e = rw e
 head-bytes false e = rw e
@@ -57,7 +57,7 @@ module _ (f : Form) (s lent : List ℕ) {c : Checked} (ec : c ≡ checkedOf (par
     pub read-short : length lent < a .sheet → {r : Answer} → r ≡ answerOf 16 (a .sheet) → leftOf r lent ≡ leaves lent (read f s)
     read-short h er = left-short lent read-is size-is h er
 
-    module _ (h : ℕ) (eh : fixed 3 h ≡ 0x50 ∷ 0x4B ∷ formByte f ∷ []) (room : a .sheet ≤ length lent) where
+    module _ (h : ℕ) (eh : fixed 3 h ≡ PK .0 ∷ PK .1 ∷ formByte f ∷ []) (room : a .sheet ≤ length lent) where
       abbrev parts : List ℕ
       parts = levelSheet set f (lentSet f s ec b t)
 

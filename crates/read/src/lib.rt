@@ -1,19 +1,24 @@
 // Read: a packet is checked and its sizes are added up, then its sheet is written.
 ghost use mathlib.Core.Path.{_≡_};
-ghost use Prim.Native.Nat.{_+_};
-ghost use Rattle.format.specs.Sheet.{formByte};
+ghost use Prim.Native.Nat.{_+_, _*_};
+ghost use Rattle.format.specs.Sheet.{PK, markNumber, formByte};
 ghost use Rattle.items.specs.Meet.{formOf};
 ghost use Rattle.answers.specs.Calls.{Reads};
 use answers::Answer;
 use answers::answer_of;
 use answers::refusal;
 use check_packet::Checked;
+use heads::records;
 
 // `PK` and the form, as one number.
 fn head_of(alone: bool) -> u64
-    ensures { λ r. ⌜ r ≡ 5262080 + formByte (formOf alone) ⌝ }
+    ensures { λ r. ⌜ r ≡ markNumber PK * 256 + formByte (formOf alone) ⌝ }
 {
-    if alone { 5262081 } else { 5262080 }
+    if alone {
+        (records::PK << 8) + 1
+    } else {
+        records::PK << 8
+    }
 }
 
 // A packet to its sheet.

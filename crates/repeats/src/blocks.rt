@@ -6,6 +6,7 @@ ghost use lib.ListN.{length};
 ghost use Rattle.format.specs.Lists.{has};
 ghost use Rattle.heads.specs.Meet.{peek, Clear};
 ghost use Rattle.repeats.specs.Blocks.{Gathered, Missed};
+use heads::records;
 
 // Whether the block has the key. One that is found does not end the loop, so that the compiler compares many at once.
 fn is_among(block: &[u64; 64], key: u64) -> bool
@@ -49,7 +50,7 @@ fn gather(s: &[u8], from: usize, block: &mut [u64; 64], sheet: bool, set: bool) 
     let mut i: usize = 0;
     while i < 64 {
         if sheet {
-            if !heads::records::is_mark(s, q, b'T', b'G') {
+            if !records::is_mark(s, q, records::TG) {
                 return q;
             }
         }

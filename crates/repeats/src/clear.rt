@@ -5,6 +5,7 @@ ghost use mathlib.Core.Bool.{false};
 ghost use lib.ListN.{length};
 ghost use Rattle.heads.specs.Meet.{peek, Clear};
 ghost use Rattle.repeats.specs.Parts.{quarter, notedPart, NotedPart, ClearIn};
+use heads::records;
 
 // A bit for each key of a quarter, modulo 4,096: every tag has its own. A quarter at a time, as the bits stand on the stack.
 fn is_noted_part(bits: &[u64], key: u64) -> bool
@@ -39,10 +40,10 @@ fn may_stand(key: u64, part: u64, bits: &[u64]) -> bool
 fn is_other(s: &[u8], q: usize, sheet: bool, ids: bool, set: bool) -> bool {
     if sheet {
         if ids {
-            return !heads::records::is_mark(s, q, b'T', b'G');
+            return !records::is_mark(s, q, records::TG);
         }
         if !set {
-            return !heads::records::is_mark(s, q, b'T', b'I');
+            return !records::is_mark(s, q, records::TI);
         }
     }
     false

@@ -3,6 +3,7 @@ ghost use mathlib.Core.Path.{_≡_};
 ghost use lib.ListN.{drop};
 ghost use Rattle.items.specs.Meet.{levelOf};
 ghost use Rattle.tally_records.specs.Meet.{moreAt};
+use heads::records;
 
 // Whether a level goes on at p: the set to its end, a target while `TI`s stand there.
 pub fn goes_on(s: &[u8], p: usize, set: bool) -> bool
@@ -11,5 +12,5 @@ pub fn goes_on(s: &[u8], p: usize, set: bool) -> bool
     if set {
         return true;
     }
-    heads::records::is_mark(s, p, b'T', b'I')
+    records::is_mark(s, p, records::TI)
 }

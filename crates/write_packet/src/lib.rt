@@ -13,6 +13,7 @@ ghost use Rattle.format.specs.Packet.{flatItem};
 ghost use Rattle.format.specs.Calls.{itemOf};
 ghost use Rattle.write_packet.specs.Meet.{usedOf, recordsRun, targetsRun, recordsNormal, targetsNormal};
 ghost use Rattle.write_packet.specs.Writing.{RecordsAsked, RecordsWriting, Small};
+use heads::records;
 use stores::Passed;
 
 // The number of two bytes at p, as a record's tag and its value's length are.
@@ -66,7 +67,7 @@ fn rest_vals(s: &[u8], from: usize, at: usize, alone: bool, out: &mut [u8]) -> P
     let mut p = from;
     let mut k = at;
     loop {
-        if !heads::records::is_mark(s, p, b'T', b'I') {
+        if !records::is_mark(s, p, records::TI) {
             return Passed { used: p, wrote: k };
         }
         let tag = two_at(s, p + 2);
@@ -85,7 +86,7 @@ fn put_vals(s: &[u8], alone: bool, out: &mut [u8]) -> Passed
     let mut p: usize = 0;
     let mut k: usize = 0;
     loop {
-        if !heads::records::is_mark(s, p, b'T', b'I') {
+        if !records::is_mark(s, p, records::TI) {
             return Passed { used: p, wrote: k };
         }
         if !is_small(s, p) {
@@ -114,7 +115,7 @@ pub fn item_packet(s: &[u8], set: bool, alone: bool, inner: usize, out: &mut [u8
         if !tally_records::goes_on(s, p, set) {
             return k;
         }
-        if heads::records::is_mark(s, p, b'T', b'S') {
+        if records::is_mark(s, p, records::TS) {
             let m = store_coded::put_series(out, k, inner);
             let d = target_packet(&s[p + 2..], alone, &mut out[m..]);
             p = p + 2 + d.used;
@@ -138,7 +139,7 @@ fn target_packet(s: &[u8], alone: bool, out: &mut [u8]) -> Passed
     let mut p: usize = 0;
     let mut k: usize = 0;
     loop {
-        if !heads::records::is_mark(s, p, b'T', b'G') {
+        if !records::is_mark(s, p, records::TG) {
             return Passed { used: p, wrote: k };
         }
         let id = coding::number_of(&s[p + 2..], 8);

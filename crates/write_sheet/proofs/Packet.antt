@@ -10,7 +10,7 @@ use Rattle.format.specs.Table.{Form, set}
 use Rattle.format.specs.Packet.{Entry, plain, series, Packet, tagOfEntry}
 use Rattle.format.specs.Read.{start, unsealed}
 use Rattle.format.specs.Rows.{sealItem}
-use Rattle.format.specs.Sheet.{valOf, partOf, partBytes, content, formByte, sheetBytes}
+use Rattle.format.specs.Sheet.{valOf, partOf, partBytes, content, PK, formByte, sheetBytes}
 use Rattle.format.specs.Valid.{All}
 use Rattle.tally.proofs.Parsed.{Parsed}
 use Rattle.write_laws.proofs.Unsealed.{unsealed-same}
@@ -32,7 +32,7 @@ unfolding itemSheet sealItem
 seal-written c = refl
 
 module _ {f : Form} {s : List ℕ} {p : Packet} (k : Parsed f s p) where
-  pub sheet-whole : sheetBytes (content p) ≡ 0x50 ∷ 0x4B ∷ formByte f ∷ levelSheet set f (drop (start f (k .width)) s)
+  pub sheet-whole : sheetBytes (content p) ≡ PK .0 ∷ PK .1 ∷ formByte f ∷ levelSheet set f (drop (start f (k .width)) s)
   unfolding sheetBytes content
   sheet-whole =
       rw (k .packet-is, k .runs, parts-written (unsealed (k .es .val)) (k .no-seal), unsealed-same (entrySheet set) seal-written f (k .es .val) (k .sum) (k .sealing))

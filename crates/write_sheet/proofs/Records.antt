@@ -1,6 +1,6 @@
 -- The sheet's records, as they are stored one field after another.
 use mathlib.Core.Path.{_≡_, refl, sym, ap, _∙_}
-use Prim.Native.Nat.{ℕ, _+_, _*_, _/_, _≤_, _<_}
+use Prim.Native.Nat.{ℕ, _+_, _*_, _/_, _^_, _≤_, _<_}
 use native.Mathlib.Omega.{arith}
 use mathlib.Core.Bool.{Bool, true, false}
 use mathlib.Core.List.{List, [], _∷_, _++_}
@@ -8,7 +8,7 @@ use lib.ListN.{length, length-append}
 use lib.Seq.{sets}
 use Rattle.format.specs.Coding.{fixed}
 use Rattle.format.specs.Table.{Level, Rule, ruleOf, short}
-use Rattle.format.specs.Sheet.{valBytes, markOf, TG}
+use Rattle.format.specs.Sheet.{valBytes, markNumber, markOf, IT, TG, TI}
 use Rattle.format.proofs.coding.Digits.{length-fixed}
 use Rattle.items.specs.Meet.{levelOf}
 use Rattle.stores.proofs.Puts.{Puts, puts-then, puts-fixed}
@@ -17,18 +17,18 @@ use Rattle.write_sheet.specs.Meet.{itemSheet}
 
 -- ---- an item
 
-pub mark-set : {b : Bool} → b ≡ true → 18772 ≡ 256 * (markOf (levelOf b) .0) + markOf (levelOf b) .1
+pub mark-set : {b : Bool} → b ≡ true → markNumber IT ≡ markNumber (markOf (levelOf b))
 mark-set e = rw e
 
-pub mark-pack : {b : Bool} → b ≡ false → 21577 ≡ 256 * (markOf (levelOf b) .0) + markOf (levelOf b) .1
+pub mark-pack : {b : Bool} → b ≡ false → markNumber TI ≡ markNumber (markOf (levelOf b))
 mark-pack e = rw e
 
-mark-bytes : (b : Bool) → fixed 2 (256 * (markOf (levelOf b) .0) + markOf (levelOf b) .1) ≡ markOf (levelOf b) .0 ∷ markOf (levelOf b) .1 ∷ []
+mark-bytes : (b : Bool) → fixed 2 (markNumber (markOf (levelOf b))) ≡ markOf (levelOf b) .0 ∷ markOf (levelOf b) .1 ∷ []
 unfolding fixed
 mark-bytes true = refl
 mark-bytes false = refl
 
-pub item-stored : (b : Bool) (tag : ℕ) (v o : List ℕ) (a : ℕ) {m : ℕ} → m ≡ 256 * (markOf (levelOf b) .0) + markOf (levelOf b) .1
+pub item-stored : (b : Bool) (tag : ℕ) (v o : List ℕ) (a : ℕ) {m : ℕ} → m ≡ markNumber (markOf (levelOf b))
     → {o₁ o₂ o₃ o₄ : List ℕ} {a₁ a₂ a₃ r : ℕ} → (a₁ ≡ a + 2) × (o₁ ≡ sets o a (fixed 2 m)) → (a₂ ≡ a₁ + 2) × (o₂ ≡ sets o₁ a₁ (fixed 2 tag))
     → (a₃ ≡ a₂ + 2) × (o₃ ≡ sets o₂ a₂ (fixed 2 (length v))) → Puts o₃ a₃ v r o₄
     → (r ≡ a + (6 + length v)) × (o₄ ≡ sets o a (valBytes (levelOf b) (record { tag = tag; value = v })))
@@ -41,25 +41,25 @@ item-stored b tag v o a {m = m} em {o₁ = o₁} {o₂ = o₂} {a₁ = a₁} {a�
 
 -- ---- a target
 
-target-mark : fixed 2 21575 ≡ TG .0 ∷ TG .1 ∷ []
+target-mark : fixed 2 (markNumber TG) ≡ TG .0 ∷ TG .1 ∷ []
 unfolding fixed
 target-mark = refl
 
-pub target-stored : (id : ℕ) (o : List ℕ) (a : ℕ) {o₁ o₂ : List ℕ} {a₁ r : ℕ} → (a₁ ≡ a + 2) × (o₁ ≡ sets o a (fixed 2 21575)) → (r ≡ a₁ + 8) × (o₂ ≡ sets o₁ a₁ (fixed 8 id))
+pub target-stored : (id : ℕ) (o : List ℕ) (a : ℕ) {o₁ o₂ : List ℕ} {a₁ r : ℕ} → (a₁ ≡ a + 2) × (o₁ ≡ sets o a (fixed 2 (markNumber TG))) → (r ≡ a₁ + 8) × (o₂ ≡ sets o₁ a₁ (fixed 8 id))
     → (r ≡ a + 10) × (o₂ ≡ sets o a (TG .0 ∷ TG .1 ∷ fixed 8 id))
 target-stored id o a {o₁ = o₁} {a₁ = a₁} p q =
-    let whole = puts-then o a (fixed 2 21575) (fixed 8 id) (puts-fixed o a 2 21575 p) (puts-fixed o₁ a₁ 8 id q) in
+    let whole = puts-then o a (fixed 2 (markNumber TG)) (fixed 8 id) (puts-fixed o a 2 (markNumber TG) p) (puts-fixed o₁ a₁ 8 id q) in
     (omega (arith, p .0, q .0), rw target-mark at (whole .1))
 
-short-target : (id : ℕ) → id < 65536 → fixed 8 6072822622532403200 ++ fixed 2 id ≡ TG .0 ∷ TG .1 ∷ fixed 8 id
+short-target : (id : ℕ) → id < 65536 → fixed 8 (markNumber TG * 2 ^ 48) ++ fixed 2 id ≡ TG .0 ∷ TG .1 ∷ fixed 8 id
 unfolding fixed
 short-target id h = let e : id / 256 / 256 ≡ 0 = omega arith in rw e
 
 -- an id of two bytes: the zeros before them are stored with the mark
-pub short-target-stored : (id : ℕ) → id < 65536 → (o : List ℕ) (a : ℕ) {o₁ o₂ : List ℕ} {a₁ r : ℕ} → (a₁ ≡ a + 8) × (o₁ ≡ sets o a (fixed 8 6072822622532403200))
+pub short-target-stored : (id : ℕ) → id < 65536 → (o : List ℕ) (a : ℕ) {o₁ o₂ : List ℕ} {a₁ r : ℕ} → (a₁ ≡ a + 8) × (o₁ ≡ sets o a (fixed 8 (markNumber TG * 2 ^ 48)))
     → (r ≡ a₁ + 2) × (o₂ ≡ sets o₁ a₁ (fixed 2 id)) → (r ≡ a + 10) × (o₂ ≡ sets o a (TG .0 ∷ TG .1 ∷ fixed 8 id))
 short-target-stored id h o a {o₁ = o₁} {a₁ = a₁} p q =
-    let whole = puts-then o a (fixed 8 6072822622532403200) (fixed 2 id) (puts-fixed o a 8 6072822622532403200 p) (puts-fixed o₁ a₁ 2 id q) in
+    let whole = puts-then o a (fixed 8 (markNumber TG * 2 ^ 48)) (fixed 2 id) (puts-fixed o a 8 (markNumber TG * 2 ^ 48) p) (puts-fixed o₁ a₁ 2 id q) in
     (omega (arith, p .0, q .0), whole .1 ∙ ap (sets o a) (short-target id h))
 
 -- ---- an item of a packet

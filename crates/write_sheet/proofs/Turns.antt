@@ -12,7 +12,7 @@ use Rattle.format.specs.Coding.{fixed}
 use Rattle.format.specs.Lists.{flatAll}
 use Rattle.format.specs.Table.{Form, Level, pack}
 use Rattle.format.specs.Packet.{Item, Pack, plain, series}
-use Rattle.format.specs.Sheet.{valOf, valBytes, targetOf, targetBytes, partOf, partBytes, TS, TG}
+use Rattle.format.specs.Sheet.{valOf, valBytes, targetOf, targetBytes, partOf, partBytes, markNumber, TS, TG}
 use Rattle.format.proofs.coding.Digits.{length-fixed}
 use Rattle.items.specs.Meet.{levelOf}
 use Rattle.tally.specs.Runs.{Ran, madeOf, levelRun, seriesRun}
@@ -34,7 +34,7 @@ unfolding flatAll
 targets-sheet [] = refl
 targets-sheet (p ∷ ps) = ap (λ x. packSheet p ++ x) (targets-sheet ps)
 
-series-parts : (l : Level) (w : ℕ) (ps : List Pack) → entrySheet l (series w ps) ≡ fixed 2 21587 ++ flatAll packSheet ps
+series-parts : (l : Level) (w : ℕ) (ps : List Pack) → entrySheet l (series w ps) ≡ fixed 2 (markNumber TS) ++ flatAll packSheet ps
 unfolding partBytes partOf fixed
 series-parts l w ps = ap (λ x. TS .0 ∷ TS .1 ∷ x) (targets-sheet ps)
 
@@ -63,25 +63,25 @@ module _ {b : Bool} {f : Form} {s out₀ out : List ℕ} {p k key used width siz
     one-more e = entry-more i (rw one-sheet e) refl
 
   module _ (tx : x ≡ true) where
-    series-sheet : Parted out k (stored i) (fixed 2 21587) (seriesSheet f (valueAt i))
+    series-sheet : Parted out k (stored i) (fixed 2 (markNumber TS)) (seriesSheet f (valueAt i))
     series-sheet =
         let (ps, e, r) = packs-run i ex tx in
-        record { is = ap (entrySheet (levelOf b)) e ∙ series-parts (levelOf b) width (ps .val) ∙ ap (λ x. fixed 2 21587 ++ madeOf (flatAll packSheet) x) (sym r); fits = entry-fits i }
+        record { is = ap (entrySheet (levelOf b)) e ∙ series-parts (levelOf b) width (ps .val) ∙ ap (λ x. fixed 2 (markNumber TS) ++ madeOf (flatAll packSheet) x) (sym r); fits = entry-fits i }
 
     pub mark-room : k + 2 ≤ length out
-    mark-room = omega (arith, head-room series-sheet, length-fixed 2 21587)
+    mark-room = omega (arith, head-room series-sheet, length-fixed 2 (markNumber TS))
 
     -- its mark is stored, and the tail behind it lent
-    module _ {m : ℕ} {out₁ : List ℕ} (em : (m ≡ k + 2) × (out₁ ≡ sets out k (fixed 2 21587))) where
+    module _ {m : ℕ} {out₁ : List ℕ} (em : (m ≡ k + 2) × (out₁ ≡ sets out k (fixed 2 (markNumber TS)))) where
       pub series-behind : m ≤ length out₁
-      series-behind = head-behind series-sheet (puts-fixed out k 2 21587 em)
+      series-behind = head-behind series-sheet (puts-fixed out k 2 (markNumber TS) em)
 
       pub series-asked : (length (valueAt i) ≤ 8192) × Ran (seriesRun f (valueAt i)) × (length (seriesSheet f (valueAt i)) ≤ length (take (length out₁ - m) (drop m out₁)))
-      series-asked = (packs-asked i ex tx .0, packs-asked i ex tx .1, rest-room series-sheet (puts-fixed out k 2 21587 em))
+      series-asked = (packs-asked i ex tx .0, packs-asked i ex tx .1, rest-room series-sheet (puts-fixed out k 2 (markNumber TS) em))
 
       pub series-more : {r : ℕ} {o : List ℕ} → (r ≡ length (seriesSheet f (valueAt i))) × (o ≡ sets (take (length out₁ - m) (drop m out₁)) 0 (seriesSheet f (valueAt i)))
           → LevelSheets b f s out₀ (putMid m (length out₁ - m) out₁ o) (p + used + width + size) (m + r)
-      series-more q = entry-more i (rest-put series-sheet (puts-fixed out k 2 21587 em) q) refl
+      series-more q = entry-more i (rest-put series-sheet (puts-fixed out k 2 (markNumber TS) em) q) refl
 
 -- ---- the packs of a series
 

@@ -5,21 +5,22 @@ ghost use lib.ListN.{length};
 ghost use lib.Seq.{sets};
 ghost use mathlib.Core.List.{List, _∷_};
 ghost use Rattle.format.specs.Coding.{fixed};
-ghost use Rattle.format.specs.Sheet.{valBytes, markOf, TG};
+ghost use Rattle.format.specs.Sheet.{valBytes, markNumber, markOf, TG};
 ghost use Rattle.items.specs.Meet.{formOf, levelOf, itemTable};
 ghost use Rattle.format.specs.Table.{pack};
 ghost use Rattle.write_sheet.specs.Meet.{itemSheet, levelSheet, seriesSheet};
 ghost use Rattle.write_sheet.specs.Quick.{LevelPassed};
 ghost use Rattle.tally.specs.Runs.{Ran, levelRun, seriesRun};
 use heads::Head;
+use heads::records;
 
 // ---- records
 
 // The mark of an item, as a number: `IT` in the set, `TI` in a target.
 fn mark_of(set: bool) -> u64
-    ensures { λ r. ⌜ r ≡ 256 * (markOf (levelOf set) .0) + markOf (levelOf set) .1 ⌝ }
+    ensures { λ r. ⌜ r ≡ markNumber (markOf (levelOf set)) ⌝ }
 {
-    if set { 18772 } else { 21577 }
+    if set { records::IT } else { records::TI }
 }
 
 // An item's record; where it ends.
@@ -53,10 +54,10 @@ fn put_target(out: &mut [u8], at: usize, id: u64) -> usize
     ensures { λ r. ⌜ (r ≡ at + 10) × (now (out .exit) ≡ sets (now (out .entry)) at (TG .0 ∷ TG .1 ∷ fixed 8 id)) ⌝ }
 {
     if id < 65536 {
-        let b = stores::put_number(out, at, 0x5447000000000000, 8);
+        let b = stores::put_number(out, at, records::TG << 48, 8);
         return stores::put_number(out, b, id, 2);
     }
-    let a = stores::put_number(out, at, 21575, 2);
+    let a = stores::put_number(out, at, records::TG, 2);
     stores::put_number(out, a, id, 8)
 }
 
@@ -91,7 +92,7 @@ fn rest_sheet(
         let from = p + used + width;
         let next = from + size;
         k = if tally::is_series(set, key) {
-            let m = stores::put_number(out, k, 21587, 2);
+            let m = stores::put_number(out, k, records::TS, 2);
             m + pack_sheet(table, &s[from..next], alone, &mut out[m..])
         } else {
             put_plain(table, out, k, set, key, &s[from..next])

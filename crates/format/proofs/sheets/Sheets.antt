@@ -13,7 +13,7 @@ use Rattle.format.specs.Coding.{Bytes}
 use Rattle.format.specs.Lists.{none?, has, flatAll}
 use Rattle.format.specs.Table.{Form, embedded, standalone, set, isAlone, mayBegin}
 use Rattle.format.specs.Run.{run, always}
-use Rattle.format.specs.Sheet.{Target, Part, one, targets, Sheet, idOfTarget, tagOfPart, IT, TS, TG, TI, valBytes, targetBytes, partBytes, formByte, sheetBytes, is, targetAt, seriesAt, partAt, formOf, sheetLimit, unsheet}
+use Rattle.format.specs.Sheet.{Target, Part, one, targets, Sheet, idOfTarget, tagOfPart, PK, IT, TS, TG, TI, valBytes, targetBytes, partBytes, formByte, sheetBytes, is, targetAt, seriesAt, partAt, formOf, sheetLimit, unsheet}
 use Rattle.format.specs.Valid.{Together, Begins, TargetValid, PartValid, SheetValid}
 use Rattle.format.proofs.words.Answers.{never, no-bool, bind-then, need-then, after-then, after-need-then, ok-inj}
 use Rattle.format.proofs.words.Bytes.{bytes-drop, Took}
@@ -187,13 +187,13 @@ part-faithful f seen s r b _ e = part-says f seen s r b e .0
 part-stood : (f : Form) (seen : List ℕ) (p : Part) (w : List ℕ) → Bytes (partBytes p ++ w) → ReadsAt always tagOfPart (partAt f) partBytes seen p w → PartRead f seen p
 part-stood f seen p w b h = part-says f seen (partBytes p ++ w) (got p (length (partBytes p))) b (h .reads) .1
 
-sheet-bytes : (f : Form) (b : List ℕ) (ps : List Part) → is (0x50, 0x4B) b ≡ true → formOf (drop 2 b) ≡ ok f → drop 3 b ≡ flatAll partBytes ps
+sheet-bytes : (f : Form) (b : List ℕ) (ps : List Part) → is PK b ≡ true → formOf (drop 2 b) ≡ ok f → drop 3 b ≡ flatAll partBytes ps
     → sheetBytes (record { form = f; parts = ps }) ≡ b
 unfolding sheetBytes
 sheet-bytes f b ps m ef z =
-    sym (mark-says (0x50, 0x4B) b m ∙ ap (λ x. 0x50 ∷ 0x4B ∷ x) (form-says (drop 2 b) f ef ∙ ap (λ x. formByte f ∷ x) (drop-drop 1 2 b ∙ z)))
+    sym (mark-says PK b m ∙ ap (λ x. PK .0 ∷ PK .1 ∷ x) (form-says (drop 2 b) f ef ∙ ap (λ x. formByte f ∷ x) (drop-drop 1 2 b ∙ z)))
 
-sheet-whole : (f : Form) (b : List ℕ) (ps : Got (List Part)) → Bytes b → length b ≤ 65536 → is (0x50, 0x4B) b ≡ true → formOf (drop 2 b) ≡ ok f
+sheet-whole : (f : Form) (b : List ℕ) (ps : Got (List Part)) → Bytes b → length b ≤ 65536 → is PK b ≡ true → formOf (drop 2 b) ≡ ok f
     → run always tagOfPart (partAt f) (drop 3 b) ≡ ok ps → not (isAlone f) || not (none? (ps .val)) ≡ true
     → (sheetBytes (record { form = f; parts = ps .val }) ≡ b) × SheetValid (record { form = f; parts = ps .val })
 sheet-whole f b ps h l m ef eps some =

@@ -21,16 +21,17 @@ use Rattle.heads.specs.Meet.{itemHeadOf}
 use Rattle.tally.specs.declared.Sizes.{Sizes}
 use Rattle.tally.specs.declared.Walked.{Walked}
 use Rattle.tally.specs.declared.stages.Stage.{Stage}
-use Rattle.tally.specs.declared.Walked.the-variants.{Good}
-use Rattle.tally.specs.Meet.{itemSizes, seriesSizes, plusSizes, seriesWalk, seriesFrom, Small, Within}
-use Rattle.tally.specs.Going.{LevelGoing, stageAt}
+use Rattle.tally.specs.declared.Walked.the-variants.{Good, Bad}
+use Rattle.tally.specs.Meet.{itemSizes, seriesSizes, plusSizes, levelWalk, seriesWalk, seriesFrom, laterBy, Small, Within}
+use Rattle.tally.specs.Going.{LevelGoing, LevelTo, stageAt}
 use Rattle.tally.proofs.Turns.{within-more}
 use Rattle.tally.proofs.Pieces.{piece-within}
-use Rattle.tally.proofs.ItemTurns.{ItemAt, EntryTold, item-told, series-told, good-small, entry-more}
+use Rattle.tally.proofs.ItemTurns.{ItemAt, EntryTold, item-told, series-told, good-small, entry-bad, entry-more}
 use Rattle.tally.proofs.Begins.{begun-later}
 use Rattle.quick_items.proofs.Glances.{met-item}
 use Rattle.tally.proofs.Begins.{or-false}
 use Rattle.check_packet.specs.Meet.{HeadIf}
+use Rattle.check_packet.specs.Sets.{SeriesNext}
 
 -- ---- their values
 
@@ -52,6 +53,9 @@ pub head-if : (s : List ℕ) (p : ℕ) (h : Head) → p < length s → itemHeadO
 head-if s p (heads.Whole k u w n) here e = (here, rw tail-part at e)
 head-if s p (heads.Fault n) here e = tt
 
+pub head-within : (s : List ℕ) (p tag u w n : ℕ) → HeadIf s p (heads.Whole tag u w n) → p + u + w + n ≤ length s
+head-within s p tag u w n h = omega (arith, h .0, length-drop p s, piece-within (drop p s) set (h .1) refl)
+
 pub record HeadAt (f : Form) (s : List ℕ) (p : ℕ) (sum : Sizes) (held : Bool) (top low tag u w n : ℕ) : Type 0 where
   pub going : LevelGoing true f s p sum held top low
   pub it : Head
@@ -65,62 +69,11 @@ module _ {f : Form} {s : List ℕ} {p : ℕ} {sum : Sizes} {held : Bool} {top lo
   head-told = subst (HeadIf s p) (i .is) (i .told)
 
   pub head-room : p + u + w + n ≤ length s
-  head-room = omega (arith, head-told .0, length-drop p s, piece-within (drop p s) set (head-told .1) refl)
+  head-room = head-within s p tag u w n head-told
 
   -- as the head of tag k of m bytes
   head-as : (k m : ℕ) → tag ≡ k → n ≡ m → itemHeadOf (heads.Whole k u w m) ≡ headOf set (drop p s)
   head-as k m et en = rw (← et, ← en) (head-told .1)
-
-  -- ---- it is the series, and y is what was walked of its packs
-
-  module _ (next : (0 < p) × (top < 101) × (0 < n) × (tag ≡ 101)) where
-    series-item : ItemAt true f s p sum held top low 101 (u + w) n n
-    unfolding mayStand
-    series-item = met-item (record {
-      going = i .going;
-      here = head-told .0;
-      meets = record {
-        it = heads.Whole 101 u w n;
-        told = head-as 101 n (next .3) refl;
-        is = refl;
-        some = next .2;
-        stands = refl;
-        allowed = λ v e _. series-value v (omega (arith, e, next .2)) .0;
-        shortest = λ v e _. series-value v (omega (arith, e, next .2)) .1;
-        begins = begun-later true f p 101 (next .0);
-      };
-      new = inr (inl (next .1));
-      bytes = i .bytes;
-      most = i .most;
-    })
-
-    abbrev packs : List ℕ
-    packs = take (p + u + w + n - (p + u + w)) (drop (p + u + w) s)
-
-    pub packs-long : length packs ≡ n
-    packs-long = length-take-le (p + u + w + n - (p + u + w)) (drop (p + u + w) s) (rw length-drop (omega (arith, head-room))) ∙ omega arith
-
-    module _ {y : Walked} (ey : (y ≡ seriesWalk f packs) × Within y (length packs)) {a : Sizes} {m : Bool} (good : y ≡ Good a m) where
-      walked : (y ≡ seriesWalk f (take (p + (u + w) + n - (p + (u + w))) (drop (p + (u + w)) s))) × Within y (length (take (p + (u + w) + n - (p + (u + w))) (drop (p + (u + w)) s)))
-      walked = let e : p + u + w ≡ p + (u + w) = omega arith in rw e at ey
-
-      told-so : EntryTold series-item (Good (seriesSizes a) false)
-      told-so = series-told series-item {x = true} refl refl walked (ap (seriesFrom (u + w)) (sym good))
-
-      small : Small a
-      small = subst (λ x. Within x 65536) good (within-more y (length packs) 65536 (omega (arith, packs-long, head-room, i .most)) (ey .1))
-
-      sums : Small sum × Small (seriesSizes a)
-      sums = good-small series-item told-so refl
-
-      -- what `after_series` asks for, and what it hands back
-      pub series-asks : Small a × Small sum × Small (seriesSizes a)
-      series-asks = (small, sums .0, sums .1)
-
-      pub series-goes : {r : Stage} → (r .low ≤ low) × (r .low ≤ 101) × (r ≡ stageAt (p + u + w + n) (plusSizes sum (seriesSizes a)) held 101 (r .low)) → LevelGoing true f s (r .at) (r .sizes) (r .held) (r .top) (r .low)
-      series-goes (l, m, e) =
-          let n-is : p + u + w + n ≡ p + (u + w) + n = omega arith in
-          rw (e, n-is) (entry-more series-item told-so refl refl (or-false held refl) (omega (arith, next .1), omega arith) (l, m))
 
   -- ---- it is the checksum, and ends the set
 
@@ -156,3 +109,105 @@ module _ {f : Form} {s : List ℕ} {p : ℕ} {sum : Sizes} {held : Bool} {top lo
       seal-more es et =
           let e : p + u + w + n ≡ p + (u + w) + 2 = omega (arith, next .3) in
           rw e (entry-more seal-item seal-told refl (es ∙ ap (plusSizes sum) ez) (or-true held) et (omega (arith, next .1), omega arith))
+
+-- ---- the series after the items that were walked to q
+
+-- as the code finds it
+pub series-next : (s : List ℕ) (p top tag u w n : ℕ) → HeadIf s p (heads.Whole tag u w n) → (0 < p) × (top < 101) × (0 < n) × (tag ≡ 101) → SeriesNext s p top (p + u + w) (p + u + w + n)
+series-next s p top tag u w n h (later, new, some, is) = record {
+  used = u;
+  width = w;
+  size = n;
+  here = h .0;
+  head = rw (← is) (h .1);
+  later = later;
+  new = new;
+  some = some;
+  from-is = refl;
+  next-is = refl;
+}
+
+pub record SeriesAt (f : Form) (s : List ℕ) (q : Stage) (from next : ℕ) : Type 0 where
+  pub going : LevelTo true f s q
+  pub series : SeriesNext s (q .at) (q .top) from next
+  pub bytes : Bytes s
+  pub most : length s ≤ 8192
+
+module _ {f : Form} {s : List ℕ} {q : Stage} {from next : ℕ} (i : SeriesAt f s q from next) where
+  pub series-room : (from ≤ next) × (next ≤ length s)
+  series-room =
+      let j = i .series in
+      let l = head-within s (q .at) 101 (j .used) (j .width) (j .size) (j .here, j .head) in
+      (omega (arith, j .next-is), omega (arith, l, j .from-is, j .next-is))
+
+  series-item : ItemAt true f s (q .at) (q .sizes) (q .held) (q .top) (q .low) 101 (i .series .used + i .series .width) (i .series .size) (i .series .size)
+  unfolding mayStand
+  series-item =
+      let j = i .series in
+      met-item (record {
+        going = i .going;
+        here = j .here;
+        meets = record {
+          it = heads.Whole 101 (j .used) (j .width) (j .size);
+          told = j .head;
+          is = refl;
+          some = j .some;
+          stands = refl;
+          allowed = λ v e _. series-value v (omega (arith, e, j .some)) .0;
+          shortest = λ v e _. series-value v (omega (arith, e, j .some)) .1;
+          begins = begun-later true f (q .at) 101 (j .later);
+        };
+        new = inr (inl (j .new));
+        bytes = i .bytes;
+        most = i .most;
+      })
+
+  abbrev packs : List ℕ
+  packs = take (next - from) (drop from s)
+
+  pub packs-long : length packs ≡ next - from
+  packs-long = length-take-le (next - from) (drop from s) (rw length-drop (omega (arith, series-room)))
+
+  -- y is what was walked of its packs
+  module _ {y : Walked} (ey : (y ≡ seriesWalk f packs) × Within y (length packs)) where
+    walked : (y ≡ seriesWalk f (take (q .at + (i .series .used + i .series .width) + i .series .size - (q .at + (i .series .used + i .series .width))) (drop (q .at + (i .series .used + i .series .width)) s)))
+        × Within y (length (take (q .at + (i .series .used + i .series .width) + i .series .size - (q .at + (i .series .used + i .series .width))) (drop (q .at + (i .series .used + i .series .width)) s)))
+    walked =
+        let j = i .series in
+        let e : from ≡ q .at + (j .used + j .width) = omega (arith, j .from-is) in
+        let n : next ≡ q .at + (j .used + j .width) + j .size = omega (arith, j .from-is, j .next-is) in
+        rw (n, e) at ey
+
+    entry-told : EntryTold series-item (seriesFrom (i .series .used + i .series .width) y)
+    entry-told = series-told series-item {x = true} refl refl walked refl
+
+    within : Within y 65536
+    within = within-more y (length packs) 65536 (omega (arith, packs-long, series-room, i .most)) (ey .1)
+
+    -- it was refused: what `later` asks for, and what it hands back
+    pub refusal-asks : Within y 65536 × (from ≤ 65536)
+    refusal-asks = (within, omega (arith, series-room, i .most))
+
+    pub series-refused : {n p : ℕ} → y ≡ Bad n p → {r : Walked} → r ≡ laterBy from y → (r ≡ levelWalk set f s) × Within r (length s)
+    series-refused {n = n} {p = p} bad {r = r} e =
+        let j = i .series in
+        let o : from + p ≡ q .at + (j .used + j .width + p) = omega (arith, j .from-is) in
+        entry-bad series-item entry-told (ap (seriesFrom (j .used + j .width)) bad)
+        (e ∙ ap (laterBy from) bad ∙ ap (Bad n) o ∙ sym (ap (λ x. laterBy (q .at) (seriesFrom (j .used + j .width) x)) bad))
+
+    module _ {a : Sizes} {m : Bool} (good : y ≡ Good a m) where
+      told-so : EntryTold series-item (Good (seriesSizes a) false)
+      told-so = series-told series-item {x = true} refl refl walked (ap (seriesFrom (i .series .used + i .series .width)) (sym good))
+
+      sums : Small (q .sizes) × Small (seriesSizes a)
+      sums = good-small series-item told-so refl
+
+      -- what `after_series` asks for, and what it hands back
+      pub series-asks : Small a × Small (q .sizes) × Small (seriesSizes a)
+      series-asks = (subst (λ x. Within x 65536) good within, sums .0, sums .1)
+
+      pub series-goes : {r : Stage} → (r .low ≤ q .low) × (r .low ≤ 101) × (r ≡ stageAt next (plusSizes (q .sizes) (seriesSizes a)) (q .held) 101 (r .low)) → LevelTo true f s r
+      series-goes (l, m, e) =
+          let j = i .series in
+          let n-is : next ≡ q .at + (j .used + j .width) + j .size = omega (arith, j .from-is, j .next-is) in
+          rw (e, n-is) (entry-more series-item told-so refl refl (or-false (q .held) refl) (omega (arith, j .new), omega arith) (l, m))

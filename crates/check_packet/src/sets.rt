@@ -1,4 +1,5 @@
-// The set of a packet: the quick ways over its items, its series and its checksum, and the walks over what is left.
+// The set of a packet: the quick ways over its items, its series and its checksum, and the walks over what is left. What the quick ways do not
+// know, the packs or the items from there on, goes by the walks, and whatever was walked is walked once.
 ghost use mathlib.Core.Path.{_≡_};
 ghost use Prim.Native.Nat.{_≤_, _<_};
 ghost use mathlib.Core.Bool.{true};
@@ -6,8 +7,9 @@ ghost use lib.ListN.{length};
 ghost use Rattle.format.specs.Table.{set};
 ghost use Rattle.items.specs.Meet.{formOf, glanceTable};
 ghost use Rattle.tally.specs.Meet.{levelWalk, seriesWalk, Within};
-ghost use Rattle.tally.specs.Going.{LevelGoing, SeriesGoing};
+ghost use Rattle.tally.specs.Going.{LevelTo, SeriesTo};
 ghost use Rattle.check_packet.specs.Meet.{HeadIf};
+ghost use Rattle.check_packet.specs.Sets.{SeriesNext, SeriesAsked};
 use heads::Head;
 use tally::Walked;
 use tally::stages;
@@ -42,23 +44,17 @@ fn is_series_next(p: usize, top: u64, tag: u64, size: usize) -> bool
     tag == 101
 }
 
-// The packs of a series one by one, from where the quick way over them ended.
-fn packs_rest(glances: &[u32], s: &[u8], alone: bool, q: Stage) -> Walked
-    requires { ⌜ (now glances ≡ glanceTable) × (length (now s) ≤ 8192) × SeriesGoing (formOf alone) (now s) (q .at) (q .sizes) (q .top) (q .low) ⌝ }
-    ensures { λ r. ⌜ (r ≡ seriesWalk (formOf alone) (now (s .entry))) × Within r (length (now (s .entry))) ⌝ }
-{
-    let table = items::table();
-    // lent on as a part, so that the compiler keeps the slice itself in registers
-    let mut bits = [0u64; 64];
-    check_items::pack_walk(&table, glances, &s[0..], alone, q, &mut bits)
+// Where the packs of the series begin and end.
+struct Part {
+    from: usize,
+    next: usize,
 }
 
-// On over the series, if it stands next. A refusal in it is left to the item walk, and so is a lone pack that is not told at a glance.
-fn series(glances: &[u32], s: &[u8], alone: bool, q: Stage) -> Stage
-    requires { ⌜ (now glances ≡ glanceTable) × (length (now s) ≤ 8192) × LevelGoing true (formOf alone) (now s) (q .at) (q .sizes) (q .held) (q .top) (q .low) ⌝ }
-    ensures { λ r. ⌜ LevelGoing true (formOf alone) (now (s .entry)) (r .at) (r .sizes) (r .held) (r .top) (r .low) ⌝ }
+// Those of the series, if it stands at p, told to be new; else from 0 to 0.
+fn series_at(s: &[u8], p: usize, top: u64) -> Part
+    requires { ⌜ length (now s) ≤ 8192 ⌝ }
+    ensures { λ r. ⌜ (0 < r .from → SeriesNext (now (s .entry)) p top (r .from) (r .next)) ⌝ }
 {
-    let p = q.at;
     let h = head_at(s, p, 101);
     let Head::Whole {
         key,
@@ -67,31 +63,38 @@ fn series(glances: &[u32], s: &[u8], alone: bool, q: Stage) -> Stage
         size,
     } = h
     else {
-        return q;
+        return Part { from: 0, next: 0 };
     };
-    if !is_series_next(p, q.top, key, size) {
-        return q;
+    if !is_series_next(p, top, key, size) {
+        return Part { from: 0, next: 0 };
     }
     let from = p + used + width;
-    let next = from + size;
-    let packs = &s[from..next];
-    if quick_packs::is_lone(packs) {
-        let one = quick_packs::lone(glances, packs, alone);
-        if one.at == packs.len() {
-            return stages::after_series(q, next, one.sizes);
-        }
-        return q;
+    Part {
+        from,
+        next: from + size,
     }
-    let d = quick_packs::packs(glances, packs, alone);
-    // no enum goes through memory where all are told at a glance
-    if d.at == packs.len() {
-        return stages::after_series(q, next, d.sizes);
+}
+
+// The packs told at a glance, from a series' start. One alone needs no model.
+fn glance_packs(glances: &[u32], s: &[u8], alone: bool) -> Stage
+    requires { ⌜ (now glances ≡ glanceTable) × (length (now s) ≤ 8192) ⌝ }
+    ensures { λ r. ⌜ SeriesTo (formOf alone) (now (s .entry)) r ⌝ }
+{
+    if quick_packs::is_lone(s) {
+        return quick_packs::lone(glances, s, alone);
     }
-    let w = packs_rest(glances, packs, alone, d);
-    let Walked::Good { sizes, held: _ } = w else {
-        return q;
-    };
-    stages::after_series(q, next, sizes)
+    quick_packs::packs(glances, s, alone)
+}
+
+// The packs of a series one by one, from where the quick way over them ended.
+fn packs_rest(glances: &[u32], s: &[u8], alone: bool, q: Stage) -> Walked
+    requires { ⌜ (now glances ≡ glanceTable) × (length (now s) ≤ 8192) × SeriesTo (formOf alone) (now s) q ⌝ }
+    ensures { λ r. ⌜ (r ≡ seriesWalk (formOf alone) (now (s .entry))) × Within r (length (now (s .entry))) ⌝ }
+{
+    let table = items::table();
+    // lent on as a part, so that the compiler keeps the slice itself in registers
+    let mut bits = [0u64; 64];
+    check_items::pack_walk(&table, glances, &s[0..], alone, q, &mut bits)
 }
 
 // Whether a tag and a length are the checksum's, where it may stand, and the tag is told to be new.
@@ -118,8 +121,8 @@ fn is_seal_next(alone: bool, p: usize, low: u64, tag: u64, size: usize, last: bo
 
 // On over the checksum, if it stands next.
 fn seal(s: &[u8], alone: bool, q: Stage) -> Stage
-    requires { ⌜ (length (now s) ≤ 8192) × LevelGoing true (formOf alone) (now s) (q .at) (q .sizes) (q .held) (q .top) (q .low) ⌝ }
-    ensures { λ r. ⌜ LevelGoing true (formOf alone) (now (s .entry)) (r .at) (r .sizes) (r .held) (r .top) (r .low) ⌝ }
+    requires { ⌜ (length (now s) ≤ 8192) × LevelTo true (formOf alone) (now s) q ⌝ }
+    ensures { λ r. ⌜ LevelTo true (formOf alone) (now (s .entry)) r ⌝ }
 {
     let p = q.at;
     let h = head_at(s, p, 1);
@@ -142,7 +145,7 @@ fn seal(s: &[u8], alone: bool, q: Stage) -> Stage
 
 // The rest of the set, from where the quick way ended: its checksum, or whatever is left, one by one.
 fn set_rest(glances: &[u32], s: &[u8], alone: bool, from: Stage) -> Walked
-    requires { ⌜ (now glances ≡ glanceTable) × (length (now s) ≤ 8192) × LevelGoing true (formOf alone) (now s) (from .at) (from .sizes) (from .held) (from .top) (from .low) ⌝ }
+    requires { ⌜ (now glances ≡ glanceTable) × (length (now s) ≤ 8192) × LevelTo true (formOf alone) (now s) from ⌝ }
     ensures { λ r. ⌜ (r ≡ levelWalk set (formOf alone) (now (s .entry))) × Within r (length (now (s .entry))) ⌝ }
 {
     let q = seal(s, alone, from);
@@ -154,17 +157,38 @@ fn set_rest(glances: &[u32], s: &[u8], alone: bool, from: Stage) -> Walked
     check_items::item_rest(&table, glances, s, true, alone, q, &mut bits)
 }
 
+// The rest of the set from its series on, where the quick way came to d in that. A refusal in the series is the set's.
+fn series_rest(glances: &[u32], s: &[u8], alone: bool, q: Stage, part: Part, d: Stage) -> Walked
+    requires { ⌜ SeriesAsked (now glances) (formOf alone) (now s) q (part .from) (part .next) d ⌝ }
+    ensures { λ r. ⌜ (r ≡ levelWalk set (formOf alone) (now (s .entry))) × Within r (length (now (s .entry))) ⌝ }
+{
+    let from = part.from;
+    let next = part.next;
+    let w = packs_rest(glances, &s[from..next], alone, d);
+    let Walked::Good { sizes, held: _ } = w else {
+        return tally::later(w, from);
+    };
+    set_rest(glances, s, alone, stages::after_series(q, next, sizes))
+}
+
 // The items of the set. An embedded one often ends with its series.
 pub fn set_walk(glances: &[u32], s: &[u8], alone: bool) -> Walked
     requires { ⌜ (now glances ≡ glanceTable) × (length (now s) ≤ 8192) ⌝ }
     ensures { λ r. ⌜ (r ≡ levelWalk set (formOf alone) (now (s .entry))) × Within r (length (now (s .entry))) ⌝ }
 {
-    let q = series(
-        glances,
-        s,
-        alone,
-        quick_items::glance_items(glances, s, true, alone),
-    );
+    let mut q = quick_items::glance_items(glances, s, true, alone);
+    let part = series_at(s, q.at, q.top);
+    let from = part.from;
+    if from != 0 {
+        let next = part.next;
+        let packs = &s[from..next];
+        let d = glance_packs(glances, packs, alone);
+        // no enum goes through memory where all are told at a glance
+        if d.at != packs.len() {
+            return series_rest(glances, &s[0..], alone, q, part, d);
+        }
+        q = stages::after_series(q, next, d.sizes);
+    }
     if q.at == s.len() {
         return stages::walked(q);
     }

@@ -1,6 +1,7 @@
 -- `sets::seal` meets its contract: the turn over the checksum is a turn of the item walk. `a` is where its head was read.
 use mathlib.Core.Path.{ap}
-use Prim.Native.Nat.{_+_, _≤_}
+use mathlib.Core.List.{List}
+use Prim.Native.Nat.{ℕ, _+_, _≤_}
 use native.Mathlib.Omega.{arith}
 use lib.ListN.{length}
 use borrow.Author.Needs.{needs}
@@ -19,22 +20,57 @@ use Rattle.check_packet.proofs.sets.is_seal_next.Reads as is-seal-next-
 use Rattle.tally.proofs.weights.plain_sizes.Reads as plain-sizes-reads
 use Rattle.tally.proofs.weights.plus.Reads as plus-reads
 
-abbrev Head-read : Type 0
-Head-read = lts.After-h (head-at-reads.Asked, head-at-reads.Learnt, is-seal-next-reads.Asked, is-seal-next-reads.Learnt, plain-sizes-reads.Asked, plain-sizes-reads.Learnt, plus-reads.Asked, plus-reads.Learnt, larger-reads.Asked, larger-reads.Learnt, stage-at-reads.Asked, stage-at-reads.Learnt) reads.Pre reads.Post
+abbrev claims : lts.Claims
+claims = (
+  head-at-reads.Asked,
+  head-at-reads.Learnt,
+  is-seal-next-reads.Asked,
+  is-seal-next-reads.Learnt,
+  plain-sizes-reads.Asked,
+  plain-sizes-reads.Learnt,
+  plus-reads.Asked,
+  plus-reads.Learnt,
+  larger-reads.Asked,
+  larger-reads.Learnt,
+  stage-at-reads.Asked,
+  stage-at-reads.Learnt,
+)
 
-here : (a : Head-read) → HeadAt (formOf (a .before .before .before .before .args .alone)) (a .before .before .before .before .args .s .now) (a .before .before .before .before .args .q .at) (a .before .before .before .before .args .q .sizes) (a .before .before .before .before .args .q .held) (a .before .before .before .before .args .q .top) (a .before .before .before .before .args .q .low) (a .h .given .0 .0) (a .h .given .0 .1 .0) (a .h .given .0 .1 .1 .0) (a .h .given .0 .1 .1 .1 .0)
+abbrev Head-read : Type 0
+Head-read = lts.After-h claims reads.Pre reads.Post
+
+abbrev start : Head-read → lts.Start claims reads.Pre reads.Post
+start a = a .before .before .before .before
+
+abbrev lent : Head-read → List ℕ
+lent a = start a .args .s .now
+
+abbrev tag : Head-read → ℕ
+tag a = a .h .given .0 .0
+
+abbrev used : Head-read → ℕ
+used a = a .h .given .0 .1 .0
+
+abbrev width : Head-read → ℕ
+width a = a .h .given .0 .1 .1 .0
+
+abbrev size : Head-read → ℕ
+size a = a .h .given .0 .1 .1 .1 .0
+
+here : (a : Head-read)
+    → HeadAt (formOf (start a .args .alone)) (lent a) (start a .args .q .at) (start a .args .q .sizes) (start a .args .q .held) (start a .args .q .top) (start a .args .q .low) (tag a) (used a) (width a) (size a)
 here a = record {
-  going = a .before .before .before .before .pre .1;
+  going = start a .pre .1;
   it = a .before .before .head-at .result;
   told = a .before .before .head-at .ensures;
   is = a .h .given .1;
   bytes = λ i. a .before .before .before .shared-slice-known .given i .fits;
-  most = a .before .before .before .before .pre .0;
+  most = start a .pre .0;
 }
 
 -- it lies within the set
-room : (a : Head-read) → (a .before .before .before .before .args .q .at + a .h .given .0 .1 .0 + a .h .given .0 .1 .1 .0 + a .h .given .0 .1 .1 .1 .0 ≤ length (a .before .before .before .before .args .s .now)) × (length (a .before .before .before .before .args .s .now) ≤ 8192)
-room a = (head-room (here a), a .before .before .before .before .pre .0)
+room : (a : Head-read) → (start a .args .q .at + used a + width a + size a ≤ length (lent a)) × (length (lent a) ≤ 8192)
+room a = (head-room (here a), start a .pre .0)
 
 head-at-requires : tie.Need-head-at-requires
 head-at-requires c κs = search needs
@@ -80,7 +116,10 @@ stage-at-requires c κs = search needs
 returns-3 : tie.Need-returns-3
 returns-3 c =
     let t = c .before .before .before .before .before .is-seal-next .ensures (not-false _ (c .before .before .before .before .if1 .left)) in
-    rw (c .stage-at .ensures) (seal-more (here (c .before .before .before .before .before .before .before)) (ap (λ x. isAlone (formOf x)) (t .0)) (t .1, t .2, t .3, t .4) (eqb-true _ _ (t .5)) (c .before .before .before .plain-sizes .ensures) (c .before .before .plus .ensures) (c .before .larger .ensures .over))
+    let a = c .before .before .before .before .before .before .before in
+    rw (c .stage-at .ensures)
+    (seal-more (here a) (ap (λ x. isAlone (formOf x)) (t .0)) (t .1, t .2, t .3, t .4) (eqb-true _ _ (t .5)) (c .before .before .before .plain-sizes .ensures) (c .before .before .plus .ensures)
+    (c .before .larger .ensures .over))
 
 pub seal-spec : {M : Type 1} → statement M
 seal-spec =

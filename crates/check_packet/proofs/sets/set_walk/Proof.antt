@@ -1,23 +1,121 @@
--- `sets::set_walk` meets its contract: what was walked is all, or the rest follows.
+-- `sets::set_walk` meets its contract: what was walked is all, or the rest follows. `a` is where the series was looked for, and `j` where it was
+-- passed or there was none.
+use mathlib.Core.Path.{refl}
+use mathlib.Core.Bool.{true}
+use mathlib.Core.List.{List}
+use mathlib.Core.Logic.{⊎-elim}
+use Prim.Native.Nat.{ℕ, _<_}
 use native.Mathlib.Omega.{arith}
 use lib.ListN.{length}
-use Rattle.coding.proofs.Rooms.{tail-part}
 use borrow.Author.Needs.{needs}
+use Rattle.coding.proofs.Rooms.{tail-part}
+use Rattle.items.specs.Meet.{formOf}
+use Rattle.tally.specs.Going.{LevelTo}
 use Rattle.tally.proofs.Turns.{turn-done, told-as}
+use Rattle.check_packet.proofs.SetTurns.{SeriesAt, series-room, packs-long, series-asks, series-goes}
 use Rattle.check_packet.proofs.sets.set_walk.Statement.{statement}
 use Rattle.check_packet.proofs.sets.set_walk.Tie as tie
+use Rattle.check_packet.proofs.sets.set_walk.Reads as reads
+use Rattle.check_packet.proofs.sets.set_walk.Lts as lts
+use Rattle.check_packet.proofs.sets.glance_packs.Reads as glance-packs-reads
+use Rattle.check_packet.proofs.sets.series_at.Reads as series-at-reads
+use Rattle.check_packet.proofs.sets.series_rest.Reads as series-rest-reads
+use Rattle.check_packet.proofs.sets.set_rest.Reads as set-rest-reads
+use Rattle.quick_items.proofs.glance_items.Reads as glance-items-reads
+use Rattle.tally.proofs.stages.after_series.Reads as after-series-reads
+use Rattle.tally.proofs.stages.walked.Reads as walked-reads
+
+abbrev claims : lts.Claims
+claims = (
+  glance-items-reads.Asked,
+  glance-items-reads.Learnt,
+  series-at-reads.Asked,
+  series-at-reads.Learnt,
+  glance-packs-reads.Asked,
+  glance-packs-reads.Learnt,
+  series-rest-reads.Asked,
+  series-rest-reads.Learnt,
+  after-series-reads.Asked,
+  after-series-reads.Learnt,
+  walked-reads.Asked,
+  walked-reads.Learnt,
+  set-rest-reads.Asked,
+  set-rest-reads.Learnt,
+)
+
+abbrev Looked : Type 0
+Looked = lts.After-series-at claims reads.Pre reads.Post
+
+abbrev start : Looked → lts.Start claims reads.Pre reads.Post
+start a = a .before .before .before .before
+
+abbrev lent : Looked → List ℕ
+lent a = start a .args .s .now
+
+found : (a : Looked) → 0 < a .series-at .result .from → SeriesAt (formOf (start a .args .alone)) (lent a) (a .before .glance-items .result) (a .series-at .result .from) (a .series-at .result .next)
+found a h = record { going = a .before .glance-items .ensures .0; series = a .series-at .ensures h; bytes = λ i. a .before .before .shared-slice-known2 .given i .fits; most = start a .pre .1 }
+
+-- where it stands
+there : (b : lts.Then1 claims reads.Pre reads.Post) → SeriesAt (formOf (start (b .before) .args .alone)) (lent (b .before)) (b .before .before .glance-items .result) (b .before .series-at .result .from) (b .before .series-at .result .next)
+there b = found (b .before) (omega (arith, b .if1 .taken))
+
+going : (j : lts.Joined1 claims reads.Pre reads.Post) → LevelTo true (formOf (start (j .before) .args .alone)) (lent (j .before)) (j .if1 .q)
+going j =
+    ⊎-elim
+    (λ x. rw (x .6) (series-goes (found (j .before) (omega (arith, x .0 .taken))) (turn-done (x .2 .ensures) (omega (arith, x .4 .left))) refl (x .5 .ensures)))
+    (λ x. rw (x .1) (j .before .before .glance-items .ensures .0))
+    (j .if1 .came)
 
 glance-items-requires : tie.Need-glance-items-requires
-glance-items-requires c κs = c .before .before .pre
+glance-items-requires c κs = search needs
 
-series-requires : tie.Need-series-requires
-series-requires c κs = (c .before .before .before .pre .0, c .before .before .before .pre .1, c .glance-items .ensures .0)
+series-at-requires : tie.Need-series-at-requires
+series-at-requires c κs = search needs
+
+sub-packs : tie.Need-sub-packs
+sub-packs c = omega (arith, series-room (there c))
+
+part-packs-start : tie.Need-part-packs-start
+part-packs-start c = omega (arith, series-room (there c))
+
+part-packs-end : tie.Need-part-packs-end
+part-packs-end c = omega (arith, series-room (there c))
+
+glance-packs-requires : tie.Need-glance-packs-requires
+glance-packs-requires c κs =
+    let b = c .before in
+    let (g, l) = start (b .before) .pre in
+    (g, omega (arith, packs-long (there b), series-room (there b), l))
+
+sub-series-rest : tie.Need-sub-series-rest
+sub-series-rest c = search needs
+
+part-series-rest-start : tie.Need-part-series-rest-start
+part-series-rest-start c = search needs
+
+part-series-rest-end : tie.Need-part-series-rest-end
+part-series-rest-end c = search needs
+
+series-rest-requires : tie.Need-series-rest-requires
+series-rest-requires c κs =
+    let b = c .before .before .before .before .before in
+    let i = there b in
+    let g = start (b .before) .pre .0 in
+    rw tail-part (record { rows = g; most = i .most; going = i .going; series = i .series; packs = c .before .before .before .glance-packs .ensures })
+
+returns : tie.Need-returns
+returns c = rw tail-part at (c .series-rest .ensures)
+
+after-series-requires : tie.Need-after-series-requires
+after-series-requires c κs = series-asks (there (c .before .before .before .before)) (turn-done (c .before .before .glance-packs .ensures) (omega (arith, c .if2 .left))) refl
 
 walked-requires : tie.Need-walked-requires
 walked-requires c κs = search needs
 
-returns : tie.Need-returns
-returns c = told-as (length (c .before .before .before .before .before .before .before .args .s .now)) (c .walked .ensures) (turn-done (c .before .before .before .series .ensures) (omega (arith, c .before .if1 .taken)))
+returns-2 : tie.Need-returns-2
+returns-2 c =
+    let j = c .before .before .before in
+    told-as (length (lent (j .before))) (c .walked .ensures) (turn-done (going j) (omega (arith, c .before .if3 .taken)))
 
 sub-set-rest : tie.Need-sub-set-rest
 sub-set-rest c = search needs
@@ -29,21 +127,34 @@ part-set-rest-end : tie.Need-part-set-rest-end
 part-set-rest-end c = search needs
 
 set-rest-requires : tie.Need-set-rest-requires
-set-rest-requires c κs = (c .before .before .before .before .before .before .before .pre .0, rw tail-part (c .before .before .before .before .before .before .before .pre .1), rw tail-part (c .before .before .before .series .ensures))
+set-rest-requires c κs =
+    let j = c .before .before .before in
+    let (g, l) = start (j .before) .pre in
+    (g, rw tail-part l, rw tail-part (going j))
 
-returns-2 : tie.Need-returns-2
-returns-2 c = rw tail-part at (c .set-rest .ensures)
+returns-3 : tie.Need-returns-3
+returns-3 c = rw tail-part at (c .set-rest .ensures)
 
 pub set-walk-spec : {M : Type 1} → statement M
 set-walk-spec =
     tie.close
     (tie.spec
     glance-items-requires
-    series-requires
-    walked-requires
+    series-at-requires
+    sub-packs
+    part-packs-start
+    part-packs-end
+    glance-packs-requires
+    sub-series-rest
+    part-series-rest-start
+    part-series-rest-end
+    series-rest-requires
     returns
+    after-series-requires
+    walked-requires
+    returns-2
     sub-set-rest
     part-set-rest-start
     part-set-rest-end
     set-rest-requires
-    returns-2)
+    returns-3)

@@ -29,7 +29,8 @@ pub fn short_size(
         return v.len();
     }
     let table = items::table();
-    store_coded::short_of(&table, set, tag, v)
+    let rule = items::rule_of(&table, set, tag);
+    items::short_size(rule, v)
 }
 
 // The bytes of the item that is put, with so many of the value; none for a removal.

@@ -12,11 +12,11 @@ use borrow.Author.Tests.{ltb-true, leb-true, lt-ltb, le-ltb, le-leb, eqb-true, e
 use Rattle.format.specs.Answer.{Ans, ok, need}
 use Rattle.format.specs.Coding.{bytesNumber}
 use Rattle.format.specs.Lists.{has}
-use Rattle.format.specs.Table.{Form, isAlone, Level, set, pack, isSet, Kind, bytes, num, pixel, Rule, unlisted, rules, find, ruleOf, mayStand, sized, notPixel, isNumber, valued, strip, short}
+use Rattle.format.specs.Table.{Form, isAlone, Level, set, pack, isSet, Kind, bytes, num, pixel, Rule, unlisted, rules, find, ruleOf, nameable, mayStand, sized, notPixel, isNumber, valued, strip, short}
 use Rattle.format.proofs.words.Answers.{no-bool, and-both}
-use Rattle.items.specs.Meet.{levelOf, formOf, glanceTable, offsets, zeros}
-use Rattle.items.specs.Quick.{bit, mostTag, rowsFrom, leastRow, rowTells, beyond, As, Glanced}
-use Rattle.items.proofs.Rows.{set-over, pack-over}
+use Rattle.items.specs.Meet.{levelOf, formOf, mostTag, rowsFrom, glanceRow, glanceTable, offsets, zeros}
+use Rattle.items.specs.Quick.{bit, leastRow, rowTells, beyond, As, Glanced}
+use Rattle.items.proofs.Rows.{small, glance-from, rule-over}
 use Rattle.items.proofs.Tests.{need-so, zeros-some, offset-over}
 
 -- ---- for each number below k
@@ -37,8 +37,8 @@ below-at (suc k) p h i l =
 
 -- ---- the table's bits
 
-abbrev pub rowAt : Bool → ℕ → ℕ
-rowAt b tag = getD glanceTable (rowsFrom b + tag) 0
+abbrev rowAt : Bool → ℕ → ℕ
+rowAt b tag = glanceRow (levelOf b) tag (ruleOf (levelOf b) tag)
 
 -- a length whose bit is set in a row that is not below the least is allowed, by a rule for bytes unless the uppermost bit is set too; and its tag may
 -- stand, and is not the set's checksum
@@ -48,7 +48,7 @@ right l f least row tag n =
     || (ltb 0 n && (sized (ruleOf l tag) n && ((ltb 0 (row / 2 ^ 31) || not (isNumber (ruleOf l tag .kind))) && (mayStand l f tag false && not (isSet l && eqb tag 1)))))
 
 bits-right : (b a : Bool) → below (suc (mostTag b)) (λ tag. below 30 λ n. right (levelOf b) (formOf a) (leastRow a) (rowAt b tag) tag n) ≡ true
-unfolding glanceTable ruleOf rules find sized mayStand has
+unfolding ruleOf rules find nameable sized mayStand has
 bits-right true true = refl
 bits-right true false = refl
 bits-right false true = refl
@@ -192,26 +192,13 @@ module _ (b a : Bool) (tag n first : ℕ) (small : tag ≤ mostTag b) (high : le
     },
   )
 
-pub glances-long : (t : List ℕ) → t ≡ glanceTable → length t ≡ 37
-unfolding glanceTable
-glances-long t e = ap length e
-
--- m and y are what the code has for the greatest tag and for the first row
-module _ (b : Bool) (tag : ℕ) {m : ℕ} (em : m ≡ mostTag b) (few : tag ≤ m) {y : ℕ} (ey : y ≡ rowsFrom b) where
-  small : tag ≤ mostTag b
-  small = rw em at few
-
-  pub row-in : y + tag < 37
-  row-in = rw ey (go b small)
-    where
-      go : (b : Bool) → tag ≤ mostTag b → rowsFrom b + tag < 37
-      go true h = omega arith
-      go false h = omega arith
-
-  -- and x for the least row
-  pub quick-from : (a : Bool) {x : ℕ} → x ≡ leastRow a → (table : List ℕ) → table ≡ glanceTable → x ≤ getD table (y + tag) 0 → (n first : ℕ) {r : Bool} → r ≡ rowTells (getD table (y + tag) 0) n first → r ≡ true
-      → (tag < 128) × (n < 128) × Glanced (levelOf b) (formOf a) tag n first
-  quick-from a ex table et high n first eg r = glanced-quick b a tag n first small (rw (ex, et, ey) at high) (sym (rw (et, ey) at eg) ∙ r)
+-- m, y and x are what the code has for the greatest tag, for the first row and for the least
+pub quick-from : (b : Bool) (tag : ℕ) {m : ℕ} → m ≡ mostTag b → tag ≤ m → {y : ℕ} → y ≡ rowsFrom b → (a : Bool) {x : ℕ} → x ≡ leastRow a
+    → {t : List ℕ} → t ≡ glanceTable → x ≤ getD t (y + tag) 0 → {n first : ℕ} {r : Bool} → r ≡ rowTells (getD t (y + tag) 0) n first → r ≡ true
+    → (tag < 128) × (n < 128) × Glanced (levelOf b) (formOf a) tag n first
+quick-from b tag em few ey a ex et high {n} {first} eg r =
+    let e = glance-from b tag em few ey et in
+    glanced-quick b a tag n first (small b tag em few ey) (rw (ex, e) at high) (sym (rw e at eg) ∙ r)
 
 -- ---- the code's tests, one after the other
 
@@ -261,10 +248,10 @@ quick-beyond true f tag n first h some =
     let (a, c) = and-both (ltb 12 tag) (not (eqb tag 101)) h in
     let l = ltb-true 12 tag a in
     let one : eqb tag 1 ≡ false = ne-eqb tag 1 λ e. omega (arith, l, e) in
-    beyond-quick set f tag n first (set-over tag (omega (arith, l))) some (not-true _ c) one λ last. rw one
+    beyond-quick set f tag n first (rule-over true tag l) some (not-true _ c) one λ last. rw one
 quick-beyond false f tag n first h some =
     let l = ltb-true 23 tag h in
-    beyond-quick pack f tag n first (pack-over tag (omega (arith, l))) some refl refl λ last. offset-beyond f tag (omega (arith, l))
+    beyond-quick pack f tag n first (rule-over false tag l) some refl refl λ last. offset-beyond f tag (omega (arith, l))
 
 -- x is what the code says of such a tag
 pub quick-other : (b : Bool) (f : Form) (tag n first : ℕ) {x : Bool} → (x ≡ true → (tag < 128) × (n < 128) × (0 < n) × (beyond b tag ≡ true)) → x ≡ true → (tag < 128) × (n < 128) × Glanced (levelOf b) f tag n first

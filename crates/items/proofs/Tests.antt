@@ -13,9 +13,9 @@ use borrow.Author.Tests.{ltb-true, ltb-false, lt-ltb, le-leb, lt-leb, eq-eqb, ne
 use Rattle.format.specs.Answer.{Ans, ok, refused, _>>=_, need}
 use Rattle.format.specs.Coding.{bytesNumber, number}
 use Rattle.format.specs.Lists.{has, none?}
-use Rattle.format.specs.Table.{Form, isAlone, isSet, Level, mayStand, mayBegin, standing, sized, valued, notPixel, isNumber, strip, short}
+use Rattle.format.specs.Table.{Form, isAlone, isSet, Level, Rule, mayStand, mayBegin, standing, sized, valued, notPixel, isNumber, strip, short}
 use Rattle.items.specs.declared.Rule as declared
-use Rattle.items.specs.Meet.{offsets, rowRule, ruleFrom, zeros}
+use Rattle.items.specs.Meet.{offsets, kindBy, mostFrom, gapFrom, ruleFrom, zeros}
 
 -- ---- do-blocks that go on, or stop
 
@@ -136,69 +136,49 @@ zeros-all (suc b ∷ s) h = absurd (omega arith)
 
 -- ---- 11: by the kind
 
-pub sized-any : (k a b n : ℕ) → k ≡ 0 → ltb 0 n ≡ sized (rowRule k a b) n
-unfolding sized
-sized-any k a b n e = go (ltb 0 n) refl
-  where
-    go : (t : Bool) → ltb 0 n ≡ t → ltb 0 n ≡ sized (rowRule k a b) n
-    go true z = z ∙ sym (rw (e, le-leb 1 n (ltb-true 0 n z), eq-eqb ((n - 1) % 1) 0 (mod-one (n - 1))))
-    go false z = let y : n ≡ 0 = omega (arith, ltb-false 0 n z) in rw (e, y)
+module _ (r : declared.Rule) (n : ℕ) where
+  pub sized-under : n < r .least → false ≡ sized (ruleFrom r) n
+  unfolding sized
+  sized-under g = rw (lt-leb (r .least) n g)
 
--- a row that is listed
-abbrev gapOf : ℕ → ℕ
-gapOf zero = 1
-gapOf (suc zero) = 1
-gapOf (suc (suc zero)) = 1
-gapOf (suc (suc (suc zero))) = 1
-gapOf (suc (suc (suc (suc k)))) = 6
+  module _ (g : r .least ≤ n) where
+    -- however many
+    pub sized-any : r .kind ≡ 0 → true ≡ sized (ruleFrom r) n
+    unfolding sized
+    sized-any e = rw (le-leb (r .least) n g, e, eq-eqb ((n - r .least) % 1) 0 (mod-one (n - r .least)))
 
-listed : (k a b n : ℕ) → (k ≡ 0 → ⊥) → sized (rowRule k a b) n ≡ (leb a n && leb n b && eqb ((n - a) % gapOf k) 0)
-unfolding sized
-listed zero a b n h = absurd (h refl)
-listed (suc zero) a b n h = refl
-listed (suc (suc zero)) a b n h = refl
-listed (suc (suc (suc zero))) a b n h = refl
-listed (suc (suc (suc (suc k)))) a b n h = refl
+    module _ (h : r .kind ≡ 0 → ⊥) where
+      listed : sized (ruleFrom r) n ≡ (leb n (r .most) && eqb ((n - r .least) % gapFrom (r .kind)) 0)
+      unfolding sized
+      listed = rw (le-leb (r .least) n g, ne-eqb (r .kind) 0 h, mostFrom)
 
-gap-one : (k : ℕ) → k < 4 → gapOf k ≡ 1
-gap-one zero h = refl
-gap-one (suc zero) h = refl
-gap-one (suc (suc zero)) h = refl
-gap-one (suc (suc (suc zero))) h = refl
-gap-one (suc (suc (suc (suc k)))) h = absurd (omega arith)
+      pub sized-over : r .most < n → false ≡ sized (ruleFrom r) n
+      sized-over q = sym (listed ∙ rw (lt-leb n (r .most) q))
 
-gap-six : (k : ℕ) → 4 ≤ k → gapOf k ≡ 6
-gap-six zero h = absurd (omega arith)
-gap-six (suc zero) h = absurd (omega arith)
-gap-six (suc (suc zero)) h = absurd (omega arith)
-gap-six (suc (suc (suc zero))) h = absurd (omega arith)
-gap-six (suc (suc (suc (suc k)))) h = refl
+      pub sized-six : n ≤ r .most → r .kind ≡ 4 → eqb ((n - r .least) % 6) 0 ≡ sized (ruleFrom r) n
+      sized-six q z = sym (listed ∙ rw (le-leb n (r .most) q, z))
 
-module _ (k a b n : ℕ) (h : k ≡ 0 → ⊥) where
-  pub sized-under : n < a → false ≡ sized (rowRule k a b) n
-  sized-under g = sym (listed k a b n h ∙ rw (lt-leb a n g))
-
-  module _ (g : a ≤ n) where
-    pub sized-over : b < n → false ≡ sized (rowRule k a b) n
-    sized-over q = sym (listed k a b n h ∙ rw (le-leb a n g, lt-leb n b q))
-
-    pub sized-plain : n ≤ b → k < 4 → true ≡ sized (rowRule k a b) n
-    sized-plain q z = sym (listed k a b n h ∙ rw (le-leb a n g, le-leb n b q, gap-one k z, eq-eqb ((n - a) % 1) 0 (mod-one (n - a))))
-
-    pub sized-six : n ≤ b → 4 ≤ k → eqb ((n - a) % 6) 0 ≡ sized (rowRule k a b) n
-    sized-six q z = sym (listed k a b n h ∙ rw (le-leb a n g, le-leb n b q, gap-six k z))
+      pub sized-plain : n ≤ r .most → (r .kind ≡ 4 → ⊥) → true ≡ sized (ruleFrom r) n
+      sized-plain q z = sym (listed ∙ rw (le-leb n (r .most) q, ne-eqb (r .kind) 4 z, gapFrom) (eq-eqb ((n - r .least) % 1) 0 (mod-one (n - r .least))))
 
 -- ---- 12
 
-kind-pixel : (k a b : ℕ) → k ≡ 3 → notPixel (rowRule k a b .kind) ≡ false
-kind-pixel k a b e = rw e
+pub number-kind : (k : ℕ) → k ≡ 2 → true ≡ isNumber (kindBy (eqb k 2) (eqb k 3))
+number-kind k e = rw e
 
-kind-other : (k a b : ℕ) → (k ≡ 3 → ⊥) → notPixel (rowRule k a b .kind) ≡ true
-kind-other zero a b h = refl
-kind-other (suc zero) a b h = refl
-kind-other (suc (suc zero)) a b h = refl
-kind-other (suc (suc (suc zero))) a b h = absurd (h refl)
-kind-other (suc (suc (suc (suc k)))) a b h = refl
+pub pixel-kind : (k : ℕ) → (k ≡ 2 → ⊥) → eqb k 3 ≡ isNumber (kindBy (eqb k 2) (eqb k 3))
+pixel-kind k h = rw (ne-eqb k 2 h) (go (eqb k 3))
+  where
+    go : (x : Bool) → x ≡ isNumber (kindBy false x)
+    go true = refl
+    go false = refl
+
+kind-other : (k : ℕ) → (k ≡ 3 → ⊥) → notPixel (kindBy (eqb k 2) (eqb k 3)) ≡ true
+kind-other k h = rw (ne-eqb k 3 h) (go (eqb k 2))
+  where
+    go : (x : Bool) → notPixel (kindBy x false) ≡ true
+    go true = refl
+    go false = refl
 
 module _ (r : declared.Rule) (v : List ℕ) where
   pub valued-11 : false ≡ sized (ruleFrom r) (length v) → refused 11 0 ≡ valued (ruleFrom r) v
@@ -210,17 +190,20 @@ module _ (r : declared.Rule) (v : List ℕ) where
     unfolding valued
     whole = sym (need-so _ _ _ (sym q))
 
-    pub valued-12 : r .1 ≡ 3 → (z : ℕ) → z ≡ zeros v → z ≡ length v → refused 12 0 ≡ valued (ruleFrom r) v
-    unfolding need
-    valued-12 k z ez h = rw (kind-pixel (r .1) (r .2) (r .3) k, zeros-all v (sym ez ∙ h)) at whole
+    pixel : r .kind ≡ 3 → need (ltb 0 (bytesNumber v)) 12 ≡ valued (ruleFrom r) v
+    pixel k = ap (λ x. need (notPixel (kindBy (eqb x 2) (eqb x 3)) || ltb 0 (bytesNumber v)) 12) (sym k) ∙ whole
 
-    pub valued-some : r .1 ≡ 3 → (z : ℕ) → z ≡ zeros v → (z ≡ length v → ⊥) → ok tt ≡ valued (ruleFrom r) v
+    pub valued-12 : r .kind ≡ 3 → (z : ℕ) → z ≡ zeros v → z ≡ length v → refused 12 0 ≡ valued (ruleFrom r) v
     unfolding need
-    valued-some k z ez h = rw (kind-pixel (r .1) (r .2) (r .3) k, lt-ltb 0 (bytesNumber v) (zeros-some v (λ x. h (ez ∙ x)))) at whole
+    valued-12 k z ez h = rw (zeros-all v (sym ez ∙ h)) at (pixel k)
 
-    pub valued-0 : (r .1 ≡ 3 → ⊥) → ok tt ≡ valued (ruleFrom r) v
+    pub valued-some : r .kind ≡ 3 → (z : ℕ) → z ≡ zeros v → (z ≡ length v → ⊥) → ok tt ≡ valued (ruleFrom r) v
     unfolding need
-    valued-0 k = rw (kind-other (r .1) (r .2) (r .3) k) at whole
+    valued-some k z ez h = rw (lt-ltb 0 (bytesNumber v) (zeros-some v (λ x. h (ez ∙ x)))) at (pixel k)
+
+    pub valued-0 : (r .kind ≡ 3 → ⊥) → ok tt ≡ valued (ruleFrom r) v
+    unfolding need
+    valued-0 k = rw (kind-other (r .kind) k) at whole
 
 -- ---- the shortest form
 
@@ -238,41 +221,18 @@ strip-one (suc b ∷ s) g h = absurd (omega arith)
 strip-one (zero ∷ []) g h = refl
 strip-one (zero ∷ b ∷ s) g h = strip-one (b ∷ s) (omega arith) (omega arith)
 
-kind-bytes : (k a b : ℕ) → k < 2 → isNumber (rowRule k a b .kind) ≡ false
-kind-bytes zero a b h = refl
-kind-bytes (suc zero) a b h = refl
-kind-bytes (suc (suc k)) a b h = absurd (omega arith)
-
-kind-location : (k a b : ℕ) → 3 < k → isNumber (rowRule k a b .kind) ≡ false
-kind-location zero a b h = absurd (omega arith)
-kind-location (suc zero) a b h = absurd (omega arith)
-kind-location (suc (suc zero)) a b h = absurd (omega arith)
-kind-location (suc (suc (suc zero))) a b h = absurd (omega arith)
-kind-location (suc (suc (suc (suc k)))) a b h = refl
-
-kind-number : (k a b : ℕ) → 2 ≤ k → k ≤ 3 → isNumber (rowRule k a b .kind) ≡ true
-kind-number zero a b h g = absurd (omega arith)
-kind-number (suc zero) a b h g = absurd (omega arith)
-kind-number (suc (suc zero)) a b h g = refl
-kind-number (suc (suc (suc zero))) a b h g = refl
-kind-number (suc (suc (suc (suc k)))) a b h g = absurd (omega arith)
-
-module _ (r : declared.Rule) (v : List ℕ) where
-  pub short-bytes : r .1 < 2 → length v ≡ length (short (ruleFrom r) v)
+module _ (r : Rule) (v : List ℕ) where
+  pub short-whole : false ≡ isNumber (r .kind) → length v ≡ length (short r v)
   unfolding short
-  short-bytes h = rw (kind-bytes (r .1) (r .2) (r .3) h, short)
+  short-whole e = rw (← e, short)
 
-  pub short-location : 3 < r .1 → length v ≡ length (short (ruleFrom r) v)
-  unfolding short
-  short-location h = rw (kind-location (r .1) (r .2) (r .3) h, short)
-
-  module _ (h : 2 ≤ r .1) (g : r .1 ≤ 3) (z : ℕ) (e : z ≡ zeros v) where
-    stripped : short (ruleFrom r) v ≡ strip v
+  module _ (e : true ≡ isNumber (r .kind)) (z : ℕ) (ez : z ≡ zeros v) where
+    stripped : short r v ≡ strip v
     unfolding short
-    stripped = rw (kind-number (r .1) (r .2) (r .3) h g, short)
+    stripped = rw (← e, short)
 
-    pub short-some : z < length v → length v - z ≡ length (short (ruleFrom r) v)
-    short-some q = sym (ap length stripped ∙ strip-length v (omega arith) ∙ rw e)
+    pub short-some : z < length v → length v - z ≡ length (short r v)
+    short-some q = sym (ap length stripped ∙ strip-length v (omega arith) ∙ rw ez)
 
-    pub short-none : 0 < length v → length v ≤ z → 1 ≡ length (short (ruleFrom r) v)
+    pub short-none : 0 < length v → length v ≤ z → 1 ≡ length (short r v)
     short-none p q = sym (ap length stripped ∙ strip-one v p (omega arith))

@@ -1,10 +1,10 @@
 -- Where the code of items meets document 01: what its numbers and rows mean.
 use Prim.Native.Nat.{ℕ, zero, suc, _+_, _*_, _/_, _%_, _^_}
 use mathlib.Core.Bool.{Bool, true, false}
-use mathlib.Core.List.{List, [], _∷_}
-use lib.ListN.{length}
+use mathlib.Core.List.{List, [], _∷_, _++_}
+use lib.Dec.{eqb}
 use Rattle.format.specs.Answer.{Ans, ok, refused}
-use Rattle.format.specs.Table.{Form, embedded, standalone, Level, set, pack, bytes, num, pixel, upTo, Rule, unlisted, ruleOf, short}
+use Rattle.format.specs.Table.{Form, embedded, standalone, Level, set, pack, Kind, bytes, num, pixel, Most, upTo, any, Rule, unlisted, ruleOf, nameable, mayStand, isNumber, sized}
 use Rattle.items.specs.declared.Rule as declared
 
 abbrev pub formOf : Bool → Form
@@ -15,45 +15,85 @@ abbrev pub levelOf : Bool → Level
 levelOf true = set
 levelOf false = pack
 
--- a row of the code's table: 0 not listed, 1 bytes, 2 a number, 3 a pixel, 4 a location
+-- ---- the code's tables: a row for each tag, of a pack, then of the set
+
+-- the greatest tag that has a row, and where the rows begin
+abbrev pub mostTag : Bool → ℕ
+mostTag true = 12
+mostTag false = 23
+
+abbrev pub rowsFrom : Bool → ℕ
+rowsFrom true = 24
+rowsFrom false = 0
+
+-- f of n numbers, from k on
+abbrev pub counted : (ℕ → ℕ) → ℕ → ℕ → List ℕ
+counted f k zero = []
+counted f k (suc n) = f k ∷ counted f (suc k) n
+
+abbrev pub rowsBy : (Level → ℕ → ℕ) → List ℕ
+rowsBy f = counted (f pack) 0 (suc (mostTag false)) ++ counted (f set) 0 (suc (mostTag true))
+
+-- ---- the item table
+
+-- the kinds of the code: 0 not listed, 1 bytes, 2 a number, 3 a pixel, 4 a location; by whether it is 2, and whether it is 3
+abbrev pub kindBy : Bool → Bool → Kind
+kindBy true pix = num
+kindBy false true = pixel
+kindBy false false = bytes
+
+abbrev pub mostFrom : ℕ → ℕ → Most
+mostFrom k b = elim (eqb k 0) [ true ↦ any | false ↦ upTo b ]
+
+abbrev pub gapFrom : ℕ → ℕ
+gapFrom k = elim (eqb k 4) [ true ↦ 6 | false ↦ 1 ]
+
 abbrev pub rowRule : ℕ → ℕ → ℕ → Rule
-rowRule zero a b = unlisted
-rowRule (suc zero) a b = record { kind = bytes; least = a; most = upTo b; gap = 1 }
-rowRule (suc (suc zero)) a b = record { kind = num; least = a; most = upTo b; gap = 1 }
-rowRule (suc (suc (suc zero))) a b = record { kind = pixel; least = a; most = upTo b; gap = 1 }
-rowRule (suc (suc (suc (suc k)))) a b = record { kind = bytes; least = a; most = upTo b; gap = 6 }
+rowRule k a b = record { kind = kindBy (eqb k 2) (eqb k 3); least = a; most = mostFrom k b; gap = gapFrom k }
 
 abbrev pub ruleFrom : declared.Rule → Rule
-ruleFrom r = rowRule (r .1) (r .2) (r .3)
+ruleFrom r = rowRule (r .kind) (r .least) (r .most)
 
--- a row as one number: tag, kind, least and greatest length; and the rule that it stands for
-abbrev pub row : ℕ → ℕ → ℕ → ℕ → ℕ
-row t k a b = t * 2 ^ 24 + k * 2 ^ 16 + a * 2 ^ 8 + b
-
+-- the rule that a row stands for
 abbrev pub rowFrom : ℕ → Rule
-rowFrom r = rowRule (r / 2 ^ 16 % 256) (r / 2 ^ 8 % 256) (r % 256)
+rowFrom r = rowRule (r / 2 ^ 16) (r / 2 ^ 8 % 256) (r % 256)
 
--- the code's table: the rows of the set, then those of a pack, each at its tag
+abbrev kindOf : Rule → Most → Kind → ℕ
+kindOf r any k = 0
+kindOf r (upTo m) num = 2
+kindOf r (upTo m) pixel = 3
+kindOf r (upTo m) bytes = elim (eqb (r .gap) 1) [ true ↦ 1 | false ↦ 4 ]
+
+abbrev mostOf : Most → ℕ
+mostOf any = 0
+mostOf (upTo m) = m
+
+-- the row that stands for a rule: kind, least and greatest length
+abbrev pub itemRow : Rule → ℕ
+itemRow r = kindOf r (r .most) (r .kind) * 2 ^ 16 + r .least * 2 ^ 8 + mostOf (r .most)
+
 unfoldable pub itemTable : List ℕ
-itemTable =
-    row 0 0 1 0 ∷ row 1 1 2 2 ∷ row 2 1 8 8 ∷ row 3 1 1 32 ∷ row 4 2 1 2 ∷ row 5 2 1 3 ∷ row 6 2 1 3 ∷ row 7 0 1 0 ∷ row 8 2 1 3 ∷ row 9 2 1 3 ∷
-    row 10 1 1 128 ∷ row 11 1 2 2 ∷ row 12 1 2 2 ∷
-    row 0 0 1 0 ∷ row 1 3 1 6 ∷ row 2 3 1 6 ∷ row 3 3 1 6 ∷ row 4 1 1 1 ∷ row 5 1 1 1 ∷ row 6 2 1 2 ∷ row 7 1 1 1 ∷ row 8 1 3 3 ∷ row 9 2 1 3 ∷
-    row 10 1 3 3 ∷ row 11 1 3 3 ∷ row 12 1 2 2 ∷ row 13 1 3 3 ∷ row 14 1 3 3 ∷ row 15 1 3 3 ∷ row 16 1 3 3 ∷ row 17 4 10 22 ∷ row 18 0 1 0 ∷
-    row 19 3 1 4 ∷ row 20 3 1 4 ∷ row 21 0 1 0 ∷ row 22 2 1 3 ∷ row 23 1 1 1 ∷ []
+itemTable = rowsBy λ l tag. itemRow (ruleOf l tag)
 
--- a row for a glance: its two bits, and the lengths that are told so
-abbrev pub glanceRow : ℕ → ℕ → ℕ
-glanceRow f m = f * 2 ^ 30 + m
+-- ---- the rows for a glance
 
--- those of a pack, then those of the set
+-- the lengths below n that a rule allows, bit by bit
+abbrev lengthBits : Rule → ℕ → ℕ
+lengthBits r zero = 0
+lengthBits r (suc n) = elim (sized r n) [ true ↦ 2 ^ n | false ↦ 0 ] + lengthBits r n
+
+-- 3 a number, 0 what may not stand in a standalone packet, 1 any other
+abbrev glanceKind : Level → ℕ → Rule → ℕ
+glanceKind l tag r = elim (isNumber (r .kind)) [ true ↦ 3 | false ↦ elim (mayStand l standalone tag true) [ true ↦ 1 | false ↦ 0 ] ]
+
+-- two bits, then the lengths below 30: none of what no record may name, the set's checksum and a tag of 0
+abbrev pub glanceRow : Level → ℕ → Rule → ℕ
+glanceRow l tag r = glanceKind l tag r * 2 ^ 30 + elim (nameable l tag) [ true ↦ lengthBits r 30 | false ↦ 0 ]
+
 unfoldable pub glanceTable : List ℕ
-glanceTable =
-    glanceRow 1 0 ∷ glanceRow 3 126 ∷ glanceRow 3 126 ∷ glanceRow 3 126 ∷ glanceRow 1 2 ∷ glanceRow 1 2 ∷ glanceRow 3 6 ∷ glanceRow 1 2 ∷ glanceRow 1 8 ∷ glanceRow 3 14 ∷
-    glanceRow 0 8 ∷ glanceRow 0 8 ∷ glanceRow 1 4 ∷ glanceRow 0 8 ∷ glanceRow 0 8 ∷ glanceRow 0 8 ∷ glanceRow 0 8 ∷ glanceRow 1 4260864 ∷ glanceRow 1 1073741822 ∷ glanceRow 3 30 ∷
-    glanceRow 3 30 ∷ glanceRow 1 1073741822 ∷ glanceRow 3 14 ∷ glanceRow 1 2 ∷
-    glanceRow 1 0 ∷ glanceRow 1 0 ∷ glanceRow 1 256 ∷ glanceRow 1 1073741822 ∷ glanceRow 3 6 ∷ glanceRow 3 14 ∷ glanceRow 3 14 ∷ glanceRow 1 1073741822 ∷ glanceRow 3 14 ∷
-    glanceRow 3 14 ∷ glanceRow 1 1073741822 ∷ glanceRow 1 4 ∷ glanceRow 1 4 ∷ []
+glanceTable = rowsBy λ l tag. glanceRow l tag (ruleOf l tag)
+
+-- ---- one item
 
 -- the number of a refusal, 0 for none
 abbrev pub answerOf : ℕ → Ans (Unit {0})
@@ -68,7 +108,3 @@ zeros (suc b ∷ s) = 0
 
 abbrev pub offsets : List ℕ
 offsets = 10 ∷ 11 ∷ 13 ∷ 14 ∷ 15 ∷ 16 ∷ []
-
--- how many bytes a value has in its shortest form
-abbrev pub shortSize : Level → ℕ → List ℕ → ℕ
-shortSize l tag v = length (short (ruleOf l tag) v)

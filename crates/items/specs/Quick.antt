@@ -12,15 +12,7 @@ use Rattle.format.specs.Table.{Form, Level, isSet, ruleOf, mayStand, valued, sh
 abbrev pub bit : ℕ → ℕ → Bool
 bit row k = not (eqb (row / 2 ^ k % 2) 0)
 
--- the greatest tag that has a row and where the rows begin, for the set or a pack; the least row that may stand wherever an item may, alone or not
-abbrev pub mostTag : Bool → ℕ
-mostTag true = 12
-mostTag false = 23
-
-abbrev pub rowsFrom : Bool → ℕ
-rowsFrom true = 24
-rowsFrom false = 0
-
+-- the least row that may stand wherever an item may, alone or not
 abbrev pub leastRow : Bool → ℕ
 leastRow true = 2 ^ 30
 leastRow false = 1

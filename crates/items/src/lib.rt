@@ -6,53 +6,68 @@ ghost use mathlib.Core.List.{List};
 ghost use lib.ListN.{length};
 ghost use lib.Dec.{eqb};
 ghost use Rattle.format.specs.Lists.{has, none?};
-ghost use Rattle.format.specs.Table.{isAlone, isSet, ruleOf, nameable, mayStand, standing, sized, valued, short};
-ghost use Rattle.items.specs.Meet.{formOf, levelOf, ruleFrom, rowFrom, itemTable, answerOf, zeros, offsets};
+ghost use Rattle.format.specs.Table.{isAlone, isSet, ruleOf, nameable, mayStand, standing, sized, isNumber, valued, short};
+ghost use Rattle.items.specs.Meet.{formOf, levelOf, ruleFrom, rowFrom, mostTag, rowsFrom, itemTable, answerOf, zeros, offsets};
 
-// A row of the item table: tag, kind, least and greatest length. Kinds: 0 not listed (one or more bytes), 1 bytes, 2 a number, 3 a pixel,
-// 4 a location (10, 16 or 22 bytes).
-pub struct Rule(pub u64, pub u64, pub u64, pub u64);
+// What a tag's row says: its kind, its least and greatest length.
+pub struct Rule {
+    pub kind: u32,
+    pub least: u32,
+    pub most: u32,
+}
 
-// The rows of the set, then those of a pack, each at its tag: tag, kind, least and greatest length. Of 32 bits each, as the compiler lays out
-// four of those at once.
+// The kinds: a tag that is not listed, of one or more bytes; bytes, a number, a pixel; and a location, of 10, 16 or 22 bytes.
+const UNLISTED: u32 = 0;
+
+const BYTES: u32 = 1;
+
+const NUMBER: u32 = 2;
+
+const PIXEL: u32 = 3;
+
+const LOCATION: u32 = 4;
+
+// A row for each tag, of a pack, then of the set: kind, least and greatest length. Of 32 bits each, as the compiler lays out four of those
+// at once.
 const ITEMS: [u32; 37] = [
-    0 << 24 | 0 << 16 | 1 << 8 | 0,
-    1 << 24 | 1 << 16 | 2 << 8 | 2,
-    2 << 24 | 1 << 16 | 8 << 8 | 8,
-    3 << 24 | 1 << 16 | 1 << 8 | 32,
-    4 << 24 | 2 << 16 | 1 << 8 | 2,
-    5 << 24 | 2 << 16 | 1 << 8 | 3,
-    6 << 24 | 2 << 16 | 1 << 8 | 3,
-    7 << 24 | 0 << 16 | 1 << 8 | 0,
-    8 << 24 | 2 << 16 | 1 << 8 | 3,
-    9 << 24 | 2 << 16 | 1 << 8 | 3,
-    10 << 24 | 1 << 16 | 1 << 8 | 128,
-    11 << 24 | 1 << 16 | 2 << 8 | 2,
-    12 << 24 | 1 << 16 | 2 << 8 | 2,
-    0 << 24 | 0 << 16 | 1 << 8 | 0,
-    1 << 24 | 3 << 16 | 1 << 8 | 6,
-    2 << 24 | 3 << 16 | 1 << 8 | 6,
-    3 << 24 | 3 << 16 | 1 << 8 | 6,
-    4 << 24 | 1 << 16 | 1 << 8 | 1,
-    5 << 24 | 1 << 16 | 1 << 8 | 1,
-    6 << 24 | 2 << 16 | 1 << 8 | 2,
-    7 << 24 | 1 << 16 | 1 << 8 | 1,
-    8 << 24 | 1 << 16 | 3 << 8 | 3,
-    9 << 24 | 2 << 16 | 1 << 8 | 3,
-    10 << 24 | 1 << 16 | 3 << 8 | 3,
-    11 << 24 | 1 << 16 | 3 << 8 | 3,
-    12 << 24 | 1 << 16 | 2 << 8 | 2,
-    13 << 24 | 1 << 16 | 3 << 8 | 3,
-    14 << 24 | 1 << 16 | 3 << 8 | 3,
-    15 << 24 | 1 << 16 | 3 << 8 | 3,
-    16 << 24 | 1 << 16 | 3 << 8 | 3,
-    17 << 24 | 4 << 16 | 10 << 8 | 22,
-    18 << 24 | 0 << 16 | 1 << 8 | 0,
-    19 << 24 | 3 << 16 | 1 << 8 | 4,
-    20 << 24 | 3 << 16 | 1 << 8 | 4,
-    21 << 24 | 0 << 16 | 1 << 8 | 0,
-    22 << 24 | 2 << 16 | 1 << 8 | 3,
-    23 << 24 | 1 << 16 | 1 << 8 | 1,
+    UNLISTED << 16 | 1 << 8 | 0, // 0
+    PIXEL << 16 | 1 << 8 | 6, // 1
+    PIXEL << 16 | 1 << 8 | 6, // 2
+    PIXEL << 16 | 1 << 8 | 6, // 3
+    BYTES << 16 | 1 << 8 | 1, // 4
+    BYTES << 16 | 1 << 8 | 1, // 5
+    NUMBER << 16 | 1 << 8 | 2, // 6
+    BYTES << 16 | 1 << 8 | 1, // 7
+    BYTES << 16 | 3 << 8 | 3, // 8
+    NUMBER << 16 | 1 << 8 | 3, // 9
+    BYTES << 16 | 3 << 8 | 3, // 10
+    BYTES << 16 | 3 << 8 | 3, // 11
+    BYTES << 16 | 2 << 8 | 2, // 12
+    BYTES << 16 | 3 << 8 | 3, // 13
+    BYTES << 16 | 3 << 8 | 3, // 14
+    BYTES << 16 | 3 << 8 | 3, // 15
+    BYTES << 16 | 3 << 8 | 3, // 16
+    LOCATION << 16 | 10 << 8 | 22, // 17
+    UNLISTED << 16 | 1 << 8 | 0, // 18
+    PIXEL << 16 | 1 << 8 | 4, // 19
+    PIXEL << 16 | 1 << 8 | 4, // 20
+    UNLISTED << 16 | 1 << 8 | 0, // 21
+    NUMBER << 16 | 1 << 8 | 3, // 22
+    BYTES << 16 | 1 << 8 | 1, // 23
+    // the set
+    UNLISTED << 16 | 1 << 8 | 0, // 0
+    BYTES << 16 | 2 << 8 | 2, // 1
+    BYTES << 16 | 8 << 8 | 8, // 2
+    BYTES << 16 | 1 << 8 | 32, // 3
+    NUMBER << 16 | 1 << 8 | 2, // 4
+    NUMBER << 16 | 1 << 8 | 3, // 5
+    NUMBER << 16 | 1 << 8 | 3, // 6
+    UNLISTED << 16 | 1 << 8 | 0, // 7
+    NUMBER << 16 | 1 << 8 | 3, // 8
+    NUMBER << 16 | 1 << 8 | 3, // 9
+    BYTES << 16 | 1 << 8 | 128, // 10
+    BYTES << 16 | 2 << 8 | 2, // 11
+    BYTES << 16 | 2 << 8 | 2, // 12
 ];
 
 // A constant array is laid out anew wherever it is named, so who needs it asks for it once and lends it to all that it calls.
@@ -62,12 +77,29 @@ pub fn table() -> [u32; 37]
     ITEMS
 }
 
+// The greatest tag that has a row.
+fn most_tag(set: bool) -> u64
+    ensures { λ r. ⌜ r ≡ mostTag set ⌝ }
+{
+    if set { 12 } else { 23 }
+}
+
+// Where the rows of the set or of a pack begin.
+fn rows_from(set: bool) -> usize
+    ensures { λ r. ⌜ r ≡ rowsFrom set ⌝ }
+{
+    if set { 24 } else { 0 }
+}
+
 // A row taken apart.
 fn rule_from(row: u32) -> Rule
     ensures { λ r. ⌜ ruleFrom r ≡ rowFrom row ⌝ }
 {
-    let row = row as u64;
-    Rule(row >> 24, (row >> 16) % 256, (row >> 8) % 256, row % 256)
+    Rule {
+        kind: row >> 16,
+        least: (row >> 8) % 256,
+        most: row % 256,
+    }
 }
 
 // The rule of a tag, for the set or for a pack.
@@ -75,16 +107,15 @@ pub fn rule_of(table: &[u32], set: bool, tag: u64) -> Rule
     requires { ⌜ now table ≡ itemTable ⌝ }
     ensures { λ r. ⌜ ruleFrom r ≡ ruleOf (levelOf set) tag ⌝ }
 {
-    if set {
-        if tag < 13 {
-            return rule_from(table[tag as usize]);
-        }
-    } else {
-        if tag < 24 {
-            return rule_from(table[13 + (tag as usize)]);
-        }
+    if most_tag(set) < tag {
+        return Rule {
+            kind: UNLISTED,
+            least: 1,
+            most: 0,
+        };
     }
-    Rule(0, 0, 1, 0)
+    let at = rows_from(set) + (tag as usize);
+    rule_from(table[at])
 }
 
 // Leading zeros.
@@ -105,21 +136,21 @@ pub fn leading(v: &[u8]) -> usize
 fn sized_of(rule: Rule, n: usize) -> bool
     ensures { λ r. ⌜ r ≡ sized (ruleFrom rule) n ⌝ }
 {
-    if rule.1 == 0 {
-        return 0 < n;
-    }
-    let least = rule.2 as usize;
-    let most = rule.3 as usize;
+    let least = rule.least as usize;
+    let most = rule.most as usize;
     if n < least {
         return false;
+    }
+    if rule.kind == UNLISTED {
+        return true;
     }
     if most < n {
         return false;
     }
-    if rule.1 < 4 {
-        return true;
+    if rule.kind == LOCATION {
+        return (n - least) % 6 == 0;
     }
-    (n - least) % 6 == 0
+    true
 }
 
 // 11, 12 or 0.
@@ -127,7 +158,7 @@ pub fn valued_of(rule: Rule, v: &[u8]) -> u64
     ensures { λ r. ⌜ answerOf r ≡ valued (ruleFrom rule) (now (v .entry)) ⌝ }
 {
     if sized_of(rule, v.len()) {
-        if rule.1 == 3 {
+        if rule.kind == PIXEL {
             if leading(v) == v.len() {
                 return 12;
             }
@@ -138,22 +169,29 @@ pub fn valued_of(rule: Rule, v: &[u8]) -> u64
     11
 }
 
+// A number, or a pixel.
+fn is_number(rule: Rule) -> bool
+    ensures { λ r. ⌜ r ≡ isNumber (ruleFrom rule .kind) ⌝ }
+{
+    if rule.kind == NUMBER {
+        return true;
+    }
+    rule.kind == PIXEL
+}
+
 // How many bytes a value has in its shortest form.
 pub fn short_size(rule: Rule, v: &[u8]) -> usize
     requires { ⌜ 0 < length (now v) ⌝ }
     ensures { λ r. ⌜ r ≡ length (short (ruleFrom rule) (now (v .entry))) ⌝ }
 {
-    if rule.1 < 2 {
-        return v.len();
+    if is_number(rule) {
+        let z = leading(v);
+        if z < v.len() {
+            return v.len() - z;
+        }
+        return 1;
     }
-    if 3 < rule.1 {
-        return v.len();
-    }
-    let z = leading(v);
-    if z < v.len() {
-        return v.len() - z;
-    }
-    1
+    v.len()
 }
 
 // The six offset tags: 10 to 16, but for 12.

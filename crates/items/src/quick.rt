@@ -1,51 +1,53 @@
 // Most items are told at a glance: a tag that the table lists, a length below 30 that it allows, and no zero before a number; or a tag
-// that no table lists. A row is here the one of its tag among those for a glance.
+// that no table lists. It says yes or nothing: of a tag or a length of two bytes, a length of 30 or more in a listed tag, a number that begins
+// with 0, the set's checksum and its series it does not know. A row is here the one of its tag among those for a glance.
 ghost use mathlib.Core.Path.{_≡_};
 ghost use Prim.Native.Nat.{_<_};
 ghost use mathlib.Core.Bool.{true};
 ghost use Rattle.items.specs.Meet.{formOf, levelOf, glanceTable};
-ghost use Rattle.items.specs.Quick.{Glanced, rowTells, mostTag, rowsFrom, leastRow, beyond};
+ghost use Rattle.items.specs.Quick.{Glanced, rowTells, leastRow, beyond};
 
-// A row for each tag, of a pack, then of the set: two bits, then bit by bit the lengths below 30 that are told so. The two bits: 3 a number or a
-// pixel, which at a glance may not begin with 0; 0 an offset, which may stand in embedded only; 1 any other.
+// A row for each tag, of a pack, then of the set: two bits, then bit by bit the lengths below 30 that are told so, none of what no record may
+// name. The two bits: 3 a number or a pixel, which at a glance may not begin with 0; 0 an offset, which may stand in embedded only; 1 any other.
 const GLANCES: [u32; 37] = [
-    1 << 30 | 0x0,
-    3 << 30 | 0x7e,
-    3 << 30 | 0x7e,
-    3 << 30 | 0x7e,
-    1 << 30 | 0x2,
-    1 << 30 | 0x2,
-    3 << 30 | 0x6,
-    1 << 30 | 0x2,
-    1 << 30 | 0x8,
-    3 << 30 | 0xe,
-    0 << 30 | 0x8,
-    0 << 30 | 0x8,
-    1 << 30 | 0x4,
-    0 << 30 | 0x8,
-    0 << 30 | 0x8,
-    0 << 30 | 0x8,
-    0 << 30 | 0x8,
-    1 << 30 | 0x410400,
-    1 << 30 | 0x3ffffffe,
-    3 << 30 | 0x1e,
-    3 << 30 | 0x1e,
-    1 << 30 | 0x3ffffffe,
-    3 << 30 | 0xe,
-    1 << 30 | 0x2,
-    1 << 30 | 0x0,
-    1 << 30 | 0x0,
-    1 << 30 | 0x100,
-    1 << 30 | 0x3ffffffe,
-    3 << 30 | 0x6,
-    3 << 30 | 0xe,
-    3 << 30 | 0xe,
-    1 << 30 | 0x3ffffffe,
-    3 << 30 | 0xe,
-    3 << 30 | 0xe,
-    1 << 30 | 0x3ffffffe,
-    1 << 30 | 0x4,
-    1 << 30 | 0x4,
+    1 << 30 | 0x0, // 0
+    3 << 30 | 0x7e, // 1
+    3 << 30 | 0x7e, // 2
+    3 << 30 | 0x7e, // 3
+    1 << 30 | 0x2, // 4
+    1 << 30 | 0x2, // 5
+    3 << 30 | 0x6, // 6
+    1 << 30 | 0x2, // 7
+    1 << 30 | 0x8, // 8
+    3 << 30 | 0xe, // 9
+    0 << 30 | 0x8, // 10
+    0 << 30 | 0x8, // 11
+    1 << 30 | 0x4, // 12
+    0 << 30 | 0x8, // 13
+    0 << 30 | 0x8, // 14
+    0 << 30 | 0x8, // 15
+    0 << 30 | 0x8, // 16
+    1 << 30 | 0x410400, // 17
+    1 << 30 | 0x3ffffffe, // 18
+    3 << 30 | 0x1e, // 19
+    3 << 30 | 0x1e, // 20
+    1 << 30 | 0x3ffffffe, // 21
+    3 << 30 | 0xe, // 22
+    1 << 30 | 0x2, // 23
+    // the set
+    1 << 30 | 0x0, // 0
+    1 << 30 | 0x0, // 1
+    1 << 30 | 0x100, // 2
+    1 << 30 | 0x3ffffffe, // 3
+    3 << 30 | 0x6, // 4
+    3 << 30 | 0xe, // 5
+    3 << 30 | 0xe, // 6
+    1 << 30 | 0x3ffffffe, // 7
+    3 << 30 | 0xe, // 8
+    3 << 30 | 0xe, // 9
+    1 << 30 | 0x3ffffffe, // 10
+    1 << 30 | 0x4, // 11
+    1 << 30 | 0x4, // 12
 ];
 
 // Apart from the item table: where all is told at a glance, that is not laid out.
@@ -66,20 +68,6 @@ fn fits(row: u32, n: u64, first: u8) -> bool
         return false;
     }
     (row >> 31) <= (first as u32)
-}
-
-// The greatest tag that has a row.
-fn most_tag(set: bool) -> u64
-    ensures { λ r. ⌜ r ≡ mostTag set ⌝ }
-{
-    if set { 12 } else { 23 }
-}
-
-// Where the rows of the set or of a pack begin.
-fn rows_from(set: bool) -> usize
-    ensures { λ r. ⌜ r ≡ rowsFrom set ⌝ }
-{
-    if set { 24 } else { 0 }
 }
 
 // The least row that may stand wherever an item may: in a standalone packet those of the six offsets are below it, elsewhere none is. No row
@@ -125,10 +113,10 @@ pub fn is_glanced(glances: &[u32], set: bool, alone: bool, tag: u64, n: u64, fir
     requires { ⌜ now glances ≡ glanceTable ⌝ }
     ensures { λ r. ⌜ (r ≡ true → (tag < 128) × (n < 128) × Glanced (levelOf set) (formOf alone) tag n first) ⌝ }
 {
-    if most_tag(set) < tag {
+    if super::most_tag(set) < tag {
         return is_other(set, tag, n);
     }
-    let at = rows_from(set) + (tag as usize);
+    let at = super::rows_from(set) + (tag as usize);
     let row = glances[at];
     if row < least_row(alone) {
         return false;

@@ -6,7 +6,7 @@ use mathlib.Core.Bool.{Bool, true, false, not, _&&_}
 use mathlib.Core.List.{List, [], _∷_}
 use lib.Dec.{eqb}
 use borrow.Author.Tests.{ne-eqb}
-use lib.ListN.{length, take, drop, getD, length-drop}
+use lib.ListN.{length, take, drop, length-drop}
 use Rattle.format.specs.Lists.{none?}
 use Rattle.format.specs.Table.{Rule, isSet, isNumber, ruleOf, strip, short}
 use Rattle.coding.proofs.Rooms.{tail-part}
@@ -62,15 +62,7 @@ other-tag false tag h = refl
 pub of-pack : (b : Bool) (tag : ℕ) → b ≡ false → NoSeal b tag
 of-pack b tag e = rw e
 
--- a value whose first byte is not 0 is shortest, whatever its rule
-pub first-keeps : (r : Rule) (v : List ℕ) → (getD v 0 0 ≡ 0 → ⊥) → length v ≡ length (short r v)
-unfolding short strip
-first-keeps r [] h = absurd (h refl)
-first-keeps r (x ∷ s) h = go (isNumber (r .kind)) refl
-  where
-    go : (t : Bool) → isNumber (r .kind) ≡ t → length (x ∷ s) ≡ length (short r (x ∷ s))
-    go true z = unfold short strip in (rw (z, short, ne-eqb x 0 h, strip))
-    go false z = unfold short in (rw (z, short))
+-- ---- by the rule that the code finds
 
 pub short-by : (v : List ℕ) {r q : Rule} {n : ℕ} → r ≡ q → n ≡ length (short r v) → n ≡ length (short q v)
 short-by v er en = en ∙ ap (λ x. length (short x v)) er

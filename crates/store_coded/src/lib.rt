@@ -4,11 +4,7 @@ ghost use Prim.Native.Nat.{_+_, _%_, _^_, _≤_, _<_};
 ghost use lib.ListN.{length};
 ghost use lib.Seq.{sets};
 ghost use Rattle.format.specs.Coding.{lenWidth, lenBytes, oidBytes};
-ghost use Rattle.format.specs.Table.{ruleOf, short};
-ghost use Rattle.format.specs.Packet.{flatItem};
-ghost use Rattle.format.specs.Calls.{itemOf};
-ghost use Rattle.items.specs.Meet.{levelOf, itemTable};
-ghost use Rattle.store_coded.specs.Fronts.{seriesFront, packFront};
+ghost use Rattle.store_coded.specs.Fronts.{shortItem, seriesFront, packFront};
 
 // The shortest length n; where it ends.
 pub fn put_len(out: &mut [u8], at: usize, n: usize) -> usize
@@ -59,22 +55,10 @@ pub fn put_oid(out: &mut [u8], at: usize, n: u64) -> usize
     at + k
 }
 
-// How many bytes the value of a tag has in its shortest form: all, where the first is not 0, whatever the table says.
-pub fn short_of(table: &[u32], set: bool, tag: u64, v: &[u8]) -> usize
-    requires { ⌜ (now table ≡ itemTable) × (0 < length (now v)) ⌝ }
-    ensures { λ r. ⌜ r ≡ length (short (ruleOf (levelOf set) tag) (now (v .entry))) ⌝ }
-{
-    if v[0] != 0 {
-        return v.len();
-    }
-    let rule = items::rule_of(table, set, tag);
-    items::short_size(rule, v)
-}
-
 // An item under its shortest length; where it ends.
 pub fn put_short(out: &mut [u8], at: usize, tag: u64, v: &[u8]) -> usize
-    requires { ⌜ (tag ≤ 16383) × (length (now v) ≤ 65536) × (at + length (flatItem (itemOf (record { tag = tag; value = now v }))) ≤ length (now out)) ⌝ }
-    ensures { λ r. ⌜ (r ≡ at + length (flatItem (itemOf (record { tag = tag; value = now (v .entry) })))) × (now (out .exit) ≡ sets (now (out .entry)) at (flatItem (itemOf (record { tag = tag; value = now (v .entry) })))) ⌝ }
+    requires { ⌜ (tag ≤ 16383) × (length (now v) ≤ 65536) × (at + length (shortItem tag (now v)) ≤ length (now out)) ⌝ }
+    ensures { λ r. ⌜ (r ≡ at + length (shortItem tag (now (v .entry)))) × (now (out .exit) ≡ sets (now (out .entry)) at (shortItem tag (now (v .entry)))) ⌝ }
 {
     let a = put_oid(out, at, tag);
     let b = put_len(out, a, v.len());

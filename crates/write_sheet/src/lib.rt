@@ -44,7 +44,8 @@ fn put_plain(table: &[u32], out: &mut [u8], at: usize, set: bool, tag: u64, v: &
             return at;
         }
     }
-    let n = store_coded::short_of(table, set, tag, v);
+    let rule = items::rule_of(table, set, tag);
+    let n = items::short_size(rule, v);
     put_item(out, at, set, tag, &v[v.len() - n..])
 }
 

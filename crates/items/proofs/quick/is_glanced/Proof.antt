@@ -2,7 +2,8 @@
 use native.Mathlib.Omega.{arith}
 use borrow.Author.Needs.{needs}
 use Rattle.format.proofs.words.Answers.{no-bool}
-use Rattle.items.proofs.Glances.{glances-long, row-in, quick-from, quick-other}
+use Rattle.items.proofs.Rows.{row-place, glances-long}
+use Rattle.items.proofs.Glances.{quick-from, quick-other}
 use Rattle.items.proofs.quick.is_glanced.Statement.{statement}
 use Rattle.items.proofs.quick.is_glanced.Tie as tie
 
@@ -19,13 +20,20 @@ rows-from-requires : tie.Need-rows-from-requires
 rows-from-requires c κs = search needs
 
 add-at : tie.Need-add-at
-add-at c = omega (arith, row-in (c .before .before .before .before .args .set) _ (c .before .before .most-tag .ensures) (c .before .if1 .left) (c .rows-from .ensures))
+add-at c =
+    let m = c .before .before in
+    omega (arith, row-place (m .before .before .args .set) _ (m .most-tag .ensures) (c .before .if1 .left) (c .rows-from .ensures))
 
 mul-row : tie.Need-mul-row
-mul-row c = omega (arith, row-in (c .before .before .before .before .args .set) _ (c .before .before .most-tag .ensures) (c .before .if1 .left) (c .rows-from .ensures))
+mul-row c =
+    let m = c .before .before in
+    omega (arith, row-place (m .before .before .args .set) _ (m .most-tag .ensures) (c .before .if1 .left) (c .rows-from .ensures))
 
 shared-slice-read-row : tie.Need-shared-slice-read-row
-shared-slice-read-row c = omega (arith, row-in (c .before .before .before .before .before .args .set) _ (c .before .before .before .most-tag .ensures) (c .before .before .if1 .left) (c .before .rows-from .ensures), glances-long _ (c .before .before .before .before .before .pre))
+shared-slice-read-row c =
+    let f = c .before in
+    let m = f .before .before in
+    omega (arith, row-place (m .before .before .args .set) _ (m .most-tag .ensures) (f .before .if1 .left) (f .rows-from .ensures), glances-long (m .before .before .pre))
 
 least-row-requires : tie.Need-least-row-requires
 least-row-requires c κs = search needs
@@ -38,9 +46,11 @@ fits-requires c κs = search needs
 
 returns-3 : tie.Need-returns-3
 returns-3 c =
-    let r = c .before .before .before .before in
-    let p = r .before .before .before .before in
-    quick-from (p .args .set) _ (r .before .before .most-tag .ensures) (r .before .if1 .left) (r .rows-from .ensures) (p .args .alone) (c .before .before .least-row .ensures) _ (p .pre) (c .before .if2 .left) _ _ (c .fits2 .ensures)
+    let l = c .before .before in
+    let f = l .before .before in
+    let m = f .before .before in
+    let p = m .before .before in
+    quick-from (p .args .set) _ (m .most-tag .ensures) (f .before .if1 .left) (f .rows-from .ensures) (p .args .alone) (l .least-row .ensures) (p .pre) (c .before .if2 .left) (c .fits2 .ensures)
 
 pub is-glanced-spec : {M : Type 1} → statement M
 is-glanced-spec =

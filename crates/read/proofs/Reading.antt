@@ -22,9 +22,9 @@ use Rattle.check_packet.specs.declared.Checked.{Checked}
 use Rattle.check_packet.specs.declared.Checked.the-variants.{Fine, Wrong}
 use Rattle.check_packet.specs.Meet.{checkedOf}
 use Rattle.check_packet.proofs.Parsing.{wrong-parsed}
-use Rattle.check_packet.proofs.Opened.{fine, opened, lentSet, lent-is}
+use Rattle.check_packet.proofs.Opened.{fine, opened, lentSet, lent-is, set-ran, set-long}
 use Rattle.stores.proofs.Stores.{sets-append, tail-length, tail-stored}
-use Rattle.write_sheet.specs.Meet.{levelSheet}
+use Rattle.write_sheet.specs.Meet.{levelSheet, LevelAsked, LevelLeft}
 use Rattle.write_sheet.proofs.Packet.{sheet-whole}
 use Rattle.answers.specs.declared.Answer.{Answer}
 use Rattle.answers.specs.Meet.{leftOf, answerOf, refusalOf}
@@ -73,13 +73,13 @@ module _ (f : Form) (s lent : List ℕ) {c : Checked} (ec : c ≡ checkedOf (par
       pub rest-from : {out : List ℕ} → out ≡ sets lent 0 (fixed 3 h) → 3 ≤ length out
       rest-from eo = omega (arith, head-kept eo, set-size)
 
-      pub rest-room : {out : List ℕ} → out ≡ sets lent 0 (fixed 3 h) → length (levelSheet set f (lentSet f s ec b t)) ≤ length (take (length out - 3) (drop 3 out))
-      rest-room {out = out} eo = omega (arith, tail-length out 3, head-kept eo, set-size)
+      pub set-asked : {out : List ℕ} → out ≡ sets lent 0 (fixed 3 h) → LevelAsked set (lentSet f s ec b t) (length (take (length out - 3) (drop 3 out))) f
+      set-asked {out = out} eo = record { few = omega (arith, set-long f s ec b t); ran = set-ran f s ec b t; fits = omega (arith, tail-length out 3, head-kept eo, set-size) }
 
       -- out has the head, and its rest came back as e
-      pub read-done : {out : List ℕ} → out ≡ sets lent 0 (fixed 3 h) → {e : List ℕ} → e ≡ sets (take (length out - 3) (drop 3 out)) 0 (levelSheet set f (lentSet f s ec b t))
+      pub read-done : {out : List ℕ} → out ≡ sets lent 0 (fixed 3 h) → {n : ℕ} {e : List ℕ} → LevelLeft set (lentSet f s ec b t) (take (length out - 3) (drop 3 out)) n e
           → {r : Answer} → r ≡ answerOf 0 (a .sheet) → leftOf r (putMid 3 (length out - 3) out e) ≡ leaves lent (read f s)
       read-done {out = out} eo {e = e} ee {r = r} er =
           let stored : putMid 3 (length out - 3) out e ≡ sets lent 0 sheet
-          = tail-stored out 3 e parts ee ∙ rw (eo, sheet-is, sets-append lent 0 (fixed 3 h) parts, length-fixed 3 h) in
+          = tail-stored out 3 e parts (ee f (set-asked eo) .1) ∙ rw (eo, sheet-is, sets-append lent 0 (fixed 3 h) parts, length-fixed 3 h) in
           left-whole lent read-is size-is room stored er

@@ -35,6 +35,6 @@ pub fn read(packet: &[u8], alone: bool, sheet: &mut [u8]) -> Answer
     }
     stores::put_number(sheet, 0, head_of(alone), 3);
     let table = items::table();
-    write_sheet::item_sheet(&table, &packet[from..], true, alone, &mut sheet[3..]);
+    write_sheet::item_sheet(&table, &packet[from..], &mut sheet[3..]);
     answer_of(0, sizes.sheet)
 }

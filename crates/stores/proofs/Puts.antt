@@ -8,11 +8,8 @@ use lib.Seq.{sets, length-sets}
 use borrow.Rule.Slice.PartMut.{putMid}
 use Rattle.format.specs.Coding.{fixed}
 use Rattle.format.proofs.coding.Digits.{length-fixed}
+pub use Rattle.stores.specs.Puts.{Puts}
 use Rattle.stores.proofs.Stores.{sets-append, tail-length, tail-stored}
-
--- xs stored into o from a on: where they end, and what o is then
-abbrev pub Puts : List ℕ → ℕ → List ℕ → ℕ → List ℕ → Type 0
-Puts o a xs r o′ = (r ≡ a + length xs) × (o′ ≡ sets o a xs)
 
 pub puts-then : (o : List ℕ) (a : ℕ) (xs ys : List ℕ) {o₁ o₂ : List ℕ} {b r : ℕ} → Puts o a xs b o₁ → Puts o₁ b ys r o₂ → Puts o a (xs ++ ys) r o₂
 puts-then o a xs ys {b = b} p q =

@@ -17,8 +17,8 @@ use Rattle.write_laws.proofs.Writing.{each}
 use Rattle.write_laws.proofs.Entries.{level-done}
 use Rattle.write_laws.proofs.Packs.{itemsAt, items-long, pack-room, one-pack, packed}
 use Rattle.write_sheet.specs.Meet.{entrySheet, packSheet}
-use Rattle.write_sheet.specs.Quick.{LevelPassed}
-use Rattle.write_sheet.proofs.Turns.{LevelSheets, SeriesSheets, SheetPack, pack-sheet, target-put, items-behind, items-more}
+use Rattle.write_sheet.specs.Quick.{LevelPassed, ItemsPassed}
+use Rattle.write_sheet.proofs.Turns.{LevelSheets, SeriesSheets, SheetPack, pack-sheet, target-put, items-behind, itemsTail, level-asked, items-stored}
 
 -- a tail that was lent came back as e
 module _ (l : List ℕ) (m : ℕ) (e : List ℕ) (h : m ≤ length l) where
@@ -58,11 +58,14 @@ module _ {out : List ℕ} {k : ℕ} {whole head rest : List ℕ} (t : Parted out
 module _ {f : Form} {s out₀ out : List ℕ} {p k key used width size : ℕ} (i : SheetPack f s out₀ out p k key used width size) {m : ℕ} {out₁ : List ℕ}
     (em : (m ≡ k + 10) × (out₁ ≡ sets out k (TG .0 ∷ TG .1 ∷ fixed 8 key))) where
   -- the quick way over its items passed u bytes
-  module _ {u r : ℕ} {o : List ℕ} (g : LevelPassed false f (itemsAt i) (take (length out₁ - m) (drop m out₁)) o u r) where
+  module _ {u r : ℕ} {o : List ℕ} (q : ItemsPassed (itemsAt i) (itemsTail i em) o u r) where
+    g : LevelPassed false f (itemsAt i) (itemsTail i em) o u r
+    g = q f (level-asked i em)
+
     pub items-passed : p + width + size - (p + width + used) ≤ u → SeriesSheets f s out₀ (putMid m (length out₁ - m) out₁ o) (p + width + size) (m + r)
     items-passed h =
-        let w : LevelSheets false f (itemsAt i) (take (length out₁ - m) (drop m out₁)) o u r = record { writes = g } in
-        items-more i em (level-done w (omega (arith, items-long i, pack-room i)))
+        let w : LevelSheets false f (itemsAt i) (itemsTail i em) o u r = record { writes = g } in
+        items-stored i em (level-done w (omega (arith, items-long i, pack-room i)))
 
     pub items-begun : SeriesSheets f s out₀ (putMid m (length out₁ - m) out₁ o) p k
     items-begun =

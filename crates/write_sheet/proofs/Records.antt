@@ -1,5 +1,5 @@
 -- The sheet's records, as they are stored one field after another.
-use mathlib.Core.Path.{_≡_, refl, sym, ap, _∙_}
+use mathlib.Core.Path.{_≡_, refl, ap, _∙_}
 use Prim.Native.Nat.{ℕ, _+_, _*_, _/_, _^_, _≤_, _<_}
 use native.Mathlib.Omega.{arith}
 use mathlib.Core.Bool.{Bool, true, false}
@@ -7,13 +7,13 @@ use mathlib.Core.List.{List, [], _∷_, _++_}
 use lib.ListN.{length, length-append}
 use lib.Seq.{sets}
 use Rattle.format.specs.Coding.{fixed}
-use Rattle.format.specs.Table.{Level, Rule, ruleOf, short}
+use Rattle.format.specs.Table.{Rule, ruleOf, short}
 use Rattle.format.specs.Sheet.{valBytes, markNumber, markOf, IT, TG, TI}
 use Rattle.format.proofs.coding.Digits.{length-fixed}
 use Rattle.items.specs.Meet.{levelOf}
 use Rattle.stores.proofs.Puts.{Puts, puts-then, puts-fixed}
 use Rattle.store_coded.proofs.Shortest.{lastOf, last-is, NoSeal}
-use Rattle.write_sheet.specs.Meet.{itemSheet}
+use Rattle.write_sheet.specs.Meet.{recordOf, itemSheet}
 
 -- ---- an item
 
@@ -30,14 +30,16 @@ mark-bytes false = refl
 
 pub item-stored : (b : Bool) (tag : ℕ) (v o : List ℕ) (a : ℕ) {m : ℕ} → m ≡ markNumber (markOf (levelOf b))
     → {o₁ o₂ o₃ o₄ : List ℕ} {a₁ a₂ a₃ r : ℕ} → (a₁ ≡ a + 2) × (o₁ ≡ sets o a (fixed 2 m)) → (a₂ ≡ a₁ + 2) × (o₂ ≡ sets o₁ a₁ (fixed 2 tag))
-    → (a₃ ≡ a₂ + 2) × (o₃ ≡ sets o₂ a₂ (fixed 2 (length v))) → Puts o₃ a₃ v r o₄
-    → (r ≡ a + (6 + length v)) × (o₄ ≡ sets o a (valBytes (levelOf b) (record { tag = tag; value = v })))
+    → (a₃ ≡ a₂ + 2) × (o₃ ≡ sets o₂ a₂ (fixed 2 (length v))) → Puts o₃ a₃ v r o₄ → Puts o a (recordOf b tag v) r o₄
 unfolding valBytes
 item-stored b tag v o a {m = m} em {o₁ = o₁} {o₂ = o₂} {a₁ = a₁} {a₂ = a₂} p₁ p₂ p₃ p₄ =
     let third = puts-then o₂ a₂ (fixed 2 (length v)) v (puts-fixed o₂ a₂ 2 (length v) p₃) p₄ in
     let second = puts-then o₁ a₁ (fixed 2 tag) (fixed 2 (length v) ++ v) (puts-fixed o₁ a₁ 2 tag p₂) third in
-    let first = puts-then o a (fixed 2 m) (fixed 2 tag ++ (fixed 2 (length v) ++ v)) (puts-fixed o a 2 m p₁) second in
-    (omega (arith, p₁ .0, p₂ .0, p₃ .0, p₄ .0), rw (em, mark-bytes b) at (first .1))
+    rw (em, mark-bytes b) at (puts-then o a (fixed 2 m) (fixed 2 tag ++ (fixed 2 (length v) ++ v)) (puts-fixed o a 2 m p₁) second)
+
+pub record-long : (b : Bool) (tag : ℕ) (v : List ℕ) → length (recordOf b tag v) ≡ 6 + length v
+unfolding valBytes
+record-long b tag v = simp (length-append, length-fixed) (omega arith)
 
 -- ---- a target
 
@@ -69,21 +71,13 @@ pub seal-stored : {b : Bool} {tag : ℕ} (v o : List ℕ) (a : ℕ) → b ≡ tr
 unfolding itemSheet
 seal-stored v o a eb et = rw (eb, et) (omega arith, refl)
 
-pub val-long : (l : Level) (tag : ℕ) (v : List ℕ) → length (valBytes l (record { tag = tag; value = v })) ≡ 6 + length v
-unfolding valBytes
-val-long l tag v = simp (length-append, length-fixed) (omega arith)
-
 module _ (b : Bool) (tag : ℕ) (v : List ℕ) (h : NoSeal b tag) {r : Rule} (er : r ≡ ruleOf (levelOf b) tag) {n : ℕ} (en : n ≡ length (short r v)) where
-  record-is : valBytes (levelOf b) (record { tag = tag; value = lastOf v n }) ≡ itemSheet (levelOf b) tag v
+  record-is : recordOf b tag (lastOf v n) ≡ itemSheet (levelOf b) tag v
   unfolding itemSheet
-  record-is = rw (h, itemSheet) (ap (λ x. valBytes (levelOf b) (record { tag = tag; value = x })) (last-is b tag v er en))
+  record-is = rw (h, itemSheet) (ap (recordOf b tag) (last-is b tag v er en))
 
-  record-long : 6 + length (lastOf v n) ≡ length (itemSheet (levelOf b) tag v)
-  record-long = sym (val-long (levelOf b) tag (lastOf v n)) ∙ ap length record-is
+  pub plain-room : (a : ℕ) {k : ℕ} → a + length (itemSheet (levelOf b) tag v) ≤ k → a + length (recordOf b tag (lastOf v n)) ≤ k
+  plain-room a l = omega (arith, ap length record-is)
 
-  pub plain-room : (a : ℕ) {k : ℕ} → a + length (itemSheet (levelOf b) tag v) ≤ k → a + (6 + length (lastOf v n)) ≤ k
-  plain-room a l = omega (arith, record-long)
-
-  pub plain-stored : (o : List ℕ) (a : ℕ) {o′ : List ℕ} {k : ℕ} → (k ≡ a + (6 + length (lastOf v n))) × (o′ ≡ sets o a (valBytes (levelOf b) (record { tag = tag; value = lastOf v n })))
-      → Puts o a (itemSheet (levelOf b) tag v) k o′
-  plain-stored o a p = (p .0 ∙ ap (λ x. a + x) record-long, p .1 ∙ ap (sets o a) record-is)
+  pub plain-stored : (o : List ℕ) (a : ℕ) {o′ : List ℕ} {k : ℕ} → Puts o a (recordOf b tag (lastOf v n)) k o′ → Puts o a (itemSheet (levelOf b) tag v) k o′
+  plain-stored o a p = rw record-is at p

@@ -5,7 +5,7 @@ use native.Mathlib.Omega.{arith}
 use mathlib.Core.Bool.{Bool, true, false, not, _&&_}
 use mathlib.Core.List.{List, [], _∷_}
 use lib.ListN.{length, take, drop, getD, length-drop}
-use lib.Seq.{sets, getD-drop, getD-take}
+use lib.Seq.{getD-drop, getD-take}
 use lib.Dec.{eqb, leb, ltb}
 use borrow.Author.Tests.{ne-eqb, ltb-true, ltb-false, leb-true, leb-false}
 use Rattle.format.specs.Answer.{refused, _>>=_, need}
@@ -13,7 +13,6 @@ use Rattle.format.specs.Coding.{Bytes, tagOf, oid, oidGo, lenOf}
 use Rattle.format.specs.Lists.{none?}
 use Rattle.format.specs.Table.{Form, Rule, pack, ruleOf, isNumber, strip, short}
 use Rattle.format.specs.Read.{headOf}
-use Rattle.format.specs.Sheet.{valBytes}
 use Rattle.coding.specs.Code.{numOf}
 use Rattle.coding.specs.declared.Num.the-variants.{Value, Refused}
 use Rattle.coding.proofs.Lens.{len-small}
@@ -23,9 +22,8 @@ use Rattle.heads.specs.declared.Head.the-variants as heads
 use Rattle.heads.proofs.Heads.{mid-part, item-head-tag, item-head-over, item-head-short}
 use Rattle.stores.proofs.Puts.{Puts}
 use Rattle.write_laws.proofs.Entries.{valueAt, value-long, entry-fault, entry-room}
-use Rattle.write_sheet.specs.Meet.{itemSheet, levelSheet}
+use Rattle.write_sheet.specs.Meet.{recordOf, itemSheet, LevelAsked}
 use Rattle.write_sheet.specs.Quick.{LevelPassed, SmallItem}
-use Rattle.write_sheet.proofs.Records.{val-long}
 use Rattle.write_sheet.proofs.Turns.{LevelSheets, SheetEntry, one-room, one-more}
 
 -- ---- its value is shortest
@@ -59,8 +57,7 @@ pub record Turn (f : Form) (s out₀ out : List ℕ) (p k n : ℕ) : Type 0 wher
   pub passed : LevelPassed false f s out₀ out p k
   pub glanced : SmallItem s p n
   pub bytes : Bytes s
-  pub most : length s ≤ 8192
-  pub room : length (levelSheet pack f s) ≤ length out₀
+  pub asked : LevelAsked pack s (length out₀) f
 
 module _ {f : Form} {s out₀ out : List ℕ} {p k n : ℕ} (i : Turn f s out₀ out p k n) where
   abbrev q : SmallItem s p n
@@ -112,8 +109,8 @@ module _ {f : Form} {s out₀ out : List ℕ} {p k n : ℕ} (i : Turn f s out₀
     reads = rw tail-part (item-head-short pack (drop p s) tag n tag-is size-is some-tag (q .small) (q .few) fits);
     whole = refl;
     bytes = i .bytes;
-    most = i .most;
-    room = i .room;
+    most = i .asked .few;
+    room = i .asked .fits;
   }
 
   two : p + 1 + 1 ≡ p + 2
@@ -129,9 +126,9 @@ module _ {f : Form} {s out₀ out : List ℕ} {p k n : ℕ} (i : Turn f s out₀
   value-is : valueAt entry ≡ value
   value-is = ap (λ j. take (j + n - j) (drop j s)) two
 
-  record-is : valBytes pack (record { tag = tag; value = value }) ≡ itemSheet pack tag (valueAt entry)
+  record-is : recordOf false tag value ≡ itemSheet pack tag (valueAt entry)
   unfolding itemSheet
-  record-is = ap (λ x. valBytes pack (record { tag = tag; value = x })) (sym value-is ∙ sym (one-kept (ruleOf pack tag) (valueAt entry) one))
+  record-is = ap (recordOf false tag) (sym value-is ∙ sym (one-kept (ruleOf pack tag) (valueAt entry) one))
     where
       head : getD (valueAt entry) 0 0 ≡ getD s (p + 2) 0
       head = ap (λ v. getD v 0 0) (value-is ∙ mid-part (p + 2) n s) ∙ getD-take n _ 0 0 (q .some) ∙ getD-drop (p + 2) s 0 0 ∙ ap (λ j. getD s j 0) (omega arith)
@@ -139,13 +136,13 @@ module _ {f : Form} {s out₀ out : List ℕ} {p k n : ℕ} (i : Turn f s out₀
       one : getD (valueAt entry) 0 0 ≡ 0 → length (valueAt entry) ≡ 1
       one e = value-long entry ∙ q .shortest (sym head ∙ e)
 
-  pub turn-room : k + (6 + length value) ≤ length out
-  turn-room = omega (arith, one-room entry {x = false} refl refl .1, val-long pack tag value, ap length record-is)
-
   -- x is its tag as the code read it
   module _ {x : ℕ} (ex : x ≡ tag) where
-    pub turn-more : {k′ : ℕ} {out′ : List ℕ} → (k′ ≡ k + (6 + length value)) × (out′ ≡ sets out k (valBytes pack (record { tag = x; value = value }))) → LevelPassed false f s out₀ out′ (p + 2 + n) k′
-    turn-more {k′ = k′} {out′ = out′} e =
-        let e′ : Puts out k (itemSheet pack tag (valueAt entry)) k′ out′ =
-        (omega (arith, e .0, val-long pack tag value, ap length record-is), e .1 ∙ ap (λ y. sets out k (valBytes pack (record { tag = y; value = value }))) ex ∙ ap (sets out k) record-is) in
-        rw two at (one-more entry {x = false} refl refl e′ .writes)
+    record-read : recordOf false x value ≡ itemSheet pack tag (valueAt entry)
+    record-read = ap (λ y. recordOf false y value) ex ∙ record-is
+
+    pub turn-room : k + length (recordOf false x value) ≤ length out
+    turn-room = omega (arith, one-room entry {x = false} refl refl .1, ap length record-read)
+
+    pub turn-more : {k′ : ℕ} {out′ : List ℕ} → Puts out k (recordOf false x value) k′ out′ → LevelPassed false f s out₀ out′ (p + 2 + n) k′
+    turn-more e = rw two at (one-more entry {x = false} refl refl (rw record-read at e) .writes)

@@ -15,12 +15,13 @@ use Rattle.format.specs.Packet.{Item, Pack, plain, series}
 use Rattle.format.specs.Sheet.{valOf, valBytes, targetOf, targetBytes, partOf, partBytes, markNumber, TS, TG}
 use Rattle.format.proofs.coding.Digits.{length-fixed}
 use Rattle.items.specs.Meet.{levelOf}
-use Rattle.tally.specs.Runs.{Ran, madeOf, levelRun, seriesRun}
+use Rattle.tally.specs.Runs.{madeOf}
+use Rattle.stores.specs.Puts.{Fills}
 use Rattle.stores.proofs.Puts.{Puts, puts-sized, puts-fixed, Parted, head-room, head-behind, rest-room, rest-put}
 use Rattle.write_laws.proofs.Writing.{each}
 use Rattle.write_laws.proofs.Entries.{LevelWriting, EntryAt, entry-stands, valueAt, value-long, stored, entry-fits, entry-more, one-is, packs-run, packs-asked}
 use Rattle.write_laws.proofs.Packs.{SeriesWriting, PackAt, pack-stands, itemsAt, items-run, items-asked, packed, pack-fits, pack-more}
-use Rattle.write_sheet.specs.Meet.{itemSheet, entrySheet, packSheet, levelSheet, seriesSheet}
+use Rattle.write_sheet.specs.Meet.{itemSheet, entrySheet, packSheet, levelSheet, seriesSheet, LevelAsked, SeriesAsked, LevelLeft, SeriesLeft}
 
 -- the items of a pack, as the records of its target and as entries
 same-sheet : (is : List Item) → flatAll (valBytes pack) (map (valOf pack) is) ≡ flatAll (entrySheet pack) (map plain is)
@@ -76,12 +77,14 @@ module _ {b : Bool} {f : Form} {s out₀ out : List ℕ} {p k key used width siz
       pub series-behind : m ≤ length out₁
       series-behind = head-behind series-sheet (puts-fixed out k 2 (markNumber TS) em)
 
-      pub series-asked : (length (valueAt i) ≤ 8192) × Ran (seriesRun f (valueAt i)) × (length (seriesSheet f (valueAt i)) ≤ length (take (length out₁ - m) (drop m out₁)))
-      series-asked = (packs-asked i ex tx .0, packs-asked i ex tx .1, rest-room series-sheet (puts-fixed out k 2 (markNumber TS) em))
+      abbrev packsTail : List ℕ
+      packsTail = take (length out₁ - m) (drop m out₁)
 
-      pub series-more : {r : ℕ} {o : List ℕ} → (r ≡ length (seriesSheet f (valueAt i))) × (o ≡ sets (take (length out₁ - m) (drop m out₁)) 0 (seriesSheet f (valueAt i)))
-          → LevelSheets b f s out₀ (putMid m (length out₁ - m) out₁ o) (p + used + width + size) (m + r)
-      series-more q = entry-more i (rest-put series-sheet (puts-fixed out k 2 (markNumber TS) em) q) refl
+      pub series-asked : SeriesAsked (valueAt i) (length packsTail) f
+      series-asked = record { few = packs-asked i ex tx .0; ran = packs-asked i ex tx .1; fits = rest-room series-sheet (puts-fixed out k 2 (markNumber TS) em) }
+
+      pub series-more : {r : ℕ} {o : List ℕ} → SeriesLeft (valueAt i) packsTail r o → LevelSheets b f s out₀ (putMid m (length out₁ - m) out₁ o) (p + used + width + size) (m + r)
+      series-more q = entry-more i (rest-put series-sheet (puts-fixed out k 2 (markNumber TS) em) (q f series-asked)) refl
 
 -- ---- the packs of a series
 
@@ -118,9 +121,14 @@ module _ {f : Form} {s out₀ out : List ℕ} {p k key used width size : ℕ} (i
     pub items-behind : m ≤ length out₁
     items-behind = head-behind pack-sheet target-put
 
-    pub level-asked : (length (itemsAt i) ≤ 8192) × Ran (levelRun pack f (itemsAt i)) × (length (levelSheet pack f (itemsAt i)) ≤ length (take (length out₁ - m) (drop m out₁)))
-    level-asked = (items-asked i .0, items-asked i .1, rest-room pack-sheet target-put)
+    abbrev pub itemsTail : List ℕ
+    itemsTail = take (length out₁ - m) (drop m out₁)
 
-    pub items-more : {r : ℕ} {o : List ℕ} → (r ≡ length (levelSheet pack f (itemsAt i))) × (o ≡ sets (take (length out₁ - m) (drop m out₁)) 0 (levelSheet pack f (itemsAt i)))
-        → SeriesSheets f s out₀ (putMid m (length out₁ - m) out₁ o) (p + width + size) (m + r)
-    items-more q = pack-more i (rest-put pack-sheet target-put q) refl
+    pub level-asked : LevelAsked pack (itemsAt i) (length itemsTail) f
+    level-asked = record { few = items-asked i .0; ran = items-asked i .1; fits = rest-room pack-sheet target-put }
+
+    pub items-stored : {r : ℕ} {o : List ℕ} → Fills itemsTail (levelSheet pack f (itemsAt i)) r o → SeriesSheets f s out₀ (putMid m (length out₁ - m) out₁ o) (p + width + size) (m + r)
+    items-stored q = pack-more i (rest-put pack-sheet target-put q) refl
+
+    pub items-more : {r : ℕ} {o : List ℕ} → LevelLeft pack (itemsAt i) itemsTail r o → SeriesSheets f s out₀ (putMid m (length out₁ - m) out₁ o) (p + width + size) (m + r)
+    items-more q = items-stored (q f level-asked)

@@ -1,16 +1,16 @@
 // A packet's sheet, written into a lent output as the item walk and the pack walk go over a packet that was checked.
 ghost use mathlib.Core.Path.{_≡_};
-ghost use Prim.Native.Nat.{ℕ, _+_, _*_, _≤_, _<_};
+ghost use Prim.Native.Nat.{ℕ, _+_, _≤_, _<_};
 ghost use lib.ListN.{length};
 ghost use lib.Seq.{sets};
 ghost use mathlib.Core.List.{List, _∷_};
 ghost use Rattle.format.specs.Coding.{fixed};
-ghost use Rattle.format.specs.Sheet.{valBytes, markNumber, markOf, TG};
-ghost use Rattle.items.specs.Meet.{formOf, levelOf, itemTable};
-ghost use Rattle.format.specs.Table.{pack};
-ghost use Rattle.write_sheet.specs.Meet.{itemSheet, levelSheet, seriesSheet};
-ghost use Rattle.write_sheet.specs.Quick.{LevelPassed};
-ghost use Rattle.tally.specs.Runs.{Ran, levelRun, seriesRun};
+ghost use Rattle.format.specs.Sheet.{markNumber, markOf, TG};
+ghost use Rattle.format.specs.Table.{Form, set, pack};
+ghost use Rattle.items.specs.Meet.{levelOf, itemTable};
+ghost use Rattle.stores.specs.Puts.{Puts};
+ghost use Rattle.write_sheet.specs.Meet.{recordOf, itemSheet, LevelAsked, SeriesAsked, LevelLeft, SeriesLeft};
+ghost use Rattle.write_sheet.specs.Quick.{RestAsked, RestLeft};
 use heads::Head;
 use heads::records;
 
@@ -25,8 +25,8 @@ fn mark_of(set: bool) -> u64
 
 // An item's record; where it ends.
 fn put_item(out: &mut [u8], at: usize, set: bool, tag: u64, v: &[u8]) -> usize
-    requires { ⌜ at + (6 + length (now v)) ≤ length (now out) ⌝ }
-    ensures { λ r. ⌜ (r ≡ at + (6 + length (now (v .entry)))) × (now (out .exit) ≡ sets (now (out .entry)) at (valBytes (levelOf set) (record { tag = tag; value = now (v .entry) }))) ⌝ }
+    requires { ⌜ at + length (recordOf set tag (now v)) ≤ length (now out) ⌝ }
+    ensures { λ r. ⌜ Puts (now (out .entry)) at (recordOf set tag (now (v .entry))) r (now (out .exit)) ⌝ }
 {
     let a = stores::put_number(out, at, mark_of(set), 2);
     let b = stores::put_number(out, a, tag, 2);
@@ -37,7 +37,7 @@ fn put_item(out: &mut [u8], at: usize, set: bool, tag: u64, v: &[u8]) -> usize
 // An item's record from its value as it stands in the packet; where it ends. The set's checksum has none.
 fn put_plain(table: &[u32], out: &mut [u8], at: usize, set: bool, tag: u64, v: &[u8]) -> usize
     requires { ⌜ (now table ≡ itemTable) × ((0 < length (now v)) × (at + length (itemSheet (levelOf set) tag (now v)) ≤ length (now out))) ⌝ }
-    ensures { λ r. ⌜ (r ≡ at + length (itemSheet (levelOf set) tag (now (v .entry)))) × (now (out .exit) ≡ sets (now (out .entry)) at (itemSheet (levelOf set) tag (now (v .entry)))) ⌝ }
+    ensures { λ r. ⌜ Puts (now (out .entry)) at (itemSheet (levelOf set) tag (now (v .entry))) r (now (out .exit)) ⌝ }
 {
     if set {
         if tag == 1 {
@@ -65,17 +65,9 @@ fn put_target(out: &mut [u8], at: usize, id: u64) -> usize
 // ---- the walks
 
 // The items of a level from a place on, where at bytes of its sheet are written; how many bytes the sheet has.
-fn rest_sheet(
-    table: &[u32],
-    s: &[u8],
-    from: usize,
-    at: usize,
-    set: bool,
-    alone: bool,
-    out: &mut [u8],
-) -> usize
-    requires { ⌜ (now table ≡ itemTable) × ((length (now s) ≤ 8192) × (length (levelSheet (levelOf set) (formOf alone) (now s)) ≤ length (now out)) × ((o : List ℕ) × LevelPassed set (formOf alone) (now s) o (now out) from at)) ⌝ }
-    ensures { λ r. ⌜ (r ≡ length (levelSheet (levelOf set) (formOf alone) (now (s .entry)))) × ((o : List ℕ) → LevelPassed set (formOf alone) (now (s .entry)) o (now (out .entry)) from at → now (out .exit) ≡ sets o 0 (levelSheet (levelOf set) (formOf alone) (now (s .entry)))) ⌝ }
+fn rest_sheet(table: &[u32], s: &[u8], from: usize, at: usize, set: bool, out: &mut [u8]) -> usize
+    requires { ⌜ (now table ≡ itemTable) × ((f : Form) × (o : List ℕ) × RestAsked set (now s) (now out) from at f o) ⌝ }
+    ensures { λ r. ⌜ RestLeft set (now (s .entry)) (now (out .entry)) from at r (now (out .exit)) ⌝ }
 {
     let mut p = from;
     let mut k = at;
@@ -94,7 +86,7 @@ fn rest_sheet(
         let next = from + size;
         k = if tally::is_series(set, key) {
             let m = stores::put_number(out, k, records::TS, 2);
-            m + pack_sheet(table, &s[from..next], alone, &mut out[m..])
+            m + pack_sheet(table, &s[from..next], &mut out[m..])
         } else {
             put_plain(table, out, k, set, key, &s[from..next])
         };
@@ -104,24 +96,24 @@ fn rest_sheet(
 }
 
 // The items of a pack, the quick way first; how many bytes.
-fn pack_items(table: &[u32], s: &[u8], alone: bool, out: &mut [u8]) -> usize
-    requires { ⌜ (now table ≡ itemTable) × ((length (now s) ≤ 8192) × Ran (levelRun pack (formOf alone) (now s)) × (length (levelSheet pack (formOf alone) (now s)) ≤ length (now out))) ⌝ }
-    ensures { λ r. ⌜ (r ≡ length (levelSheet pack (formOf alone) (now (s .entry)))) × (now (out .exit) ≡ sets (now (out .entry)) 0 (levelSheet pack (formOf alone) (now (s .entry)))) ⌝ }
+fn pack_items(table: &[u32], s: &[u8], out: &mut [u8]) -> usize
+    requires { ⌜ (now table ≡ itemTable) × ((f : Form) × LevelAsked pack (now s) (length (now out)) f) ⌝ }
+    ensures { λ r. ⌜ LevelLeft pack (now (s .entry)) (now (out .entry)) r (now (out .exit)) ⌝ }
 {
-    let q = quick::small_items(s, alone, out);
+    let q = quick::small_items(s, out);
     let p = q.used;
     if s.len() <= p {
         return q.wrote;
     }
-    rest_sheet(table, s, p, q.wrote, false, alone, out)
+    rest_sheet(table, s, p, q.wrote, false, out)
 }
 
 // The packs of a series, the quick way first; how many bytes.
-pub fn pack_sheet(table: &[u32], s: &[u8], alone: bool, out: &mut [u8]) -> usize
-    requires { ⌜ (now table ≡ itemTable) × ((length (now s) ≤ 8192) × Ran (seriesRun (formOf alone) (now s)) × (length (seriesSheet (formOf alone) (now s)) ≤ length (now out))) ⌝ }
-    ensures { λ r. ⌜ (r ≡ length (seriesSheet (formOf alone) (now (s .entry)))) × (now (out .exit) ≡ sets (now (out .entry)) 0 (seriesSheet (formOf alone) (now (s .entry)))) ⌝ }
+pub fn pack_sheet(table: &[u32], s: &[u8], out: &mut [u8]) -> usize
+    requires { ⌜ (now table ≡ itemTable) × ((f : Form) × SeriesAsked (now s) (length (now out)) f) ⌝ }
+    ensures { λ r. ⌜ SeriesLeft (now (s .entry)) (now (out .entry)) r (now (out .exit)) ⌝ }
 {
-    let q = quick::packs(s, alone, out);
+    let q = quick::packs(s, out);
     let mut p = q.used;
     let mut k = q.wrote;
     while p < s.len() {
@@ -138,18 +130,18 @@ pub fn pack_sheet(table: &[u32], s: &[u8], alone: bool, out: &mut [u8]) -> usize
         let from = p + width + used;
         let next = p + width + size;
         let m = put_target(out, k, key);
-        k = m + pack_items(table, &s[from..next], alone, &mut out[m..]);
+        k = m + pack_items(table, &s[from..next], &mut out[m..]);
         p = next;
     }
     k
 }
 
-// The items of a level: the set, or a pack; how many bytes.
-pub fn item_sheet(table: &[u32], s: &[u8], set: bool, alone: bool, out: &mut [u8]) -> usize
-    requires { ⌜ (now table ≡ itemTable) × ((length (now s) ≤ 8192) × Ran (levelRun (levelOf set) (formOf alone) (now s)) × (length (levelSheet (levelOf set) (formOf alone) (now s)) ≤ length (now out))) ⌝ }
-    ensures { λ r. ⌜ (r ≡ length (levelSheet (levelOf set) (formOf alone) (now (s .entry)))) × (now (out .exit) ≡ sets (now (out .entry)) 0 (levelSheet (levelOf set) (formOf alone) (now (s .entry)))) ⌝ }
+// The items of the set; how many bytes.
+pub fn item_sheet(table: &[u32], s: &[u8], out: &mut [u8]) -> usize
+    requires { ⌜ (now table ≡ itemTable) × ((f : Form) × LevelAsked set (now s) (length (now out)) f) ⌝ }
+    ensures { λ r. ⌜ LevelLeft set (now (s .entry)) (now (out .entry)) r (now (out .exit)) ⌝ }
 {
-    rest_sheet(table, s, 0, 0, set, alone, out)
+    rest_sheet(table, s, 0, 0, true, out)
 }
 
 pub mod quick; // quick.rt: the records of items told at a glance

@@ -1,17 +1,15 @@
-// The quick way over a pack that was checked: the records of items told at a glance, with a byte each for tag and length, and a value that is
-// shortest whatever the table says, from its start. What stops it is left to the item walk. A pack has neither a checksum nor a series.
+// The quick way over a series and a pack that were checked. It does not know a tag or a length of more than one byte, a pack's head that is not
+// short, nor a value of more than one byte that begins with 0, which the table may have shortened: what stops it is left to the walks. A pack has
+// neither a checksum nor a series.
 ghost use Prim.Native.Nat.{_≤_, _<_};
 ghost use lib.ListN.{length};
-ghost use Rattle.format.specs.Table.{pack};
-ghost use Rattle.items.specs.Meet.{formOf};
-ghost use Rattle.write_sheet.specs.Meet.{levelSheet, seriesSheet};
-ghost use Rattle.write_sheet.specs.Quick.{LevelPassed, SeriesPassed, SmallItem};
-ghost use Rattle.tally.specs.Runs.{Ran, levelRun, seriesRun};
-ghost use mathlib.Core.Bool.{false};
+ghost use Rattle.format.specs.Table.{Form, pack};
+ghost use Rattle.write_sheet.specs.Meet.{LevelAsked, SeriesAsked};
+ghost use Rattle.write_sheet.specs.Quick.{ItemsPassed, PacksPassed, SmallItem};
 use heads::Head;
 use stores::Passed;
 
-// How many bytes the value of such an item at p has; 0 where it is no such item.
+// How many bytes the value of an item at p has; 0 where it is none that is known here.
 fn small_size(s: &[u8], p: usize) -> usize
     requires { ⌜ (p ≤ length (now s)) × (length (now s) ≤ 8192) ⌝ }
     ensures { λ r. ⌜ (0 < r → SmallItem (now (s .entry)) p r) ⌝ }
@@ -37,10 +35,10 @@ fn small_size(s: &[u8], p: usize) -> usize
     n as usize
 }
 
-// The records of such items, one after another.
-pub fn small_items(s: &[u8], alone: bool, out: &mut [u8]) -> Passed
-    requires { ⌜ (length (now s) ≤ 8192) × Ran (levelRun pack (formOf alone) (now s)) × (length (levelSheet pack (formOf alone) (now s)) ≤ length (now out)) ⌝ }
-    ensures { λ r. ⌜ LevelPassed false (formOf alone) (now (s .entry)) (now (out .entry)) (now (out .exit)) (r .used) (r .wrote) ⌝ }
+// The records of such items, one after another, from the start.
+pub fn small_items(s: &[u8], out: &mut [u8]) -> Passed
+    requires { ⌜ ((f : Form) × LevelAsked pack (now s) (length (now out)) f) ⌝ }
+    ensures { λ r. ⌜ ItemsPassed (now (s .entry)) (now (out .entry)) (now (out .exit)) (r .used) (r .wrote) ⌝ }
 {
     let mut p: usize = 0;
     let mut k: usize = 0;
@@ -59,9 +57,9 @@ pub fn small_items(s: &[u8], alone: bool, out: &mut [u8]) -> Passed
 
 // The packs of such items alone whose head is short, one after another. The pack that stops it is left to the pack walk, which stores it anew:
 // so nothing here is lent to what stands out of line.
-pub fn packs(s: &[u8], alone: bool, out: &mut [u8]) -> Passed
-    requires { ⌜ (length (now s) ≤ 8192) × Ran (seriesRun (formOf alone) (now s)) × (length (seriesSheet (formOf alone) (now s)) ≤ length (now out)) ⌝ }
-    ensures { λ r. ⌜ SeriesPassed (formOf alone) (now (s .entry)) (now (out .entry)) (now (out .exit)) (r .used) (r .wrote) ⌝ }
+pub fn packs(s: &[u8], out: &mut [u8]) -> Passed
+    requires { ⌜ ((f : Form) × SeriesAsked (now s) (length (now out)) f) ⌝ }
+    ensures { λ r. ⌜ PacksPassed (now (s .entry)) (now (out .entry)) (now (out .exit)) (r .used) (r .wrote) ⌝ }
 {
     let mut p: usize = 0;
     let mut k: usize = 0;
@@ -79,7 +77,7 @@ pub fn packs(s: &[u8], alone: bool, out: &mut [u8]) -> Passed
         let from = p + width + used;
         let next = p + width + size;
         let m = super::put_target(out, k, key);
-        let q = small_items(&s[from..next], alone, &mut out[m..]);
+        let q = small_items(&s[from..next], &mut out[m..]);
         if q.used < next - from {
             return Passed { used: p, wrote: k };
         }

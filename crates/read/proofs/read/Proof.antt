@@ -1,11 +1,52 @@
 -- `read::read` meets its contract: each way out is a case of what is left behind.
--- In each answer a is where the check was found fine, k where there is room, and h where the sheet's head is known.
+use mathlib.Core.Path.{_≡_}
 use native.Mathlib.Omega.{arith}
+use mathlib.Core.List.{[], _∷_}
 use borrow.Author.Needs.{needs}
-use Rattle.check_packet.proofs.Opened.{set-room, set-ran, set-long}
-use Rattle.read.proofs.Reading.{head-bytes, read-refused, read-short, set-size, rest-from, rest-room, read-done}
+use Rattle.format.specs.Coding.{Bytes, fixed}
+use Rattle.format.specs.Read.{parse}
+use Rattle.format.specs.Sheet.{PK, formByte}
+use Rattle.items.specs.Meet.{formOf}
+use Rattle.check_packet.specs.declared.Checked.the-variants as Checked
+use Rattle.check_packet.specs.Meet.{checkedOf}
+use Rattle.check_packet.proofs.Opened.{set-room}
+use Rattle.read.proofs.Reading.{head-bytes, read-refused, read-short, set-size, rest-from, set-asked, read-done}
 use Rattle.read.proofs.read.Statement.{statement}
 use Rattle.read.proofs.read.Tie as tie
+
+-- ---- the places: the check found the packet fine, there is room, and the sheet's head is known
+
+abbrev Fine : Type 0
+Fine = tie.After-c
+
+abbrev start : Fine → tie.Start
+start a = a .before .before .before .before .before .before .before
+
+checked : (a : Fine) → a .before .before .check .result ≡ checkedOf (parse (formOf (start a .args .alone)) (start a .args .packet .now))
+checked a = a .before .before .check .ensures
+
+bytes : (a : Fine) → Bytes (start a .args .packet .now)
+bytes a = λ i. a .before .before .before .before .before .before .shared-slice-known .given i .fits
+
+fine : (a : Fine) → a .before .before .check .result ≡ Checked.Fine (a .c .given .0 .0) (a .c .given .0 .1 .0)
+fine a = a .c .given .1
+
+abbrev Roomy : Type 0
+Roomy = tie.Else1
+
+abbrev found : Roomy → Fine
+found k = k .before .before .before
+
+abbrev Headed : Type 0
+Headed = tie.After-head-of
+
+abbrev roomy : Headed → Roomy
+roomy h = h .before .before
+
+head : (h : Headed) → fixed 3 (h .head-of .result) ≡ PK .0 ∷ PK .1 ∷ formByte (formOf (start (found (roomy h)) .args .alone)) ∷ []
+head h = head-bytes (start (found (roomy h)) .args .alone) (h .head-of .ensures)
+
+-- ---- the needs
 
 glances-requires : tie.Need-glances-requires
 glances-requires c κs = search needs
@@ -34,7 +75,7 @@ answer-of-requires c κs = search needs
 returns-2 : tie.Need-returns-2
 returns-2 c =
     let a = c .before .before .before .before in
-    read-short _ _ _ (a .before .before .check .ensures) (λ i. a .before .before .before .before .before .before .shared-slice-known .given i .fits) (a .c .given .1) (c .before .if1 .taken) (c .answer-of .ensures)
+    read-short _ _ _ (checked a) (bytes a) (fine a) (c .before .if1 .taken) (c .answer-of .ensures)
 
 head-of-requires : tie.Need-head-of-requires
 head-of-requires c κs = search needs
@@ -42,9 +83,9 @@ head-of-requires c κs = search needs
 put-number-requires : tie.Need-put-number-requires
 put-number-requires c κs =
     let h = c in
-    let k = h .before .before in
-    let a = k .before .before .before in
-    omega (arith, set-size _ _ (a .before .before .before .before .before .before .before .args .sheet .now) (a .before .before .check .ensures) (λ i. a .before .before .before .before .before .before .shared-slice-known .given i .fits) (a .c .given .1) _ (head-bytes (a .before .before .before .before .before .before .before .args .alone) (h .head-of .ensures)) (k .if1 .left), k .if1 .left)
+    let k = roomy h in
+    let a = found k in
+    omega (arith, set-size _ _ (start a .args .sheet .now) (checked a) (bytes a) (fine a) _ (head h) (k .if1 .left), k .if1 .left)
 
 table-requires : tie.Need-table-requires
 table-requires c κs = search needs
@@ -55,9 +96,9 @@ slice-aggregate-item-sheet c = search needs
 sub-item-sheet : tie.Need-sub-item-sheet
 sub-item-sheet c =
     let h = c .before .before .before .before .before in
-    let k = h .before .before in
-    let a = k .before .before .before in
-    set-room _ _ (a .before .before .check .ensures) (λ i. a .before .before .before .before .before .before .shared-slice-known .given i .fits) (a .c .given .1)
+    let k = roomy h in
+    let a = found k in
+    set-room _ _ (checked a) (bytes a) (fine a)
 
 part-item-sheet-start : tie.Need-part-item-sheet-start
 part-item-sheet-start c = sub-item-sheet c
@@ -68,9 +109,9 @@ part-item-sheet-end c = search needs
 sub-item-sheet-2 : tie.Need-sub-item-sheet-2
 sub-item-sheet-2 c =
     let h = c .before .before .before .before .before .before in
-    let k = h .before .before in
-    let a = k .before .before .before in
-    rest-from _ _ (a .before .before .before .before .before .before .before .args .sheet .now) (a .before .before .check .ensures) (λ i. a .before .before .before .before .before .before .shared-slice-known .given i .fits) (a .c .given .1) _ (head-bytes (a .before .before .before .before .before .before .before .args .alone) (h .head-of .ensures)) (k .if1 .left) (c .before .before .before .before .before .put-number .ensures .1)
+    let k = roomy h in
+    let a = found k in
+    rest-from _ _ (start a .args .sheet .now) (checked a) (bytes a) (fine a) _ (head h) (k .if1 .left) (c .before .before .before .before .before .put-number .ensures .1)
 
 part-item-sheet-start-2 : tie.Need-part-item-sheet-start-2
 part-item-sheet-start-2 c = sub-item-sheet-2 c
@@ -81,15 +122,9 @@ part-item-sheet-end-2 c = search needs
 item-sheet-requires : tie.Need-item-sheet-requires
 item-sheet-requires c κs =
     let h = c .before .before .before .before .before .before .before in
-    let k = h .before .before in
-    let a = k .before .before .before in (
-      c .before .before .before .table .ensures,
-      (
-        omega (arith, set-long _ _ (a .before .before .check .ensures) (λ i. a .before .before .before .before .before .before .shared-slice-known .given i .fits) (a .c .given .1)),
-        set-ran _ _ (a .before .before .check .ensures) (λ i. a .before .before .before .before .before .before .shared-slice-known .given i .fits) (a .c .given .1),
-        rest-room _ _ (a .before .before .before .before .before .before .before .args .sheet .now) (a .before .before .check .ensures) (λ i. a .before .before .before .before .before .before .shared-slice-known .given i .fits) (a .c .given .1) _ (head-bytes (a .before .before .before .before .before .before .before .args .alone) (h .head-of .ensures)) (k .if1 .left) (c .before .before .before .before .before .before .put-number .ensures .1),
-      ),
-    )
+    let k = roomy h in
+    let a = found k in
+    (c .before .before .before .table .ensures, (_, set-asked _ _ (start a .args .sheet .now) (checked a) (bytes a) (fine a) _ (head h) (k .if1 .left) (c .before .before .before .before .before .before .put-number .ensures .1)))
 
 answer-of-requires-2 : tie.Need-answer-of-requires-2
 answer-of-requires-2 c κs = search needs
@@ -100,9 +135,9 @@ same-length c = search needs
 returns-3 : tie.Need-returns-3
 returns-3 c =
     let h = c .before .before .before .before .before .before .before .before .before .before .before in
-    let k = h .before .before in
-    let a = k .before .before .before in
-    read-done _ _ _ (a .before .before .check .ensures) (λ i. a .before .before .before .before .before .before .shared-slice-known .given i .fits) (a .c .given .1) _ (head-bytes (a .before .before .before .before .before .before .before .args .alone) (h .head-of .ensures)) (k .if1 .left) (c .before .before .before .before .before .before .before .before .before .before .put-number .ensures .1) (c .before .before .before .item-sheet .ensures .1) (c .answer-of2 .ensures)
+    let k = roomy h in
+    let a = found k in
+    read-done _ _ _ (checked a) (bytes a) (fine a) _ (head h) (k .if1 .left) (c .before .before .before .before .before .before .before .before .before .before .put-number .ensures .1) (c .before .before .before .item-sheet .ensures) (c .answer-of2 .ensures)
 
 pub read-spec : {M : Type 1} → statement M
 read-spec =

@@ -9,11 +9,12 @@ use lib.Seq.{length-sets}
 use borrow.Author.Needs.{needs}
 use borrow.Fn.Kinds.{In}
 use borrow.Fn.PlainCycle.{Measures, is, falls, and}
-use Rattle.items.specs.Meet.{formOf}
+use Rattle.format.specs.Table.{Form, pack}
 use Rattle.tally.proofs.ItemTurns.{depth, series-deep}
 use Rattle.write_laws.proofs.Entries.{level-done, entry-fault, entry-room}
 use Rattle.write_laws.proofs.Packs.{series-done, pack-fault, pack-room}
-use Rattle.write_sheet.specs.Quick.{LevelPassed, SeriesPassed}
+use Rattle.write_sheet.specs.Meet.{LevelAsked, SeriesAsked}
+use Rattle.write_sheet.specs.Quick.{RestAsked, SeriesPassed}
 use Rattle.write_sheet.proofs.Turns.{LevelSheets, SheetEntry, one-room, one-more, mark-room, series-behind, series-asked, series-more, SeriesSheets, SheetPack, target-room, items-behind, level-asked, items-more}
 use Rattle.write_sheet.proofs.rest_sheet.Reads as rest-sheet
 use Rattle.write_sheet.proofs.rest_sheet.Kinds as rest-sheet-kinds
@@ -75,261 +76,382 @@ pack-claims t = (packs-reads.Asked, packs-reads.Learnt, quick-pack-head-reads.As
 
 -- ---- the item walk, from a place on
 
+-- whatever the form, and whatever the output was where the level began
 abbrev rest-sheet-Inv-loop : rest-sheet-lts.InvT-loop
-rest-sheet-Inv-loop table s from at set alone out₀ p₀ k₀ out p k = (o : List ℕ) → LevelPassed set (formOf alone) s o out₀ from at → LevelSheets set (formOf alone) s o out p k
+rest-sheet-Inv-loop table s from at set out₀ p₀ k₀ out p k = (f : Form) (o : List ℕ) → RestAsked set s out₀ from at f o → LevelSheets set f s o out p k
 
 abbrev rest-sheet-μ-loop : rest-sheet-lts.MeasureT-loop
-rest-sheet-μ-loop table s from at set alone out₀ p₀ k₀ out p k = length s - p
+rest-sheet-μ-loop table s from at set out₀ p₀ k₀ out p k = length s - p
 
--- the entry at the head that was read, whatever the output was where the level began
-item-here : (t : ℕ) (a : rest-sheet-lts.After-h (rest-claims t) (rest-sheet-at t) rest-sheet.Post rest-sheet-Inv-loop rest-sheet-μ-loop) (o : List ℕ)
-    → LevelPassed (a .before .before .before .before .before .before .before .before .before .args .set) (formOf (a .before .before .before .before .before .before .before .before .before .args .alone)) (a .before .before .before .before .before .before .before .before .before .args .s .now) o (a .before .before .before .before .before .before .before .before .before .args .out .now) (a .before .before .before .before .before .before .before .before .before .args .from) (a .before .before .before .before .before .before .before .before .before .args .at)
-    → SheetEntry (a .before .before .before .before .before .before .before .before .before .args .set) (formOf (a .before .before .before .before .before .before .before .before .before .args .alone)) (a .before .before .before .before .before .before .before .before .before .args .s .now) o (a .before .before .before .before .before .loop .out) (a .before .before .before .before .before .loop .p) (a .before .before .before .before .before .loop .k) (a .h .given .0 .0) (a .h .given .0 .1 .0) (a .h .given .0 .1 .1 .0) (a .h .given .0 .1 .1 .1 .0)
-item-here t a o g = record {
-  going = a .before .before .before .before .before .loop .inv o g;
-  here = a .before .before .before .before .loop-test .taken;
-  head = _;
-  reads = a .before .before .item-head .ensures;
-  whole = a .h .given .1;
-  bytes = λ i. a .before .before .before .before .before .before .before .shared-slice-known2 .given i .fits;
-  most = a .before .before .before .before .before .before .before .before .before .pre .1 .1 .0;
-  room = omega (arith, a .before .before .before .before .before .before .before .before .before .pre .1 .1 .1, g .same);
-}
+module _ (t : ℕ) where
+  -- the places: the loop, an entry's head, whether it is the series, and the series' mark stored
+  abbrev ItemLoop : Type 0
+  ItemLoop = rest-sheet-lts.At-loop (rest-claims t) (rest-sheet-at t) rest-sheet.Post rest-sheet-Inv-loop rest-sheet-μ-loop
 
--- and for one such
-item-at : (t : ℕ) (a : rest-sheet-lts.After-h (rest-claims t) (rest-sheet-at t) rest-sheet.Post rest-sheet-Inv-loop rest-sheet-μ-loop)
-    → SheetEntry (a .before .before .before .before .before .before .before .before .before .args .set) (formOf (a .before .before .before .before .before .before .before .before .before .args .alone)) (a .before .before .before .before .before .before .before .before .before .args .s .now) (a .before .before .before .before .before .before .before .before .before .pre .1 .1 .2 .0) (a .before .before .before .before .before .loop .out) (a .before .before .before .before .before .loop .p) (a .before .before .before .before .before .loop .k) (a .h .given .0 .0) (a .h .given .0 .1 .0) (a .h .given .0 .1 .1 .0) (a .h .given .0 .1 .1 .1 .0)
-item-at t a = item-here t a (a .before .before .before .before .before .before .before .before .before .pre .1 .1 .2 .0) (a .before .before .before .before .before .before .before .before .before .pre .1 .1 .2 .1)
+  abbrev item-start : ItemLoop → rest-sheet-lts.Start (rest-claims t) (rest-sheet-at t) rest-sheet.Post rest-sheet-Inv-loop rest-sheet-μ-loop
+  item-start a = a .before .before .before .before
 
-rest-sheet-loop-holds : (t : ℕ) → rest-sheet-lts.Need-loop-holds (rest-claims t) (rest-sheet-at t) rest-sheet.Post rest-sheet-Inv-loop rest-sheet-μ-loop
-rest-sheet-loop-holds t c = λ o g. record { writes = g }
+  abbrev ItemHead : Type 0
+  ItemHead = rest-sheet-lts.After-h (rest-claims t) (rest-sheet-at t) rest-sheet.Post rest-sheet-Inv-loop rest-sheet-μ-loop
 
-rest-sheet-sub-item-head : (t : ℕ) → rest-sheet-lts.Need-sub-item-head (rest-claims t) (rest-sheet-at t) rest-sheet.Post rest-sheet-Inv-loop rest-sheet-μ-loop
-rest-sheet-sub-item-head t c = search needs
+  abbrev item-loop : ItemHead → ItemLoop
+  item-loop a = a .before .before .before .before .before
 
-rest-sheet-part-item-head-start : (t : ℕ) → rest-sheet-lts.Need-part-item-head-start (rest-claims t) (rest-sheet-at t) rest-sheet.Post rest-sheet-Inv-loop rest-sheet-μ-loop
-rest-sheet-part-item-head-start t c = search needs
+  abbrev ItemTold : Type 0
+  ItemTold = rest-sheet-lts.After-is-series (rest-claims t) (rest-sheet-at t) rest-sheet.Post rest-sheet-Inv-loop rest-sheet-μ-loop
 
-rest-sheet-part-item-head-end : (t : ℕ) → rest-sheet-lts.Need-part-item-head-end (rest-claims t) (rest-sheet-at t) rest-sheet.Post rest-sheet-Inv-loop rest-sheet-μ-loop
-rest-sheet-part-item-head-end t c = search needs
+  abbrev item-head : ItemTold → ItemHead
+  item-head a = a .before .before
 
-rest-sheet-item-head-requires : (t : ℕ) → rest-sheet-lts.Need-item-head-requires (rest-claims t) (rest-sheet-at t) rest-sheet.Post rest-sheet-Inv-loop rest-sheet-μ-loop
-rest-sheet-item-head-requires t c κs = search needs
+  abbrev SeriesMark : Type 0
+  SeriesMark = rest-sheet-lts.After-put-number (rest-claims t) (rest-sheet-at t) rest-sheet.Post rest-sheet-Inv-loop rest-sheet-μ-loop
 
-rest-sheet-enum-known-h : (t : ℕ) → rest-sheet-lts.Need-enum-known-h (rest-claims t) (rest-sheet-at t) rest-sheet.Post rest-sheet-Inv-loop rest-sheet-μ-loop
-rest-sheet-enum-known-h t c = search needs
+  abbrev series-then : SeriesMark → rest-sheet-lts.Then1 (rest-claims t) (rest-sheet-at t) rest-sheet.Post rest-sheet-Inv-loop rest-sheet-μ-loop
+  series-then a = a .before .before
 
-rest-sheet-enum-told : (t : ℕ) → rest-sheet-lts.Need-enum-told (rest-claims t) (rest-sheet-at t) rest-sheet.Post rest-sheet-Inv-loop rest-sheet-μ-loop
-rest-sheet-enum-told t c = search needs
+  -- the loop, for the form and the output that are known
+  item-going : (a : ItemLoop)
+      → LevelSheets (item-start a .args .set) (item-start a .pre .1 .1 .0) (item-start a .args .s .now) (item-start a .pre .1 .1 .1) (a .loop .out) (a .loop .p) (a .loop .k)
+  item-going a = a .loop .inv (item-start a .pre .1 .1 .0) (item-start a .pre .1 .1 .1) (item-start a .pre .1 .1 .2)
 
-rest-sheet-same-length : (t : ℕ) → rest-sheet-lts.Need-same-length (rest-claims t) (rest-sheet-at t) rest-sheet.Post rest-sheet-Inv-loop rest-sheet-μ-loop
-rest-sheet-same-length t c = c .before .before .before .before .before .loop .inv (c .before .before .before .before .before .before .before .before .before .pre .1 .1 .2 .0) (c .before .before .before .before .before .before .before .before .before .pre .1 .1 .2 .1) .writes .same ∙ sym (c .before .before .before .before .before .before .before .before .before .pre .1 .1 .2 .1 .same)
+  -- the entry at its head, for any
+  item-in : (a : ItemHead) (f : Form) (o : List ℕ)
+      → RestAsked (item-start (item-loop a) .args .set) (item-start (item-loop a) .args .s .now) (item-start (item-loop a) .args .out .now) (item-start (item-loop a) .args .from) (item-start (item-loop a) .args .at) f o
+      → SheetEntry (item-start (item-loop a) .args .set) f (item-start (item-loop a) .args .s .now) o (item-loop a .loop .out) (item-loop a .loop .p) (item-loop a .loop .k)
+      (a .h .given .0 .0) (a .h .given .0 .1 .0) (a .h .given .0 .1 .1 .0) (a .h .given .0 .1 .1 .1 .0)
+  item-in a f o g = record {
+    going = item-loop a .loop .inv f o g;
+    here = a .before .before .before .before .loop-test .taken;
+    head = _;
+    reads = a .before .before .item-head .ensures;
+    whole = a .h .given .1;
+    bytes = λ i. item-loop a .before .before .shared-slice-known2 .given i .fits;
+    most = g .asked .few;
+    room = g .asked .fits;
+  }
 
-rest-sheet-returns : (t : ℕ) → rest-sheet-lts.Need-returns (rest-claims t) (rest-sheet-at t) rest-sheet.Post rest-sheet-Inv-loop rest-sheet-μ-loop
-rest-sheet-returns t c = entry-fault (c .before .before .before .before .before .loop .inv (c .before .before .before .before .before .before .before .before .before .pre .1 .1 .2 .0) (c .before .before .before .before .before .before .before .before .before .pre .1 .1 .2 .1)) (c .before .before .before .before .loop-test .taken) (c .before .before .item-head .ensures) (c .enum-told .given .1)
+  abbrev item-at : (a : ItemHead)
+      → SheetEntry (item-start (item-loop a) .args .set) (item-start (item-loop a) .pre .1 .1 .0) (item-start (item-loop a) .args .s .now) (item-start (item-loop a) .pre .1 .1 .1)
+      (item-loop a .loop .out) (item-loop a .loop .p) (item-loop a .loop .k) (a .h .given .0 .0) (a .h .given .0 .1 .0) (a .h .given .0 .1 .1 .0) (a .h .given .0 .1 .1 .1 .0)
+  item-at a = item-in a (item-start (item-loop a) .pre .1 .1 .0) (item-start (item-loop a) .pre .1 .1 .1) (item-start (item-loop a) .pre .1 .1 .2)
 
-rest-sheet-add-from : (t : ℕ) → rest-sheet-lts.Need-add-from (rest-claims t) (rest-sheet-at t) rest-sheet.Post rest-sheet-Inv-loop rest-sheet-μ-loop
-rest-sheet-add-from t c = omega (arith, entry-room (item-at t (c .before)))
+  rest-sheet-loop-holds : rest-sheet-lts.Need-loop-holds (rest-claims t) (rest-sheet-at t) rest-sheet.Post rest-sheet-Inv-loop rest-sheet-μ-loop
+  rest-sheet-loop-holds c = λ f o g. record { writes = g .passed }
 
-rest-sheet-add-from-2 : (t : ℕ) → rest-sheet-lts.Need-add-from-2 (rest-claims t) (rest-sheet-at t) rest-sheet.Post rest-sheet-Inv-loop rest-sheet-μ-loop
-rest-sheet-add-from-2 t c = omega (arith, entry-room (item-at t (c .before)))
+  rest-sheet-sub-item-head : rest-sheet-lts.Need-sub-item-head (rest-claims t) (rest-sheet-at t) rest-sheet.Post rest-sheet-Inv-loop rest-sheet-μ-loop
+  rest-sheet-sub-item-head c = search needs
 
-rest-sheet-add-next : (t : ℕ) → rest-sheet-lts.Need-add-next (rest-claims t) (rest-sheet-at t) rest-sheet.Post rest-sheet-Inv-loop rest-sheet-μ-loop
-rest-sheet-add-next t c = omega (arith, entry-room (item-at t (c .before)))
+  rest-sheet-part-item-head-start : rest-sheet-lts.Need-part-item-head-start (rest-claims t) (rest-sheet-at t) rest-sheet.Post rest-sheet-Inv-loop rest-sheet-μ-loop
+  rest-sheet-part-item-head-start c = search needs
 
-rest-sheet-is-series-requires : (t : ℕ) → rest-sheet-lts.Need-is-series-requires (rest-claims t) (rest-sheet-at t) rest-sheet.Post rest-sheet-Inv-loop rest-sheet-μ-loop
-rest-sheet-is-series-requires t c κs = search needs
+  rest-sheet-part-item-head-end : rest-sheet-lts.Need-part-item-head-end (rest-claims t) (rest-sheet-at t) rest-sheet.Post rest-sheet-Inv-loop rest-sheet-μ-loop
+  rest-sheet-part-item-head-end c = search needs
 
-rest-sheet-put-number-requires : (t : ℕ) → rest-sheet-lts.Need-put-number-requires (rest-claims t) (rest-sheet-at t) rest-sheet.Post rest-sheet-Inv-loop rest-sheet-μ-loop
-rest-sheet-put-number-requires t c κs = mark-room (item-at t (c .before .before .before .before)) (c .before .before .is-series .ensures) (c .before .if1 .taken)
+  rest-sheet-item-head-requires : rest-sheet-lts.Need-item-head-requires (rest-claims t) (rest-sheet-at t) rest-sheet.Post rest-sheet-Inv-loop rest-sheet-μ-loop
+  rest-sheet-item-head-requires c κs = search needs
 
-rest-sheet-sub-pack-sheet : (t : ℕ) → rest-sheet-lts.Need-sub-pack-sheet (rest-claims t) (rest-sheet-at t) rest-sheet.Post rest-sheet-Inv-loop rest-sheet-μ-loop
-rest-sheet-sub-pack-sheet t c = omega (arith, entry-room (item-at t (c .before .before .before .before .before .before .before)))
+  rest-sheet-enum-known-h : rest-sheet-lts.Need-enum-known-h (rest-claims t) (rest-sheet-at t) rest-sheet.Post rest-sheet-Inv-loop rest-sheet-μ-loop
+  rest-sheet-enum-known-h c = search needs
 
-rest-sheet-part-pack-sheet-start : (t : ℕ) → rest-sheet-lts.Need-part-pack-sheet-start (rest-claims t) (rest-sheet-at t) rest-sheet.Post rest-sheet-Inv-loop rest-sheet-μ-loop
-rest-sheet-part-pack-sheet-start t c = omega (arith, entry-room (item-at t (c .before .before .before .before .before .before .before)))
+  rest-sheet-enum-told : rest-sheet-lts.Need-enum-told (rest-claims t) (rest-sheet-at t) rest-sheet.Post rest-sheet-Inv-loop rest-sheet-μ-loop
+  rest-sheet-enum-told c = search needs
 
-rest-sheet-part-pack-sheet-end : (t : ℕ) → rest-sheet-lts.Need-part-pack-sheet-end (rest-claims t) (rest-sheet-at t) rest-sheet.Post rest-sheet-Inv-loop rest-sheet-μ-loop
-rest-sheet-part-pack-sheet-end t c = omega (arith, entry-room (item-at t (c .before .before .before .before .before .before .before)))
+  rest-sheet-same-length : rest-sheet-lts.Need-same-length (rest-claims t) (rest-sheet-at t) rest-sheet.Post rest-sheet-Inv-loop rest-sheet-μ-loop
+  rest-sheet-same-length c = let a = c .before .before .before .before .before in item-going a .writes .same ∙ sym (item-start a .pre .1 .1 .2 .passed .same)
 
-rest-sheet-sub-pack-sheet-2 : (t : ℕ) → rest-sheet-lts.Need-sub-pack-sheet-2 (rest-claims t) (rest-sheet-at t) rest-sheet.Post rest-sheet-Inv-loop rest-sheet-μ-loop
-rest-sheet-sub-pack-sheet-2 t c = series-behind (item-at t (c .before .before .before .before .before .before .before .before)) (c .before .before .before .before .before .before .is-series .ensures) (c .before .before .before .before .before .if1 .taken) (c .before .before .before .put-number .ensures)
+  rest-sheet-returns : rest-sheet-lts.Need-returns (rest-claims t) (rest-sheet-at t) rest-sheet.Post rest-sheet-Inv-loop rest-sheet-μ-loop
+  rest-sheet-returns c = entry-fault (item-going (c .before .before .before .before .before)) (c .before .before .before .before .loop-test .taken) (c .before .before .item-head .ensures) (c .enum-told .given .1)
 
-rest-sheet-part-pack-sheet-start-2 : (t : ℕ) → rest-sheet-lts.Need-part-pack-sheet-start-2 (rest-claims t) (rest-sheet-at t) rest-sheet.Post rest-sheet-Inv-loop rest-sheet-μ-loop
-rest-sheet-part-pack-sheet-start-2 t c = series-behind (item-at t (c .before .before .before .before .before .before .before .before)) (c .before .before .before .before .before .before .is-series .ensures) (c .before .before .before .before .before .if1 .taken) (c .before .before .before .put-number .ensures)
+  rest-sheet-add-from : rest-sheet-lts.Need-add-from (rest-claims t) (rest-sheet-at t) rest-sheet.Post rest-sheet-Inv-loop rest-sheet-μ-loop
+  rest-sheet-add-from c = omega (arith, entry-room (item-at (c .before)))
 
-rest-sheet-part-pack-sheet-end-2 : (t : ℕ) → rest-sheet-lts.Need-part-pack-sheet-end-2 (rest-claims t) (rest-sheet-at t) rest-sheet.Post rest-sheet-Inv-loop rest-sheet-μ-loop
-rest-sheet-part-pack-sheet-end-2 t c = search needs
+  rest-sheet-add-from-2 : rest-sheet-lts.Need-add-from-2 (rest-claims t) (rest-sheet-at t) rest-sheet.Post rest-sheet-Inv-loop rest-sheet-μ-loop
+  rest-sheet-add-from-2 c = omega (arith, entry-room (item-at (c .before)))
 
-rest-sheet-pack-sheet-requires : (t : ℕ) → rest-sheet-lts.Need-pack-sheet-requires (rest-claims t) (rest-sheet-at t) rest-sheet.Post rest-sheet-Inv-loop rest-sheet-μ-loop
-rest-sheet-pack-sheet-requires t c κs = (omega (arith, series-deep (c .before .before .before .before .before .before .before .before .before .before .before .before .before .before .before .before .before .before .args .set) (c .before .before .before .before .before .before .before .before .before .h .given .0 .0) (c .before .before .before .before .before .before .before .is-series .ensures) (c .before .before .before .before .before .before .if1 .taken), c .before .before .before .before .before .before .before .before .before .before .before .before .before .before .before .before .before .before .pre .0), (c .before .before .before .before .before .before .before .before .before .before .before .before .before .before .before .before .before .before .pre .1 .0, series-asked (item-at t (c .before .before .before .before .before .before .before .before .before)) (c .before .before .before .before .before .before .before .is-series .ensures) (c .before .before .before .before .before .before .if1 .taken) (c .before .before .before .before .put-number .ensures)))
+  rest-sheet-add-next : rest-sheet-lts.Need-add-next (rest-claims t) (rest-sheet-at t) rest-sheet.Post rest-sheet-Inv-loop rest-sheet-μ-loop
+  rest-sheet-add-next c = omega (arith, entry-room (item-at (c .before)))
 
-rest-sheet-add-k : (t : ℕ) → rest-sheet-lts.Need-add-k (rest-claims t) (rest-sheet-at t) rest-sheet.Post rest-sheet-Inv-loop rest-sheet-μ-loop
-rest-sheet-add-k t c = omega (arith, series-more (item-at t (c .before .before .before .before .before .before .before .before .before .before .before .before)) (c .before .before .before .before .before .before .before .before .before .before .is-series .ensures) (c .before .before .before .before .before .before .before .before .before .if1 .taken) (c .before .before .before .before .before .before .before .put-number .ensures) (c .before .before .pack-sheet .ensures) .writes .sum, c .before .before .before .before .before .before .before .before .before .before .before .before .before .before .before .before .before .before .before .before .before .pre .1 .1 .1, c .before .before .before .before .before .before .before .before .before .before .before .before .before .before .before .before .before .before .before .before .before .good)
+  rest-sheet-is-series-requires : rest-sheet-lts.Need-is-series-requires (rest-claims t) (rest-sheet-at t) rest-sheet.Post rest-sheet-Inv-loop rest-sheet-μ-loop
+  rest-sheet-is-series-requires c κs = search needs
 
-rest-sheet-sub-put-plain : (t : ℕ) → rest-sheet-lts.Need-sub-put-plain (rest-claims t) (rest-sheet-at t) rest-sheet.Post rest-sheet-Inv-loop rest-sheet-μ-loop
-rest-sheet-sub-put-plain t c = omega (arith, entry-room (item-at t (c .before .before .before .before)))
+  rest-sheet-put-number-requires : rest-sheet-lts.Need-put-number-requires (rest-claims t) (rest-sheet-at t) rest-sheet.Post rest-sheet-Inv-loop rest-sheet-μ-loop
+  rest-sheet-put-number-requires c κs = let a = c .before .before in mark-room (item-at (item-head a)) (a .is-series .ensures) (c .before .if1 .taken)
 
-rest-sheet-part-put-plain-start : (t : ℕ) → rest-sheet-lts.Need-part-put-plain-start (rest-claims t) (rest-sheet-at t) rest-sheet.Post rest-sheet-Inv-loop rest-sheet-μ-loop
-rest-sheet-part-put-plain-start t c = omega (arith, entry-room (item-at t (c .before .before .before .before)))
+  rest-sheet-sub-pack-sheet : rest-sheet-lts.Need-sub-pack-sheet (rest-claims t) (rest-sheet-at t) rest-sheet.Post rest-sheet-Inv-loop rest-sheet-μ-loop
+  rest-sheet-sub-pack-sheet c = omega (arith, entry-room (item-at (item-head (series-then (c .before .before) .before))))
 
-rest-sheet-part-put-plain-end : (t : ℕ) → rest-sheet-lts.Need-part-put-plain-end (rest-claims t) (rest-sheet-at t) rest-sheet.Post rest-sheet-Inv-loop rest-sheet-μ-loop
-rest-sheet-part-put-plain-end t c = omega (arith, entry-room (item-at t (c .before .before .before .before)))
+  rest-sheet-part-pack-sheet-start : rest-sheet-lts.Need-part-pack-sheet-start (rest-claims t) (rest-sheet-at t) rest-sheet.Post rest-sheet-Inv-loop rest-sheet-μ-loop
+  rest-sheet-part-pack-sheet-start c = omega (arith, entry-room (item-at (item-head (series-then (c .before .before) .before))))
 
-rest-sheet-put-plain-requires : (t : ℕ) → rest-sheet-lts.Need-put-plain-requires (rest-claims t) (rest-sheet-at t) rest-sheet.Post rest-sheet-Inv-loop rest-sheet-μ-loop
-rest-sheet-put-plain-requires t c κs = (c .before .before .before .before .before .before .before .before .before .before .before .before .before .before .pre .1 .0, one-room (item-at t (c .before .before .before .before .before)) (c .before .before .before .is-series .ensures) (c .before .before .if1 .left))
+  rest-sheet-part-pack-sheet-end : rest-sheet-lts.Need-part-pack-sheet-end (rest-claims t) (rest-sheet-at t) rest-sheet.Post rest-sheet-Inv-loop rest-sheet-μ-loop
+  rest-sheet-part-pack-sheet-end c = omega (arith, entry-room (item-at (item-head (series-then (c .before .before) .before))))
 
-rest-sheet-loop-less : (t : ℕ) → rest-sheet-lts.Need-loop-less (rest-claims t) (rest-sheet-at t) rest-sheet.Post rest-sheet-Inv-loop rest-sheet-μ-loop
-rest-sheet-loop-less t c = omega (arith, entry-room (item-at t (c .before .before .before .before .before .before .before .before .before .before .before .before)))
+  rest-sheet-sub-pack-sheet-2 : rest-sheet-lts.Need-sub-pack-sheet-2 (rest-claims t) (rest-sheet-at t) rest-sheet.Post rest-sheet-Inv-loop rest-sheet-μ-loop
+  rest-sheet-sub-pack-sheet-2 c = let m = c .before .before .before in let a = series-then m in series-behind (item-at (item-head (a .before))) (a .before .is-series .ensures) (a .if1 .taken) (m .put-number .ensures)
 
-rest-sheet-loop-again : (t : ℕ) → rest-sheet-lts.Need-loop-again (rest-claims t) (rest-sheet-at t) rest-sheet.Post rest-sheet-Inv-loop rest-sheet-μ-loop
-rest-sheet-loop-again t c = λ o g. series-more (item-here t (c .before .before .before .before .before .before .before .before .before .before .before .before) o g) (c .before .before .before .before .before .before .before .before .before .before .is-series .ensures) (c .before .before .before .before .before .before .before .before .before .if1 .taken) (c .before .before .before .before .before .before .before .put-number .ensures) (c .before .before .pack-sheet .ensures)
+  rest-sheet-part-pack-sheet-start-2 : rest-sheet-lts.Need-part-pack-sheet-start-2 (rest-claims t) (rest-sheet-at t) rest-sheet.Post rest-sheet-Inv-loop rest-sheet-μ-loop
+  rest-sheet-part-pack-sheet-start-2 c = rest-sheet-sub-pack-sheet-2 c
 
-rest-sheet-loop-less-2 : (t : ℕ) → rest-sheet-lts.Need-loop-less-2 (rest-claims t) (rest-sheet-at t) rest-sheet.Post rest-sheet-Inv-loop rest-sheet-μ-loop
-rest-sheet-loop-less-2 t c = omega (arith, entry-room (item-at t (c .before .before .before .before .before .before .before .before)))
+  rest-sheet-part-pack-sheet-end-2 : rest-sheet-lts.Need-part-pack-sheet-end-2 (rest-claims t) (rest-sheet-at t) rest-sheet.Post rest-sheet-Inv-loop rest-sheet-μ-loop
+  rest-sheet-part-pack-sheet-end-2 c = search needs
 
-rest-sheet-loop-again-2 : (t : ℕ) → rest-sheet-lts.Need-loop-again-2 (rest-claims t) (rest-sheet-at t) rest-sheet.Post rest-sheet-Inv-loop rest-sheet-μ-loop
-rest-sheet-loop-again-2 t c = λ o g. one-more (item-here t (c .before .before .before .before .before .before .before .before) o g) (c .before .before .before .before .before .before .is-series .ensures) (c .before .before .before .before .before .if1 .left) (c .before .before .put-plain .ensures)
+  rest-sheet-pack-sheet-requires : rest-sheet-lts.Need-pack-sheet-requires (rest-claims t) (rest-sheet-at t) rest-sheet.Post rest-sheet-Inv-loop rest-sheet-μ-loop
+  rest-sheet-pack-sheet-requires c κs =
+      let m = c .before .before .before .before in
+      let a = series-then m in
+      let i = item-head (a .before) in
+      let z = item-start (item-loop i) in (
+        omega (arith, series-deep (z .args .set) (i .h .given .0 .0) (a .before .is-series .ensures) (a .if1 .taken), z .pre .0),
+        (z .pre .1 .0, (_, series-asked (item-at i) (a .before .is-series .ensures) (a .if1 .taken) (m .put-number .ensures))),
+      )
 
-rest-sheet-same-length-2 : (t : ℕ) → rest-sheet-lts.Need-same-length-2 (rest-claims t) (rest-sheet-at t) rest-sheet.Post rest-sheet-Inv-loop rest-sheet-μ-loop
-rest-sheet-same-length-2 t c = c .before .loop .inv (c .before .before .before .before .before .pre .1 .1 .2 .0) (c .before .before .before .before .before .pre .1 .1 .2 .1) .writes .same ∙ sym (c .before .before .before .before .before .pre .1 .1 .2 .1 .same)
+  rest-sheet-add-k : rest-sheet-lts.Need-add-k (rest-claims t) (rest-sheet-at t) rest-sheet.Post rest-sheet-Inv-loop rest-sheet-μ-loop
+  rest-sheet-add-k c =
+      let m = c .before .before .before .before .before .before .before in
+      let a = series-then m in
+      let i = item-head (a .before) in
+      let z = item-start (item-loop i) in
+      omega (arith, series-more (item-at i) (a .before .is-series .ensures) (a .if1 .taken) (m .put-number .ensures) (c .before .before .pack-sheet .ensures) .writes .sum, z .pre .1 .1 .2 .asked .fits, z .pre .1 .1 .2 .passed .same, z .good)
 
-rest-sheet-returns-2 : (t : ℕ) → rest-sheet-lts.Need-returns-2 (rest-claims t) (rest-sheet-at t) rest-sheet.Post rest-sheet-Inv-loop rest-sheet-μ-loop
-rest-sheet-returns-2 t c = (level-done (c .before .loop .inv (c .before .before .before .before .before .pre .1 .1 .2 .0) (c .before .before .before .before .before .pre .1 .1 .2 .1)) (c .loop-test .left) .0, λ o g. level-done (c .before .loop .inv o g) (c .loop-test .left) .1)
+  rest-sheet-sub-put-plain : rest-sheet-lts.Need-sub-put-plain (rest-claims t) (rest-sheet-at t) rest-sheet.Post rest-sheet-Inv-loop rest-sheet-μ-loop
+  rest-sheet-sub-put-plain c = omega (arith, entry-room (item-at (item-head (c .before .before))))
+
+  rest-sheet-part-put-plain-start : rest-sheet-lts.Need-part-put-plain-start (rest-claims t) (rest-sheet-at t) rest-sheet.Post rest-sheet-Inv-loop rest-sheet-μ-loop
+  rest-sheet-part-put-plain-start c = omega (arith, entry-room (item-at (item-head (c .before .before))))
+
+  rest-sheet-part-put-plain-end : rest-sheet-lts.Need-part-put-plain-end (rest-claims t) (rest-sheet-at t) rest-sheet.Post rest-sheet-Inv-loop rest-sheet-μ-loop
+  rest-sheet-part-put-plain-end c = omega (arith, entry-room (item-at (item-head (c .before .before))))
+
+  rest-sheet-put-plain-requires : rest-sheet-lts.Need-put-plain-requires (rest-claims t) (rest-sheet-at t) rest-sheet.Post rest-sheet-Inv-loop rest-sheet-μ-loop
+  rest-sheet-put-plain-requires c κs = let a = c .before .before in (item-start (item-loop (item-head (a .before))) .pre .1 .0, one-room (item-at (item-head (a .before))) (a .before .is-series .ensures) (a .if1 .left))
+
+  rest-sheet-loop-less : rest-sheet-lts.Need-loop-less (rest-claims t) (rest-sheet-at t) rest-sheet.Post rest-sheet-Inv-loop rest-sheet-μ-loop
+  rest-sheet-loop-less c = omega (arith, entry-room (item-at (item-head (series-then (c .before .before .before .before .before .before .before) .before))))
+
+  rest-sheet-loop-again : rest-sheet-lts.Need-loop-again (rest-claims t) (rest-sheet-at t) rest-sheet.Post rest-sheet-Inv-loop rest-sheet-μ-loop
+  rest-sheet-loop-again c = λ f o g.
+      let m = c .before .before .before .before .before .before .before in
+      let a = series-then m in
+      series-more (item-in (item-head (a .before)) f o g) (a .before .is-series .ensures) (a .if1 .taken) (m .put-number .ensures) (c .before .before .pack-sheet .ensures)
+
+  rest-sheet-loop-less-2 : rest-sheet-lts.Need-loop-less-2 (rest-claims t) (rest-sheet-at t) rest-sheet.Post rest-sheet-Inv-loop rest-sheet-μ-loop
+  rest-sheet-loop-less-2 c = omega (arith, entry-room (item-at (item-head (c .before .before .before .before .before .before))))
+
+  rest-sheet-loop-again-2 : rest-sheet-lts.Need-loop-again-2 (rest-claims t) (rest-sheet-at t) rest-sheet.Post rest-sheet-Inv-loop rest-sheet-μ-loop
+  rest-sheet-loop-again-2 c = λ f o g.
+      let a = c .before .before .before .before .before in
+      one-more (item-in (item-head (a .before)) f o g) (a .before .is-series .ensures) (a .if1 .left) (c .before .before .put-plain .ensures)
+
+  rest-sheet-same-length-2 : rest-sheet-lts.Need-same-length-2 (rest-claims t) (rest-sheet-at t) rest-sheet.Post rest-sheet-Inv-loop rest-sheet-μ-loop
+  rest-sheet-same-length-2 c = item-going (c .before) .writes .same ∙ sym (item-start (c .before) .pre .1 .1 .2 .passed .same)
+
+  rest-sheet-returns-2 : rest-sheet-lts.Need-returns-2 (rest-claims t) (rest-sheet-at t) rest-sheet.Post rest-sheet-Inv-loop rest-sheet-μ-loop
+  rest-sheet-returns-2 c = λ f o g. level-done (c .before .loop .inv f o g) (c .loop-test .left)
 
 -- ---- the items of a pack
 
--- where the quick way stopped
-gone : (t : ℕ) (a : pack-items-lts.After-small-items (items-claims t) (pack-items-at t) pack-items.Post)
-    → LevelSheets false (formOf (a .before .before .before .before .before .args .alone)) (a .before .before .before .before .before .args .s .now) (a .before .before .before .before .before .args .out .now) (a .small-items .last .1 .1 .0) (a .small-items .result .used) (a .small-items .result .wrote)
-gone t a = record { writes = a .small-items .ensures }
+module _ (t : ℕ) where
+  -- where the quick way stopped
+  abbrev ItemsGone : Type 0
+  ItemsGone = pack-items-lts.After-small-items (items-claims t) (pack-items-at t) pack-items.Post
 
-pack-items-small-items-requires : (t : ℕ) → pack-items-lts.Need-small-items-requires (items-claims t) (pack-items-at t) pack-items.Post
-pack-items-small-items-requires t c κs = c .before .before .before .before .pre .1 .1
+  abbrev items-start : ItemsGone → pack-items-lts.Start (items-claims t) (pack-items-at t) pack-items.Post
+  items-start a = a .before .before .before .before .before
 
-pack-items-same-length : (t : ℕ) → pack-items-lts.Need-same-length (items-claims t) (pack-items-at t) pack-items.Post
-pack-items-same-length t c = c .before .before .before .small-items .ensures .same
+  gone : (a : ItemsGone) (f : Form) → LevelAsked pack (items-start a .args .s .now) (length (items-start a .args .out .now)) f
+      → LevelSheets false f (items-start a .args .s .now) (items-start a .args .out .now) (a .small-items .last .1 .0) (a .small-items .result .used) (a .small-items .result .wrote)
+  gone a f h = record { writes = a .small-items .ensures f h }
 
-pack-items-returns : (t : ℕ) → pack-items-lts.Need-returns (items-claims t) (pack-items-at t) pack-items.Post
-pack-items-returns t c = level-done (gone t (c .before .before .before)) (c .if1 .taken)
+  -- the rest of them, for any form
+  rest-asked : (a : ItemsGone) (f : Form) → LevelAsked pack (items-start a .args .s .now) (length (items-start a .args .out .now)) f
+      → RestAsked false (items-start a .args .s .now) (a .small-items .last .1 .0) (a .small-items .result .used) (a .small-items .result .wrote) f (items-start a .args .out .now)
+  rest-asked a f h = record { asked = h; passed = a .small-items .ensures f h }
 
-pack-items-rest-sheet-requires : (t : ℕ) → pack-items-lts.Need-rest-sheet-requires (items-claims t) (pack-items-at t) pack-items.Post
-pack-items-rest-sheet-requires t c κs = (omega (arith, c .before .before .before .before .before .before .before .before .before .pre .0), (c .before .before .before .before .before .before .before .before .before .pre .1 .0, (c .before .before .before .before .before .before .before .before .before .pre .1 .1 .0, omega (arith, c .before .before .before .before .before .before .before .before .before .pre .1 .1 .2, c .before .before .before .before .small-items .ensures .same), (c .before .before .before .before .before .before .before .before .before .args .out .now, c .before .before .before .before .small-items .ensures))))
+  pack-items-small-items-requires : pack-items-lts.Need-small-items-requires (items-claims t) (pack-items-at t) pack-items.Post
+  pack-items-small-items-requires c κs = c .before .before .before .before .pre .1 .1
 
-pack-items-same-length-2 : (t : ℕ) → pack-items-lts.Need-same-length-2 (items-claims t) (pack-items-at t) pack-items.Post
-pack-items-same-length-2 t c = ap length (c .before .before .rest-sheet .ensures .1 (c .before .before .before .before .before .before .before .before .before .before .before .before .args .out .now) (c .before .before .before .before .before .before .before .small-items .ensures)) ∙ simp length-sets
+  pack-items-same-length : pack-items-lts.Need-same-length (items-claims t) (pack-items-at t) pack-items.Post
+  pack-items-same-length c = let a = c .before .before .before in gone a (items-start a .pre .1 .1 .0) (items-start a .pre .1 .1 .1) .writes .same
 
-pack-items-returns-2 : (t : ℕ) → pack-items-lts.Need-returns-2 (items-claims t) (pack-items-at t) pack-items.Post
-pack-items-returns-2 t c = (c .before .before .rest-sheet .ensures .0, c .before .before .rest-sheet .ensures .1 (c .before .before .before .before .before .before .before .before .before .before .before .before .args .out .now) (c .before .before .before .before .before .before .before .small-items .ensures))
+  pack-items-returns : pack-items-lts.Need-returns (items-claims t) (pack-items-at t) pack-items.Post
+  pack-items-returns c = λ f h. level-done (gone (c .before .before .before) f h) (c .if1 .taken)
+
+  pack-items-rest-sheet-requires : pack-items-lts.Need-rest-sheet-requires (items-claims t) (pack-items-at t) pack-items.Post
+  pack-items-rest-sheet-requires c κs =
+      let a = c .before .before .before .before in
+      let z = items-start a in
+      (omega (arith, z .pre .0), (z .pre .1 .0, (_, _, rest-asked a (z .pre .1 .1 .0) (z .pre .1 .1 .1))))
+
+  pack-items-same-length-2 : pack-items-lts.Need-same-length-2 (items-claims t) (pack-items-at t) pack-items.Post
+  pack-items-same-length-2 c =
+      let a = c .before .before .before .before .before .before .before in
+      let z = items-start a in
+      ap length (c .before .before .rest-sheet .ensures (z .pre .1 .1 .0) (z .args .out .now) (rest-asked a (z .pre .1 .1 .0) (z .pre .1 .1 .1)) .1) ∙ simp length-sets
+
+  pack-items-returns-2 : pack-items-lts.Need-returns-2 (items-claims t) (pack-items-at t) pack-items.Post
+  pack-items-returns-2 c = λ f h.
+      let a = c .before .before .before .before .before .before .before in
+      c .before .before .rest-sheet .ensures f (items-start a .args .out .now) (rest-asked a f h)
 
 -- ---- the pack walk
 
+-- the quick way passed p bytes, and stored k
+record PacksAsked (s out : List ℕ) (p k : ℕ) (f : Form) (o : List ℕ) : Type 0 where
+  asked : SeriesAsked s (length o) f
+  passed : SeriesPassed f s o out p k
+
+-- whatever the form, and whatever the output was where the series began
 abbrev pack-sheet-Inv-loop : pack-sheet-lts.InvT-loop
-pack-sheet-Inv-loop table s alone out₀ p₀ k₀ out p k = (o : List ℕ) → SeriesPassed (formOf alone) s o out₀ p₀ k₀ → SeriesSheets (formOf alone) s o out p k
+pack-sheet-Inv-loop table s out₀ p₀ k₀ out p k = (f : Form) (o : List ℕ) → PacksAsked s out₀ p₀ k₀ f o → SeriesSheets f s o out p k
 
 abbrev pack-sheet-μ-loop : pack-sheet-lts.MeasureT-loop
-pack-sheet-μ-loop table s alone out₀ p₀ k₀ out p k = length s - p
+pack-sheet-μ-loop table s out₀ p₀ k₀ out p k = length s - p
 
--- the pack at the head that was read, whatever the output was where the series began
-pack-here : (t : ℕ) (a : pack-sheet-lts.After-h (pack-claims t) (pack-sheet-at t) pack-sheet.Post pack-sheet-Inv-loop pack-sheet-μ-loop) (o : List ℕ)
-    → SeriesPassed (formOf (a .before .before .before .before .before .before .before .before .before .before .before .before .before .args .alone)) (a .before .before .before .before .before .before .before .before .before .before .before .before .before .args .s .now) o (a .before .before .before .before .before .before .before .before .packs .last .1 .1 .0) (a .before .before .before .before .before .before .before .before .packs .result .used) (a .before .before .before .before .before .before .before .before .packs .result .wrote)
-    → SheetPack (formOf (a .before .before .before .before .before .before .before .before .before .before .before .before .before .args .alone)) (a .before .before .before .before .before .before .before .before .before .before .before .before .before .args .s .now) o (a .before .before .before .before .before .loop .out) (a .before .before .before .before .before .loop .p) (a .before .before .before .before .before .loop .k) (a .h .given .0 .0) (a .h .given .0 .1 .0) (a .h .given .0 .1 .1 .0) (a .h .given .0 .1 .1 .1 .0)
-pack-here t a o g = record {
-  going = a .before .before .before .before .before .loop .inv o g;
-  here = a .before .before .before .before .loop-test .taken;
-  head = _;
-  reads = a .before .before .quick-pack-head .ensures;
-  whole = a .h .given .1;
-  bytes = λ i. a .before .before .before .before .before .before .before .before .before .before .before .shared-slice-known2 .given i .fits;
-  most = a .before .before .before .before .before .before .before .before .before .before .before .before .before .pre .1 .1 .0;
-  room = omega (arith, a .before .before .before .before .before .before .before .before .before .before .before .before .before .pre .1 .1 .2, a .before .before .before .before .before .before .before .before .packs .ensures .same, g .same);
-}
+module _ (t : ℕ) where
+  -- the places: where the quick way stopped, the loop, a pack's head, and its mark stored
+  abbrev PacksGone : Type 0
+  PacksGone = pack-sheet-lts.After-packs (pack-claims t) (pack-sheet-at t) pack-sheet.Post pack-sheet-Inv-loop pack-sheet-μ-loop
 
--- and for what it was
-pack-at : (t : ℕ) (a : pack-sheet-lts.After-h (pack-claims t) (pack-sheet-at t) pack-sheet.Post pack-sheet-Inv-loop pack-sheet-μ-loop)
-    → SheetPack (formOf (a .before .before .before .before .before .before .before .before .before .before .before .before .before .args .alone)) (a .before .before .before .before .before .before .before .before .before .before .before .before .before .args .s .now) (a .before .before .before .before .before .before .before .before .before .before .before .before .before .args .out .now) (a .before .before .before .before .before .loop .out) (a .before .before .before .before .before .loop .p) (a .before .before .before .before .before .loop .k) (a .h .given .0 .0) (a .h .given .0 .1 .0) (a .h .given .0 .1 .1 .0) (a .h .given .0 .1 .1 .1 .0)
-pack-at t a = pack-here t a (a .before .before .before .before .before .before .before .before .before .before .before .before .before .args .out .now) (a .before .before .before .before .before .before .before .before .packs .ensures)
+  abbrev packs-start : PacksGone → pack-sheet-lts.Start (pack-claims t) (pack-sheet-at t) pack-sheet.Post pack-sheet-Inv-loop pack-sheet-μ-loop
+  packs-start a = a .before .before .before .before .before
 
-pack-sheet-packs-requires : (t : ℕ) → pack-sheet-lts.Need-packs-requires (pack-claims t) (pack-sheet-at t) pack-sheet.Post pack-sheet-Inv-loop pack-sheet-μ-loop
-pack-sheet-packs-requires t c κs = c .before .before .before .before .pre .1 .1
+  abbrev PackLoop : Type 0
+  PackLoop = pack-sheet-lts.At-loop (pack-claims t) (pack-sheet-at t) pack-sheet.Post pack-sheet-Inv-loop pack-sheet-μ-loop
 
-pack-sheet-loop-holds : (t : ℕ) → pack-sheet-lts.Need-loop-holds (pack-claims t) (pack-sheet-at t) pack-sheet.Post pack-sheet-Inv-loop pack-sheet-μ-loop
-pack-sheet-loop-holds t c = λ o g. record { writes = g }
+  abbrev packs-gone : PackLoop → PacksGone
+  packs-gone a = a .before .before .before
 
-pack-sheet-sub-quick-pack-head : (t : ℕ) → pack-sheet-lts.Need-sub-quick-pack-head (pack-claims t) (pack-sheet-at t) pack-sheet.Post pack-sheet-Inv-loop pack-sheet-μ-loop
-pack-sheet-sub-quick-pack-head t c = search needs
+  abbrev pack-start : PackLoop → pack-sheet-lts.Start (pack-claims t) (pack-sheet-at t) pack-sheet.Post pack-sheet-Inv-loop pack-sheet-μ-loop
+  pack-start a = packs-start (packs-gone a)
 
-pack-sheet-part-quick-pack-head-start : (t : ℕ) → pack-sheet-lts.Need-part-quick-pack-head-start (pack-claims t) (pack-sheet-at t) pack-sheet.Post pack-sheet-Inv-loop pack-sheet-μ-loop
-pack-sheet-part-quick-pack-head-start t c = search needs
+  abbrev PackHead : Type 0
+  PackHead = pack-sheet-lts.After-h (pack-claims t) (pack-sheet-at t) pack-sheet.Post pack-sheet-Inv-loop pack-sheet-μ-loop
 
-pack-sheet-part-quick-pack-head-end : (t : ℕ) → pack-sheet-lts.Need-part-quick-pack-head-end (pack-claims t) (pack-sheet-at t) pack-sheet.Post pack-sheet-Inv-loop pack-sheet-μ-loop
-pack-sheet-part-quick-pack-head-end t c = search needs
+  abbrev pack-loop : PackHead → PackLoop
+  pack-loop a = a .before .before .before .before .before
 
-pack-sheet-quick-pack-head-requires : (t : ℕ) → pack-sheet-lts.Need-quick-pack-head-requires (pack-claims t) (pack-sheet-at t) pack-sheet.Post pack-sheet-Inv-loop pack-sheet-μ-loop
-pack-sheet-quick-pack-head-requires t c κs = search needs
+  abbrev PackMark : Type 0
+  PackMark = pack-sheet-lts.After-put-target (pack-claims t) (pack-sheet-at t) pack-sheet.Post pack-sheet-Inv-loop pack-sheet-μ-loop
 
-pack-sheet-enum-known-h : (t : ℕ) → pack-sheet-lts.Need-enum-known-h (pack-claims t) (pack-sheet-at t) pack-sheet.Post pack-sheet-Inv-loop pack-sheet-μ-loop
-pack-sheet-enum-known-h t c = search needs
+  abbrev pack-head : PackMark → PackHead
+  pack-head a = a .before .before .before
 
-pack-sheet-enum-told : (t : ℕ) → pack-sheet-lts.Need-enum-told (pack-claims t) (pack-sheet-at t) pack-sheet.Post pack-sheet-Inv-loop pack-sheet-μ-loop
-pack-sheet-enum-told t c = search needs
+  -- what is known where the loop begins, for any form
+  packs-asked : (a : PackLoop) (f : Form) → SeriesAsked (pack-start a .args .s .now) (length (pack-start a .args .out .now)) f
+      → PacksAsked (pack-start a .args .s .now) (packs-gone a .packs .last .1 .0) (packs-gone a .packs .result .used) (packs-gone a .packs .result .wrote) f (pack-start a .args .out .now)
+  packs-asked a f h = record { asked = h; passed = packs-gone a .packs .ensures f h }
 
-pack-sheet-same-length : (t : ℕ) → pack-sheet-lts.Need-same-length (pack-claims t) (pack-sheet-at t) pack-sheet.Post pack-sheet-Inv-loop pack-sheet-μ-loop
-pack-sheet-same-length t c = (c .before .before .before .before .before .loop .inv (c .before .before .before .before .before .before .before .before .before .before .before .before .before .args .out .now) (c .before .before .before .before .before .before .before .before .packs .ensures)) .writes .same
+  abbrev packs-known : (a : PackLoop)
+      → PacksAsked (pack-start a .args .s .now) (packs-gone a .packs .last .1 .0) (packs-gone a .packs .result .used) (packs-gone a .packs .result .wrote) (pack-start a .pre .1 .1 .0) (pack-start a .args .out .now)
+  packs-known a = packs-asked a (pack-start a .pre .1 .1 .0) (pack-start a .pre .1 .1 .1)
 
-pack-sheet-returns : (t : ℕ) → pack-sheet-lts.Need-returns (pack-claims t) (pack-sheet-at t) pack-sheet.Post pack-sheet-Inv-loop pack-sheet-μ-loop
-pack-sheet-returns t c = pack-fault (c .before .before .before .before .before .loop .inv (c .before .before .before .before .before .before .before .before .before .before .before .before .before .args .out .now) (c .before .before .before .before .before .before .before .before .packs .ensures)) (c .before .before .before .before .loop-test .taken) (c .before .before .quick-pack-head .ensures) (c .enum-told .given .1)
+  -- the pack at its head
+  pack-in : (a : PackHead) (f : Form) (o : List ℕ)
+      → PacksAsked (pack-start (pack-loop a) .args .s .now) (packs-gone (pack-loop a) .packs .last .1 .0) (packs-gone (pack-loop a) .packs .result .used) (packs-gone (pack-loop a) .packs .result .wrote) f o
+      → SheetPack f (pack-start (pack-loop a) .args .s .now) o (pack-loop a .loop .out) (pack-loop a .loop .p) (pack-loop a .loop .k)
+      (a .h .given .0 .0) (a .h .given .0 .1 .0) (a .h .given .0 .1 .1 .0) (a .h .given .0 .1 .1 .1 .0)
+  pack-in a f o g = record {
+    going = pack-loop a .loop .inv f o g;
+    here = a .before .before .before .before .loop-test .taken;
+    head = _;
+    reads = a .before .before .quick-pack-head .ensures;
+    whole = a .h .given .1;
+    bytes = λ i. packs-gone (pack-loop a) .before .before .before .shared-slice-known2 .given i .fits;
+    most = g .asked .few;
+    room = g .asked .fits;
+  }
 
-pack-sheet-add-from : (t : ℕ) → pack-sheet-lts.Need-add-from (pack-claims t) (pack-sheet-at t) pack-sheet.Post pack-sheet-Inv-loop pack-sheet-μ-loop
-pack-sheet-add-from t c = omega (arith, pack-room (pack-at t (c .before)))
+  abbrev pack-at : (a : PackHead)
+      → SheetPack (pack-start (pack-loop a) .pre .1 .1 .0) (pack-start (pack-loop a) .args .s .now) (pack-start (pack-loop a) .args .out .now) (pack-loop a .loop .out) (pack-loop a .loop .p) (pack-loop a .loop .k)
+      (a .h .given .0 .0) (a .h .given .0 .1 .0) (a .h .given .0 .1 .1 .0) (a .h .given .0 .1 .1 .1 .0)
+  pack-at a = pack-in a _ _ (packs-known (pack-loop a))
 
-pack-sheet-add-from-2 : (t : ℕ) → pack-sheet-lts.Need-add-from-2 (pack-claims t) (pack-sheet-at t) pack-sheet.Post pack-sheet-Inv-loop pack-sheet-μ-loop
-pack-sheet-add-from-2 t c = omega (arith, pack-room (pack-at t (c .before)))
+  pack-sheet-packs-requires : pack-sheet-lts.Need-packs-requires (pack-claims t) (pack-sheet-at t) pack-sheet.Post pack-sheet-Inv-loop pack-sheet-μ-loop
+  pack-sheet-packs-requires c κs = c .before .before .before .before .pre .1 .1
 
-pack-sheet-add-next : (t : ℕ) → pack-sheet-lts.Need-add-next (pack-claims t) (pack-sheet-at t) pack-sheet.Post pack-sheet-Inv-loop pack-sheet-μ-loop
-pack-sheet-add-next t c = omega (arith, pack-room (pack-at t (c .before)))
+  pack-sheet-loop-holds : pack-sheet-lts.Need-loop-holds (pack-claims t) (pack-sheet-at t) pack-sheet.Post pack-sheet-Inv-loop pack-sheet-μ-loop
+  pack-sheet-loop-holds c = λ f o g. record { writes = g .passed }
 
-pack-sheet-add-next-2 : (t : ℕ) → pack-sheet-lts.Need-add-next-2 (pack-claims t) (pack-sheet-at t) pack-sheet.Post pack-sheet-Inv-loop pack-sheet-μ-loop
-pack-sheet-add-next-2 t c = omega (arith, pack-room (pack-at t (c .before)))
+  pack-sheet-sub-quick-pack-head : pack-sheet-lts.Need-sub-quick-pack-head (pack-claims t) (pack-sheet-at t) pack-sheet.Post pack-sheet-Inv-loop pack-sheet-μ-loop
+  pack-sheet-sub-quick-pack-head c = search needs
 
-pack-sheet-put-target-requires : (t : ℕ) → pack-sheet-lts.Need-put-target-requires (pack-claims t) (pack-sheet-at t) pack-sheet.Post pack-sheet-Inv-loop pack-sheet-μ-loop
-pack-sheet-put-target-requires t c κs = target-room (pack-at t (c .before .before))
+  pack-sheet-part-quick-pack-head-start : pack-sheet-lts.Need-part-quick-pack-head-start (pack-claims t) (pack-sheet-at t) pack-sheet.Post pack-sheet-Inv-loop pack-sheet-μ-loop
+  pack-sheet-part-quick-pack-head-start c = search needs
 
-pack-sheet-sub-pack-items : (t : ℕ) → pack-sheet-lts.Need-sub-pack-items (pack-claims t) (pack-sheet-at t) pack-sheet.Post pack-sheet-Inv-loop pack-sheet-μ-loop
-pack-sheet-sub-pack-items t c = omega (arith, pack-room (pack-at t (c .before .before .before .before .before)))
+  pack-sheet-part-quick-pack-head-end : pack-sheet-lts.Need-part-quick-pack-head-end (pack-claims t) (pack-sheet-at t) pack-sheet.Post pack-sheet-Inv-loop pack-sheet-μ-loop
+  pack-sheet-part-quick-pack-head-end c = search needs
 
-pack-sheet-part-pack-items-start : (t : ℕ) → pack-sheet-lts.Need-part-pack-items-start (pack-claims t) (pack-sheet-at t) pack-sheet.Post pack-sheet-Inv-loop pack-sheet-μ-loop
-pack-sheet-part-pack-items-start t c = omega (arith, pack-room (pack-at t (c .before .before .before .before .before)))
+  pack-sheet-quick-pack-head-requires : pack-sheet-lts.Need-quick-pack-head-requires (pack-claims t) (pack-sheet-at t) pack-sheet.Post pack-sheet-Inv-loop pack-sheet-μ-loop
+  pack-sheet-quick-pack-head-requires c κs = search needs
 
-pack-sheet-part-pack-items-end : (t : ℕ) → pack-sheet-lts.Need-part-pack-items-end (pack-claims t) (pack-sheet-at t) pack-sheet.Post pack-sheet-Inv-loop pack-sheet-μ-loop
-pack-sheet-part-pack-items-end t c = omega (arith, pack-room (pack-at t (c .before .before .before .before .before)))
+  pack-sheet-enum-known-h : pack-sheet-lts.Need-enum-known-h (pack-claims t) (pack-sheet-at t) pack-sheet.Post pack-sheet-Inv-loop pack-sheet-μ-loop
+  pack-sheet-enum-known-h c = search needs
 
-pack-sheet-sub-pack-items-2 : (t : ℕ) → pack-sheet-lts.Need-sub-pack-items-2 (pack-claims t) (pack-sheet-at t) pack-sheet.Post pack-sheet-Inv-loop pack-sheet-μ-loop
-pack-sheet-sub-pack-items-2 t c = items-behind (pack-at t (c .before .before .before .before .before .before)) (c .before .before .before .put-target .ensures)
+  pack-sheet-enum-told : pack-sheet-lts.Need-enum-told (pack-claims t) (pack-sheet-at t) pack-sheet.Post pack-sheet-Inv-loop pack-sheet-μ-loop
+  pack-sheet-enum-told c = search needs
 
-pack-sheet-part-pack-items-start-2 : (t : ℕ) → pack-sheet-lts.Need-part-pack-items-start-2 (pack-claims t) (pack-sheet-at t) pack-sheet.Post pack-sheet-Inv-loop pack-sheet-μ-loop
-pack-sheet-part-pack-items-start-2 t c = items-behind (pack-at t (c .before .before .before .before .before .before)) (c .before .before .before .put-target .ensures)
+  pack-sheet-same-length : pack-sheet-lts.Need-same-length (pack-claims t) (pack-sheet-at t) pack-sheet.Post pack-sheet-Inv-loop pack-sheet-μ-loop
+  pack-sheet-same-length c = c .before .before .before .before .before .loop .inv _ _ (packs-known (c .before .before .before .before .before)) .writes .same
 
-pack-sheet-part-pack-items-end-2 : (t : ℕ) → pack-sheet-lts.Need-part-pack-items-end-2 (pack-claims t) (pack-sheet-at t) pack-sheet.Post pack-sheet-Inv-loop pack-sheet-μ-loop
-pack-sheet-part-pack-items-end-2 t c = search needs
+  pack-sheet-returns : pack-sheet-lts.Need-returns (pack-claims t) (pack-sheet-at t) pack-sheet.Post pack-sheet-Inv-loop pack-sheet-μ-loop
+  pack-sheet-returns c = let a = c .before .before .before .before .before in pack-fault (a .loop .inv _ _ (packs-known a)) (c .before .before .before .before .loop-test .taken) (c .before .before .quick-pack-head .ensures) (c .enum-told .given .1)
 
-pack-sheet-pack-items-requires : (t : ℕ) → pack-sheet-lts.Need-pack-items-requires (pack-claims t) (pack-sheet-at t) pack-sheet.Post pack-sheet-Inv-loop pack-sheet-μ-loop
-pack-sheet-pack-items-requires t c κs = (omega (arith, c .before .before .before .before .before .before .before .before .before .before .before .before .before .before .before .before .before .before .before .before .pre .0), (c .before .before .before .before .before .before .before .before .before .before .before .before .before .before .before .before .before .before .before .before .pre .1 .0, level-asked (pack-at t (c .before .before .before .before .before .before .before)) (c .before .before .before .before .put-target .ensures)))
+  pack-sheet-add-from : pack-sheet-lts.Need-add-from (pack-claims t) (pack-sheet-at t) pack-sheet.Post pack-sheet-Inv-loop pack-sheet-μ-loop
+  pack-sheet-add-from c = omega (arith, pack-room (pack-at (c .before)))
 
-pack-sheet-add-k : (t : ℕ) → pack-sheet-lts.Need-add-k (pack-claims t) (pack-sheet-at t) pack-sheet.Post pack-sheet-Inv-loop pack-sheet-μ-loop
-pack-sheet-add-k t c = omega (arith, items-more (pack-at t (c .before .before .before .before .before .before .before .before .before .before)) (c .before .before .before .before .before .before .before .put-target .ensures) (c .before .before .pack-items .ensures) .writes .sum, c .before .before .before .before .before .before .before .before .before .before .before .before .before .before .before .before .before .before .before .before .before .before .before .pre .1 .1 .2, c .before .before .before .before .before .before .before .before .before .before .before .before .before .before .before .before .before .before .before .before .before .before .before .good)
+  pack-sheet-add-from-2 : pack-sheet-lts.Need-add-from-2 (pack-claims t) (pack-sheet-at t) pack-sheet.Post pack-sheet-Inv-loop pack-sheet-μ-loop
+  pack-sheet-add-from-2 c = omega (arith, pack-room (pack-at (c .before)))
 
-pack-sheet-loop-less : (t : ℕ) → pack-sheet-lts.Need-loop-less (pack-claims t) (pack-sheet-at t) pack-sheet.Post pack-sheet-Inv-loop pack-sheet-μ-loop
-pack-sheet-loop-less t c = omega (arith, pack-room (pack-at t (c .before .before .before .before .before .before .before .before .before .before)))
+  pack-sheet-add-next : pack-sheet-lts.Need-add-next (pack-claims t) (pack-sheet-at t) pack-sheet.Post pack-sheet-Inv-loop pack-sheet-μ-loop
+  pack-sheet-add-next c = omega (arith, pack-room (pack-at (c .before)))
 
-pack-sheet-loop-again : (t : ℕ) → pack-sheet-lts.Need-loop-again (pack-claims t) (pack-sheet-at t) pack-sheet.Post pack-sheet-Inv-loop pack-sheet-μ-loop
-pack-sheet-loop-again t c = λ o g. items-more (pack-here t (c .before .before .before .before .before .before .before .before .before .before) o g) (c .before .before .before .before .before .before .before .put-target .ensures) (c .before .before .pack-items .ensures)
+  pack-sheet-add-next-2 : pack-sheet-lts.Need-add-next-2 (pack-claims t) (pack-sheet-at t) pack-sheet.Post pack-sheet-Inv-loop pack-sheet-μ-loop
+  pack-sheet-add-next-2 c = omega (arith, pack-room (pack-at (c .before)))
 
-pack-sheet-same-length-2 : (t : ℕ) → pack-sheet-lts.Need-same-length-2 (pack-claims t) (pack-sheet-at t) pack-sheet.Post pack-sheet-Inv-loop pack-sheet-μ-loop
-pack-sheet-same-length-2 t c = (c .before .loop .inv (c .before .before .before .before .before .before .before .before .before .args .out .now) (c .before .before .before .before .packs .ensures)) .writes .same
+  pack-sheet-put-target-requires : pack-sheet-lts.Need-put-target-requires (pack-claims t) (pack-sheet-at t) pack-sheet.Post pack-sheet-Inv-loop pack-sheet-μ-loop
+  pack-sheet-put-target-requires c κs = target-room (pack-at (c .before .before))
 
-pack-sheet-returns-2 : (t : ℕ) → pack-sheet-lts.Need-returns-2 (pack-claims t) (pack-sheet-at t) pack-sheet.Post pack-sheet-Inv-loop pack-sheet-μ-loop
-pack-sheet-returns-2 t c = series-done (c .before .loop .inv (c .before .before .before .before .before .before .before .before .before .args .out .now) (c .before .before .before .before .packs .ensures)) (c .loop-test .left)
+  pack-sheet-sub-pack-items : pack-sheet-lts.Need-sub-pack-items (pack-claims t) (pack-sheet-at t) pack-sheet.Post pack-sheet-Inv-loop pack-sheet-μ-loop
+  pack-sheet-sub-pack-items c = omega (arith, pack-room (pack-at (pack-head (c .before .before))))
+
+  pack-sheet-part-pack-items-start : pack-sheet-lts.Need-part-pack-items-start (pack-claims t) (pack-sheet-at t) pack-sheet.Post pack-sheet-Inv-loop pack-sheet-μ-loop
+  pack-sheet-part-pack-items-start c = omega (arith, pack-room (pack-at (pack-head (c .before .before))))
+
+  pack-sheet-part-pack-items-end : pack-sheet-lts.Need-part-pack-items-end (pack-claims t) (pack-sheet-at t) pack-sheet.Post pack-sheet-Inv-loop pack-sheet-μ-loop
+  pack-sheet-part-pack-items-end c = omega (arith, pack-room (pack-at (pack-head (c .before .before))))
+
+  pack-sheet-sub-pack-items-2 : pack-sheet-lts.Need-sub-pack-items-2 (pack-claims t) (pack-sheet-at t) pack-sheet.Post pack-sheet-Inv-loop pack-sheet-μ-loop
+  pack-sheet-sub-pack-items-2 c = let m = c .before .before .before in items-behind (pack-at (pack-head m)) (m .put-target .ensures)
+
+  pack-sheet-part-pack-items-start-2 : pack-sheet-lts.Need-part-pack-items-start-2 (pack-claims t) (pack-sheet-at t) pack-sheet.Post pack-sheet-Inv-loop pack-sheet-μ-loop
+  pack-sheet-part-pack-items-start-2 c = pack-sheet-sub-pack-items-2 c
+
+  pack-sheet-part-pack-items-end-2 : pack-sheet-lts.Need-part-pack-items-end-2 (pack-claims t) (pack-sheet-at t) pack-sheet.Post pack-sheet-Inv-loop pack-sheet-μ-loop
+  pack-sheet-part-pack-items-end-2 c = search needs
+
+  pack-sheet-pack-items-requires : pack-sheet-lts.Need-pack-items-requires (pack-claims t) (pack-sheet-at t) pack-sheet.Post pack-sheet-Inv-loop pack-sheet-μ-loop
+  pack-sheet-pack-items-requires c κs =
+      let m = c .before .before .before .before in
+      let z = pack-start (pack-loop (pack-head m)) in
+      (omega (arith, z .pre .0), (z .pre .1 .0, (_, level-asked (pack-at (pack-head m)) (m .put-target .ensures))))
+
+  pack-sheet-add-k : pack-sheet-lts.Need-add-k (pack-claims t) (pack-sheet-at t) pack-sheet.Post pack-sheet-Inv-loop pack-sheet-μ-loop
+  pack-sheet-add-k c =
+      let m = c .before .before .before .before .before .before .before in
+      let z = pack-start (pack-loop (pack-head m)) in
+      omega (arith, items-more (pack-at (pack-head m)) (m .put-target .ensures) (c .before .before .pack-items .ensures) .writes .sum, z .pre .1 .1 .1 .fits, z .good)
+
+  pack-sheet-loop-less : pack-sheet-lts.Need-loop-less (pack-claims t) (pack-sheet-at t) pack-sheet.Post pack-sheet-Inv-loop pack-sheet-μ-loop
+  pack-sheet-loop-less c = omega (arith, pack-room (pack-at (pack-head (c .before .before .before .before .before .before .before))))
+
+  pack-sheet-loop-again : pack-sheet-lts.Need-loop-again (pack-claims t) (pack-sheet-at t) pack-sheet.Post pack-sheet-Inv-loop pack-sheet-μ-loop
+  pack-sheet-loop-again c = λ f o g. let m = c .before .before .before .before .before .before .before in items-more (pack-in (pack-head m) f o g) (m .put-target .ensures) (c .before .before .pack-items .ensures)
+
+  pack-sheet-same-length-2 : pack-sheet-lts.Need-same-length-2 (pack-claims t) (pack-sheet-at t) pack-sheet.Post pack-sheet-Inv-loop pack-sheet-μ-loop
+  pack-sheet-same-length-2 c = c .before .loop .inv _ _ (packs-known (c .before)) .writes .same
+
+  pack-sheet-returns-2 : pack-sheet-lts.Need-returns-2 (pack-claims t) (pack-sheet-at t) pack-sheet.Post pack-sheet-Inv-loop pack-sheet-μ-loop
+  pack-sheet-returns-2 c = λ f h. series-done (c .before .loop .inv f _ (packs-asked (c .before) f h)) (c .loop-test .left)
 
 pub +pack-items+pack-sheet+rest-sheet-spec : {M : Type 1} → statement M
 +pack-items+pack-sheet+rest-sheet-spec =

@@ -4,7 +4,7 @@ ghost use mathlib.Core.Path.{_≡_};
 ghost use Prim.Native.Nat.{_+_, _-_, _≤_, _<_};
 ghost use mathlib.Core.Bool.{true};
 ghost use lib.ListN.{length, drop};
-ghost use Rattle.coding.specs.Alike.{Alike, AlikeTo, ItemMasked};
+ghost use Rattle.coding.specs.Alike.{Alike, AlikeTo, LastAlike, ItemMasked};
 
 fn is_alike(mask: u8, a: u8, b: u8) -> bool
     ensures { λ r. ⌜ (r ≡ true → Alike mask a b) ⌝ }
@@ -32,7 +32,7 @@ fn some_alike(masks: &[u8], a: &[u8], b: &[u8]) -> bool
 // The last 32 of the first n, if there are so many.
 fn are_last_alike(masks: &[u8], a: &[u8], b: &[u8], n: usize) -> bool
     requires { ⌜ (n ≤ length (now masks)) × (length (now b) ≤ length (now a)) ⌝ }
-    ensures { λ r. ⌜ (r ≡ true → (32 ≤ n) × (n ≤ length (now (b .entry))) × AlikeTo (drop (n - 32) (now (masks .entry))) (drop (n - 32) (now (a .entry))) (drop (n - 32) (now (b .entry))) 32) ⌝ }
+    ensures { λ r. ⌜ (r ≡ true → LastAlike (now (masks .entry)) (now (a .entry)) (now (b .entry)) n) ⌝ }
 {
     if n < 32 {
         return false;

@@ -34,7 +34,8 @@ pub fn open(out: &mut [u8], alone: bool, n: usize) -> usize
 // What follows an opened packet with its entries, which end at at; where it ends.
 pub fn close(out: &mut [u8], alone: bool, at: usize) -> usize
     requires { ⌜ (at + length (sealBytes (formOf alone) []) ≤ length (now out)) × (at + length (sealBytes (formOf alone) []) ≤ 8192) ⌝ }
-    ensures { λ r. ⌜ (r ≡ at + length (sealBytes (formOf alone) (take at (now (out .entry))))) × (now (out .exit) ≡ sets (now (out .entry)) at (sealBytes (formOf alone) (take at (now (out .entry))))) ⌝ }
+    ensures { λ r. ⌜ (r ≡ at + length (sealBytes (formOf alone) (take at (now (out .entry)))))
+        × (now (out .exit) ≡ sets (now (out .entry)) at (sealBytes (formOf alone) (take at (now (out .entry))))) ⌝ }
 {
     if alone {
         out[at] = 1;

@@ -52,7 +52,9 @@ pub extern "C" fn vmti_edit(
     value: &[u8],
     out: &mut [u8],
 ) -> u64
-    ensures { λ r. ⌜ Returns (now (out .entry)) (Edit.edit (formNamed form) (holderNamed level target) tag (changeNamed removal (now (value .entry))) (now (packet .entry))) r (now (out .exit)) ⌝ }
+    ensures { λ r. ⌜ Returns (now (out .entry))
+        (Edit.edit (formNamed form) (holderNamed level target) tag (changeNamed removal (now (value .entry))) (now (packet .entry)))
+        r (now (out .exit)) ⌝ }
 {
     one_number(edit(
         packet,

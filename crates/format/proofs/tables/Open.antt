@@ -14,5 +14,17 @@ use Rattle.format.specs.Show.{numberIn, seriesNumber, numberOf, findRow,
 use Rattle.format.specs.Room.{leaves, oneNumber}
 
 unfoldable pub opened : Unit {0}
-unfolding _>>=_ need after number digits fixed longOf lenOf lenBytes lenWidth oidGo oid tagOf idOf oidBytes has same flatAll putIn takeOut onHit askHit rules find ruleOf nameable mayStand mayBegin standing sized valued itemRules ended strip short skip run flatItem packBody flatPack flatEntry theKey covered framed flat sums checksum closed headOf item packHead onePack deepen entry limit opening unsealed closing parse valOf targetOf partOf content valBytes targetBytes partBytes sheetBytes field valueAt targetAt seriesAt partAt sheetLimit unsheet itemOf packWith seriesWith packOf entryOf packetOf packed read write normalise itemRow itemRows packRows entryRows sealItem sealed rowsOf locate applied valWith inTarget inPart editParts editSheet targetTags tagsAt changeRules editRules inPack inEntry editEntries editPacket edit numberIn seriesNumber numberOf findRow showable eitherRow showIn show leaves oneNumber
+unfolding _>>=_ need after
+    number digits fixed longOf lenOf lenBytes lenWidth oidGo oid tagOf idOf oidBytes
+    has same flatAll putIn takeOut onHit askHit
+    rules find ruleOf nameable mayStand mayBegin standing sized valued itemRules ended strip short
+    skip run
+    flatItem packBody flatPack flatEntry theKey covered framed flat sums checksum closed
+    headOf item packHead onePack deepen entry limit opening unsealed closing parse
+    valOf targetOf partOf content valBytes targetBytes partBytes sheetBytes field valueAt targetAt seriesAt partAt sheetLimit unsheet
+    itemOf packWith seriesWith packOf entryOf packetOf packed read write normalise
+    itemRow itemRows packRows entryRows sealItem sealed rowsOf locate
+    applied valWith inTarget inPart editParts editSheet targetTags tagsAt changeRules editRules inPack inEntry editEntries editPacket edit
+    numberIn seriesNumber numberOf findRow showable eitherRow showIn show
+    leaves oneNumber
 opened = tt

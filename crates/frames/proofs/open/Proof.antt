@@ -18,7 +18,9 @@ add-put-len : tie.Need-add-put-len
 add-put-len c = search needs
 
 put-len-requires : tie.Need-put-len-requires
-put-len-requires c κs = omega (arith, open-room (c .before .before .before .before .before .before .before .if1 .taken) (c .before .before .before .before .before .before .before .before .before .args .n), key-long (c .before .before .before .before .before .before .key .ensures))
+put-len-requires c κs =
+    let k = c .before .before .before .before .before .before in
+    omega (arith, open-room (k .before .if1 .taken) (k .before .before .before .args .n), key-long (k .key .ensures))
 
 same-length : tie.Need-same-length
 same-length c = search needs

@@ -41,7 +41,9 @@ returns-6 : tie.Need-returns-6
 returns-6 c =
     let n = c .before .before .before .before in
     let t = n .before .before in
-    λ l. item-head-short l _ _ _ (t .wide .ensures .0) (n .wide2 .ensures .0 ∙ sym (getD-drop 1 (t .before .before .before .before .args .s .now) 0 0)) (omega (arith, c .before .before .before .if2 .left)) (omega (arith, c .before .before .if3 .left)) (omega (arith, c .before .if4 .left)) (omega (arith, c .if5 .left, t .before .before .if1 .left))
+    let size-is = n .wide2 .ensures .0 ∙ sym (getD-drop 1 (t .before .before .before .before .args .s .now) 0 0) in
+    λ l. item-head-short l _ _ _ (t .wide .ensures .0) size-is (omega (arith, c .before .before .before .if2 .left)) (omega (arith, c .before .before .if3 .left))
+    (omega (arith, c .before .if4 .left)) (omega (arith, c .if5 .left, t .before .before .if1 .left))
 
 pub short-item-head-spec : {M : Type 1} → statement M
 short-item-head-spec =

@@ -63,7 +63,17 @@ returns-9 c =
     let n = i .before .before .before .before .before .before .before .before in
     let a = i .before .before .before .before .before .before .wide2 .ensures in
     let few = n .before .before .if2 .left in
-    rw (c .two7 .ensures) (pack-head-two _ _ (n .before .before .before .wide .ensures .0) (omega (arith, few)) (omega (arith, n .before .if3 .left, n .before .before .before .before .before .if1 .left)) _ _ (a .0) (i .before .before .before .wide3 .ensures .0) (omega (arith, i .before .before .before .before .before .if5 .left, i .before .if7 .left)) (a .1) (omega (arith, i .before .before .if6 .left)) (omega (arith, i .if8 .left, n .if4 .left)), refl, omega (arith, few), omega arith)
+    let size-is = n .before .before .before .wide .ensures .0 in
+    let room = n .before .before .before .before .before .if1 .left in
+    let second = i .before .before .before .wide3 .ensures .0 in
+    let more = i .before .before .before .before .before .if5 .left in
+    rw (c .two7 .ensures) (
+      pack-head-two _ _ size-is (omega (arith, few)) (omega (arith, n .before .if3 .left, room)) _ _ (a .0) second (omega (arith, more, i .before .if7 .left)) (a .1)
+          (omega (arith, i .before .before .if6 .left)) (omega (arith, i .if8 .left, n .if4 .left)),
+      refl,
+      omega (arith, few),
+      omega arith,
+    )
 
 pub short-pack-head-spec : {M : Type 1} → statement M
 short-pack-head-spec =

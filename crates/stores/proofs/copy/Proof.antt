@@ -57,7 +57,10 @@ same-length-3 : tie.Need-same-length-3
 same-length-3 c = search needs
 
 returns-4 : tie.Need-returns-4
-returns-4 c = (refl, copy-done (copy-ends (begun (c .before .before .before .before .before .before .before .before .before .before .before .before .before)) 4 (omega arith) (c .before .before .before .before .before .before .move-four .ensures) (c .before .before .move-four2 .ensures)) (omega arith))
+returns-4 c =
+    let start = begun (c .before .before .before .before .before .before .before .before .before .before .before .before .before) in
+    let first = c .before .before .before .before .before .before .move-four .ensures in
+    (refl, copy-done (copy-ends start 4 (omega arith) first (c .before .before .move-four2 .ensures)) (omega arith))
 
 move-eight-requires : tie.Need-move-eight-requires
 move-eight-requires c κs = search needs
@@ -72,7 +75,10 @@ same-length-4 : tie.Need-same-length-4
 same-length-4 c = search needs
 
 returns-5 : tie.Need-returns-5
-returns-5 c = (refl, copy-done (copy-ends (begun (c .before .before .before .before .before .before .before .before .before .before .before .before .before .before)) 8 (omega arith) (c .before .before .before .before .before .before .move-eight .ensures) (c .before .before .move-eight2 .ensures)) (omega arith))
+returns-5 c =
+    let start = begun (c .before .before .before .before .before .before .before .before .before .before .before .before .before .before) in
+    let first = c .before .before .before .before .before .before .move-eight .ensures in
+    (refl, copy-done (copy-ends start 8 (omega arith) first (c .before .before .move-eight2 .ensures)) (omega arith))
 
 sub-copy-all : tie.Need-sub-copy-all
 sub-copy-all c = search needs

@@ -28,7 +28,10 @@ are-last-alike-requires c κs = search needs
 
 returns : tie.Need-returns Inv-loop μ-loop
 returns c =
-    λ e. let (few, room, h) = c .are-last-alike .ensures e in let i = c .before .before .before .loop in (alike-less (alike-on (i .inv .2) (c .before .before .before .before .before .before .before .args .n - 32) (omega (arith, c .before .if1 .taken, room)) h) (omega (arith, few)), room)
+    let n = c .before .before .before .before .before .before .before .args .n in
+    let so-far = c .before .before .before .loop .inv .2 in
+    λ e. let l = c .are-last-alike .ensures e in
+    (alike-less (alike-on so-far (n - 32) (omega (arith, c .before .if1 .taken, l .room)) (l .alike)) (omega (arith, l .some)), l .room)
 
 sub-some-alike : tie.Need-sub-some-alike Inv-loop μ-loop
 sub-some-alike c = search needs

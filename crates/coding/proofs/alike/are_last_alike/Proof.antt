@@ -45,7 +45,11 @@ some-alike-requires c κs = search needs
 returns-3 : tie.Need-returns-3
 returns-3 c =
     let x = c .before .before .before .before .before .before .before .before .before .args in
-    λ e. (omega (arith, c .before .before .before .before .before .if1 .left), omega (arith, c .before .before .before .before .if2 .left), rw (tail-part _ (x .masks .now), tail-part _ (x .a .now), tail-part _ (x .b .now)) at (c .some-alike .ensures e))
+    λ e. record {
+      some = omega (arith, c .before .before .before .before .before .if1 .left);
+      room = omega (arith, c .before .before .before .before .if2 .left);
+      alike = rw (tail-part _ (x .masks .now), tail-part _ (x .a .now), tail-part _ (x .b .now)) at (c .some-alike .ensures e);
+    }
 
 pub are-last-alike-spec : {M : Type 1} → statement M
 are-last-alike-spec =

@@ -52,7 +52,9 @@ note-part-requires c κs = c .before .before .before .before .before .before .be
 loop-again : tie.Need-loop-again Inv-loop μ-loop
 loop-again c =
     let a = c .before .before .before .before .before .before .before in
-    clearing-more _ _ _ _ _ (a .before .before .before .before .before .before .before .loop .inv) (peek-room _ _ _) _ _ (a .before .before .next-of .ensures) (omega (arith, a .if2 .left)) (c .before .before .before .before .may-stand .ensures (c .before .before .before .if3 .left)) _ (c .before .note-part .ensures)
+    let so-far = a .before .before .before .before .before .before .before .loop .inv in
+    let unseen = c .before .before .before .before .may-stand .ensures (c .before .before .before .if3 .left) in
+    clearing-more _ _ _ _ _ so-far (peek-room _ _ _) _ _ (a .before .before .next-of .ensures) (omega (arith, a .if2 .left)) unseen _ (c .before .note-part .ensures)
 
 add-q : tie.Need-add-q Inv-loop μ-loop
 add-q c = omega (arith, loop-again c .within, c .before .before .before .before .before .before .before .before .before .before .before .before .before .before .before .before .before .good)

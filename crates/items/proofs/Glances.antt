@@ -17,7 +17,7 @@ use Rattle.format.proofs.words.Answers.{no-bool, and-both}
 use Rattle.items.specs.Meet.{levelOf, formOf, mostTag, rowsFrom, glanceRow, glanceTable, offsets, zeros}
 use Rattle.items.specs.Quick.{bit, leastRow, rowTells, beyond, As, Glanced}
 use Rattle.items.proofs.Rows.{small, glance-from, rule-over}
-use Rattle.items.proofs.Tests.{need-so, zeros-some, offset-over}
+use Rattle.items.proofs.Tests.{need-so, first-some, short-first, offset-over}
 
 -- ---- for each number below k
 
@@ -56,12 +56,6 @@ bits-right false false = refl
 
 -- ---- a value that is allowed and begins with no zero, or is no number
 
-head-some : (v : List ℕ) → 0 < length v → (getD v 0 0 ≡ 0 → ⊥) → (strip v ≡ v) × (0 < bytesNumber v)
-unfolding strip zeros
-head-some [] h g = absurd (omega arith)
-head-some (zero ∷ s) h g = absurd (g refl)
-head-some (suc b ∷ s) h g = (rw (ne-eqb (suc b) 0 (λ e. omega arith), strip), zeros-some (suc b ∷ s) (λ e. omega arith))
-
 no-pixel : (k : Kind) → isNumber k ≡ false → notPixel k ≡ true
 no-pixel bytes e = refl
 no-pixel num e = absurd (no-bool (sym e))
@@ -81,14 +75,7 @@ module _ (r : Rule) (v : List ℕ) (long : 0 < length v) (fits : sized r (length
   plainly e = (passes (rw (no-pixel (r .kind) e)), rw (e, short))
 
   briefly : (getD v 0 0 ≡ 0 → ⊥) → (valued r v ≡ ok tt) × (short r v ≡ v)
-  unfolding short
-  briefly g = go (isNumber (r .kind)) refl
-    where
-      go : (b : Bool) → isNumber (r .kind) ≡ b → (valued r v ≡ ok tt) × (short r v ≡ v)
-      go true e =
-          let (z, n) = head-some v long g in
-          (passes (rw (lt-ltb 0 (bytesNumber v) n) (or-true (notPixel (r .kind)))), rw (e, short) z)
-      go false e = plainly e
+  briefly g = (passes (rw (lt-ltb 0 (bytesNumber v) (first-some v long g)) (or-true (notPixel (r .kind)))), short-first r v long g)
 
 -- ---- what is told at a glance
 

@@ -122,11 +122,17 @@ unfolding number
 number-pos acc [] h = h
 number-pos acc (b ∷ s) h = number-pos (acc * 256 + (b - 0)) s (omega arith)
 
-pub zeros-some : (s : List ℕ) → (zeros s ≡ length s → ⊥) → 0 < bytesNumber s
+zeros-some : (s : List ℕ) → (zeros s ≡ length s → ⊥) → 0 < bytesNumber s
 unfolding number zeros
 zeros-some [] h = absurd (h refl)
 zeros-some (zero ∷ s) h = zeros-some s (λ e. h (ap suc e))
 zeros-some (suc b ∷ s) h = number-pos (0 * 256 + (suc b - 0)) s (omega arith)
+
+pub first-some : (s : List ℕ) → 0 < length s → (getD s 0 0 ≡ 0 → ⊥) → 0 < bytesNumber s
+unfolding zeros
+first-some [] h g = absurd (omega arith)
+first-some (zero ∷ s) h g = absurd (g refl)
+first-some (suc b ∷ s) h g = zeros-some (suc b ∷ s) (λ e. omega arith)
 
 zeros-all : (s : List ℕ) → zeros s ≡ length s → bytesNumber s ≡ 0
 unfolding number zeros
@@ -221,7 +227,21 @@ strip-one (suc b ∷ s) g h = absurd (omega arith)
 strip-one (zero ∷ []) g h = refl
 strip-one (zero ∷ b ∷ s) g h = strip-one (b ∷ s) (omega arith) (omega arith)
 
+strip-first : (v : List ℕ) → 0 < length v → (getD v 0 0 ≡ 0 → ⊥) → strip v ≡ v
+unfolding strip
+strip-first [] h g = absurd (omega arith)
+strip-first (x ∷ s) h g = rw (ne-eqb x 0 g, strip)
+
 module _ (r : Rule) (v : List ℕ) where
+  -- whatever the rule
+  pub short-first : 0 < length v → (getD v 0 0 ≡ 0 → ⊥) → short r v ≡ v
+  unfolding short
+  short-first h g = go (isNumber (r .kind))
+    where
+      go : (b : Bool) → elim b [ true ↦ strip v | false ↦ v ] ≡ v
+      go true = strip-first v h g
+      go false = refl
+
   pub short-whole : false ≡ isNumber (r .kind) → length v ≡ length (short r v)
   unfolding short
   short-whole e = rw (← e, short)

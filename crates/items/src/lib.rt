@@ -179,11 +179,14 @@ fn is_number(rule: Rule) -> bool
     rule.kind == PIXEL
 }
 
-// How many bytes a value has in its shortest form.
+// How many bytes a value has in its shortest form: all, where the first is not 0, whatever the rule.
 pub fn short_size(rule: Rule, v: &[u8]) -> usize
     requires { ⌜ 0 < length (now v) ⌝ }
     ensures { λ r. ⌜ r ≡ length (short (ruleFrom rule) (now (v .entry))) ⌝ }
 {
+    if v[0] != 0 {
+        return v.len();
+    }
     if is_number(rule) {
         let z = leading(v);
         if z < v.len() {

@@ -16,7 +16,7 @@ use Rattle.format.specs.Table.{Form, isAlone, Level, set, pack, isSet, Kind, by
 use Rattle.format.proofs.words.Answers.{no-bool, and-both}
 use Rattle.items.specs.Meet.{levelOf, formOf, mostTag, rowsFrom, glanceRow, glanceTable, offsets, zeros}
 use Rattle.items.specs.Quick.{bit, leastRow, rowTells, beyond, As, Glanced}
-use Rattle.items.proofs.Rows.{small, glance-from, rule-over}
+use Rattle.items.proofs.Rows.{glance-at, rule-over}
 use Rattle.items.proofs.Tests.{need-so, first-some, short-first, offset-over}
 
 -- ---- for each number below k
@@ -179,13 +179,12 @@ module _ (b a : Bool) (tag n first : ℕ) (small : tag ≤ mostTag b) (high : le
     },
   )
 
--- m, y and x are what the code has for the greatest tag, for the first row and for the least
-pub quick-from : (b : Bool) (tag : ℕ) {m : ℕ} → m ≡ mostTag b → tag ≤ m → {y : ℕ} → y ≡ rowsFrom b → (a : Bool) {x : ℕ} → x ≡ leastRow a
-    → {t : List ℕ} → t ≡ glanceTable → x ≤ getD t (y + tag) 0 → {n first : ℕ} {r : Bool} → r ≡ rowTells (getD t (y + tag) 0) n first → r ≡ true
-    → (tag < 128) × (n < 128) × Glanced (levelOf b) (formOf a) tag n first
-quick-from b tag em few ey a ex et high {n} {first} eg r =
-    let e = glance-from b tag em few ey et in
-    glanced-quick b a tag n first (small b tag em few ey) (rw (ex, e) at high) (sym (rw e at eg) ∙ r)
+-- x and y are what the code has for the least row and for the tag's
+pub quick-from : (b a : Bool) (tag : ℕ) → tag ≤ mostTag b → {x : ℕ} → x ≡ leastRow a → {t : List ℕ} → t ≡ glanceTable → {y : ℕ} → y ≡ getD t (rowsFrom b + tag) 0 → x ≤ y
+    → {n first : ℕ} {r : Bool} → r ≡ rowTells y n first → r ≡ true → (tag < 128) × (n < 128) × Glanced (levelOf b) (formOf a) tag n first
+quick-from b a tag small ex et ey high {n} {first} eg r =
+    let e = ey ∙ glance-at b tag small et in
+    glanced-quick b a tag n first small (rw (ex, e) at high) (sym (rw e at eg) ∙ r)
 
 -- ---- the code's tests, one after the other
 

@@ -20,7 +20,7 @@ counted-at f k zero i h = absurd (omega arith)
 counted-at f k (suc n) zero h = rw add-zero
 counted-at f k (suc n) (suc i) h = counted-at f (suc k) n i (omega arith) ∙ ap f (omega arith)
 
-row-in : (b : Bool) (tag : ℕ) → tag ≤ mostTag b → rowsFrom b + tag < 37
+pub row-in : (b : Bool) (tag : ℕ) → tag ≤ mostTag b → rowsFrom b + tag < 37
 row-in true tag h = omega arith
 row-in false tag h = omega arith
 
@@ -57,22 +57,16 @@ find-kept (e ∷ es) tag h = go (cc) (find-kept es tag (cc)) (eqb (e .0) tag)
     go here rest true = here
     go here rest false = rest
 
--- ---- as the code finds it: m and y are what it has for the greatest tag and for the first row
+-- ---- as the code finds it
 
-module _ (b : Bool) (tag : ℕ) {m : ℕ} (em : m ≡ mostTag b) (few : tag ≤ m) {y : ℕ} (ey : y ≡ rowsFrom b) where
-  pub small : tag ≤ mostTag b
-  small = rw em at few
-
-  pub row-place : y + tag < 37
-  row-place = rw ey (row-in b tag small)
-
-  pub item-from : {t : List ℕ} → t ≡ itemTable → rowFrom (getD t (y + tag) 0) ≡ ruleOf (levelOf b) tag
+module _ (b : Bool) (tag : ℕ) (h : tag ≤ mostTag b) {t : List ℕ} where
+  pub item-at : t ≡ itemTable → rowFrom (getD t (rowsFrom b + tag) 0) ≡ ruleOf (levelOf b) tag
   unfolding itemTable ruleOf
-  item-from et = rw (et, ey) (ap rowFrom (row-at (λ l k. itemRow (ruleOf l k)) b tag small) ∙ find-kept (rules (levelOf b)) tag (all-kept (levelOf b)))
+  item-at e = rw e (ap rowFrom (row-at (λ l k. itemRow (ruleOf l k)) b tag h) ∙ find-kept (rules (levelOf b)) tag (all-kept (levelOf b)))
 
-  pub glance-from : {t : List ℕ} → t ≡ glanceTable → getD t (y + tag) 0 ≡ glanceRow (levelOf b) tag (ruleOf (levelOf b) tag)
+  pub glance-at : t ≡ glanceTable → getD t (rowsFrom b + tag) 0 ≡ glanceRow (levelOf b) tag (ruleOf (levelOf b) tag)
   unfolding glanceTable
-  glance-from et = rw (et, ey) (row-at (λ l k. glanceRow l k (ruleOf l k)) b tag small)
+  glance-at e = rw e (row-at (λ l k. glanceRow l k (ruleOf l k)) b tag h)
 
 -- ---- a tag above all that are listed
 

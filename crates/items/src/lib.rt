@@ -1,9 +1,9 @@
 // The constant item table, and the rules for one item: of a set or a pack, in a packet, a sheet or an edit.
 ghost use mathlib.Core.Path.{_≡_};
-ghost use Prim.Native.Nat.{ℕ, _<_};
+ghost use Prim.Native.Nat.{ℕ, _+_, _≤_, _<_};
 ghost use mathlib.Core.Bool.{_||_, not};
 ghost use mathlib.Core.List.{List};
-ghost use lib.ListN.{length};
+ghost use lib.ListN.{length, getD};
 ghost use lib.Dec.{eqb};
 ghost use Rattle.format.specs.Lists.{has, none?};
 ghost use Rattle.format.specs.Table.{isAlone, isSet, ruleOf, nameable, mayStand, standing, sized, isNumber, valued, short};
@@ -91,6 +91,15 @@ fn rows_from(set: bool) -> usize
     if set { 24 } else { 0 }
 }
 
+// The row of a tag that has one, in either table.
+fn row_at(rows: &[u32], set: bool, tag: u64) -> u32
+    requires { ⌜ (length (now rows) ≡ 37) × (tag ≤ mostTag set) ⌝ }
+    ensures { λ r. ⌜ r ≡ getD (now (rows .entry)) (rowsFrom set + tag) 0 ⌝ }
+{
+    let at = rows_from(set) + (tag as usize);
+    rows[at]
+}
+
 // A row taken apart.
 fn rule_from(row: u32) -> Rule
     ensures { λ r. ⌜ ruleFrom r ≡ rowFrom row ⌝ }
@@ -114,8 +123,7 @@ pub fn rule_of(table: &[u32], set: bool, tag: u64) -> Rule
             most: 0,
         };
     }
-    let at = rows_from(set) + (tag as usize);
-    rule_from(table[at])
+    rule_from(row_at(table, set, tag))
 }
 
 // Leading zeros.

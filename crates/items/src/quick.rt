@@ -116,8 +116,7 @@ pub fn is_glanced(glances: &[u32], set: bool, alone: bool, tag: u64, n: u64, fir
     if super::most_tag(set) < tag {
         return is_other(set, tag, n);
     }
-    let at = super::rows_from(set) + (tag as usize);
-    let row = glances[at];
+    let row = super::row_at(glances, set, tag);
     if row < least_row(alone) {
         return false;
     }

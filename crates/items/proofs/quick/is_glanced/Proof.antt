@@ -1,8 +1,7 @@
 -- `items::quick::is_glanced` meets its contract: the row at a tag's place has the bits of its rule.
-use native.Mathlib.Omega.{arith}
 use borrow.Author.Needs.{needs}
 use Rattle.format.proofs.words.Answers.{no-bool}
-use Rattle.items.proofs.Rows.{row-place, glances-long}
+use Rattle.items.proofs.Rows.{glances-long}
 use Rattle.items.proofs.Glances.{quick-from, quick-other}
 use Rattle.items.proofs.quick.is_glanced.Statement.{statement}
 use Rattle.items.proofs.quick.is_glanced.Tie as tie
@@ -16,24 +15,8 @@ is-other-requires c κs = search needs
 returns : tie.Need-returns
 returns c = quick-other (c .before .before .before .before .args .set) _ _ _ _ (c .is-other .ensures)
 
-rows-from-requires : tie.Need-rows-from-requires
-rows-from-requires c κs = search needs
-
-add-at : tie.Need-add-at
-add-at c =
-    let m = c .before .before in
-    omega (arith, row-place (m .before .before .args .set) _ (m .most-tag .ensures) (c .before .if1 .left) (c .rows-from .ensures))
-
-mul-row : tie.Need-mul-row
-mul-row c =
-    let m = c .before .before in
-    omega (arith, row-place (m .before .before .args .set) _ (m .most-tag .ensures) (c .before .if1 .left) (c .rows-from .ensures))
-
-shared-slice-read-row : tie.Need-shared-slice-read-row
-shared-slice-read-row c =
-    let f = c .before in
-    let m = f .before .before in
-    omega (arith, row-place (m .before .before .args .set) _ (m .most-tag .ensures) (f .before .if1 .left) (f .rows-from .ensures), glances-long (m .before .before .pre))
+row-at-requires : tie.Need-row-at-requires
+row-at-requires c κs = (glances-long (c .before .before .before .pre), rw (c .before .most-tag .ensures) at (c .if1 .left))
 
 least-row-requires : tie.Need-least-row-requires
 least-row-requires c κs = search needs
@@ -47,10 +30,9 @@ fits-requires c κs = search needs
 returns-3 : tie.Need-returns-3
 returns-3 c =
     let l = c .before .before in
-    let f = l .before .before in
-    let m = f .before .before in
-    let p = m .before .before in
-    quick-from (p .args .set) _ (m .most-tag .ensures) (f .before .if1 .left) (f .rows-from .ensures) (p .args .alone) (l .least-row .ensures) (p .pre) (c .before .if2 .left) (c .fits2 .ensures)
+    let m = l .before .before .before in
+    let s = m .before .before in
+    quick-from (s .args .set) (s .args .alone) _ (rw (m .most-tag .ensures) at (l .before .before .if1 .left)) (l .least-row .ensures) (s .pre) (l .before .row-at .ensures) (c .before .if2 .left) (c .fits2 .ensures)
 
 pub is-glanced-spec : {M : Type 1} → statement M
 is-glanced-spec =
@@ -59,10 +41,7 @@ is-glanced-spec =
     most-tag-requires
     is-other-requires
     returns
-    rows-from-requires
-    add-at
-    mul-row
-    shared-slice-read-row
+    row-at-requires
     least-row-requires
     returns-2
     fits-requires

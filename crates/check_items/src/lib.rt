@@ -1,14 +1,13 @@
 // The walks that check a packet: one item at a time, the item walk and the pack walk, with the sizes of what they find.
 ghost use mathlib.Core.Path.{_≡_};
-ghost use Prim.Native.Nat.{ℕ, _≤_};
+ghost use Prim.Native.Nat.{_≤_};
 ghost use mathlib.Core.Bool.{false};
-ghost use mathlib.Core.List.{List};
-ghost use lib.ListN.{length, drop};
-ghost use Rattle.format.specs.Read.{item};
+ghost use lib.ListN.{length};
 ghost use Rattle.items.specs.Meet.{formOf, levelOf, itemTable, glanceTable};
-ghost use Rattle.heads.specs.Meet.{peek, Past, Clear};
-ghost use Rattle.tally.specs.Going.{LevelGoing, SeriesGoing};
-ghost use Rattle.tally.specs.Meet.{pieceOf, pieceFault, levelWalk, seriesWalk, Within};
+ghost use Rattle.heads.specs.Meet.{peek, Clear};
+ghost use Rattle.tally.specs.Going.{LevelTo, SeriesTo, ItemRead};
+ghost use Rattle.tally.specs.Meet.{pieceFault, levelWalk, seriesWalk, Within};
+ghost use Rattle.check_items.specs.Walks.{WalkAsked};
 use heads::Head;
 use tally::Piece;
 use tally::Walked;
@@ -26,7 +25,7 @@ fn item_at(
     low: u64,
 ) -> Piece
     requires { ⌜ (now table ≡ itemTable) × (p ≤ length (now s)) × Clear (peek false false set) (now s) clear ⌝ }
-    ensures { λ r. ⌜ ((seen : List ℕ) → Past (peek false false set) (now (s .entry)) p top low seen → r ≡ pieceOf (levelOf set) (item (levelOf set) (formOf alone) seen (drop p (now (s .entry))))) ⌝ }
+    ensures { λ r. ⌜ ItemRead set (formOf alone) (now (s .entry)) p top low r ⌝ }
 {
     let t = &s[p..];
     let h = heads::item_head(t, set);
@@ -111,7 +110,7 @@ pub fn item_rest(
     from: Stage,
     bits: &mut [u64; 64],
 ) -> Walked
-    requires { ⌜ (now table ≡ itemTable) × (length (now s) ≤ 8192) × LevelGoing set (formOf alone) (now s) (from .at) (from .sizes) (from .held) (from .top) (from .low) × (now glances ≡ glanceTable) ⌝ }
+    requires { ⌜ WalkAsked (now table) (now glances) (now s) × LevelTo set (formOf alone) (now s) from ⌝ }
     ensures { λ r. ⌜ (r ≡ levelWalk (levelOf set) (formOf alone) (now (s .entry))) × Within r (length (now (s .entry))) ⌝ }
 {
     let q = quick_items::onward(s, set, alone, from);
@@ -172,7 +171,7 @@ pub fn pack_walk(
     from: Stage,
     bits: &mut [u64; 64],
 ) -> Walked
-    requires { ⌜ (now table ≡ itemTable) × (length (now s) ≤ 8192) × SeriesGoing (formOf alone) (now s) (from .at) (from .sizes) (from .top) (from .low) × (now glances ≡ glanceTable) ⌝ }
+    requires { ⌜ WalkAsked (now table) (now glances) (now s) × SeriesTo (formOf alone) (now s) from ⌝ }
     ensures { λ r. ⌜ (r ≡ seriesWalk (formOf alone) (now (s .entry))) × Within r (length (now (s .entry))) ⌝ }
 {
     let q = quick_packs::noted(glances, s, alone, from, bits);
@@ -213,18 +212,18 @@ pub fn pack_walk(
         let Walked::Good { sizes, held } = w else {
             return tally::later(w, from);
         };
-        if coding::either(!alone, held) {
-            sum = tally::weights::plus(sum, tally::weights::pack_sizes(used, sizes));
-            clear = repeats::clear::after(s, p, clear, top, low, key, false, true, false, bits);
-            top = tally::larger(top, key);
-            low = tally::smaller(low, key);
-            p = next;
-        } else {
+        let ended = tally::ended_of(alone, held);
+        if ended != 0 {
             return Walked::Bad {
-                number: 14,
+                number: ended,
                 place: p,
             };
         }
+        sum = tally::weights::plus(sum, tally::weights::pack_sizes(used, sizes));
+        clear = repeats::clear::after(s, p, clear, top, low, key, false, true, false, bits);
+        top = tally::larger(top, key);
+        low = tally::smaller(low, key);
+        p = next;
     }
     Walked::Good {
         sizes: sum,

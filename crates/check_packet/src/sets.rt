@@ -6,8 +6,8 @@ ghost use mathlib.Core.Bool.{true};
 ghost use lib.ListN.{length};
 ghost use Rattle.format.specs.Table.{set};
 ghost use Rattle.items.specs.Meet.{formOf, glanceTable};
-ghost use Rattle.tally.specs.Meet.{levelWalk, seriesWalk, Within};
-ghost use Rattle.tally.specs.Going.{LevelTo, SeriesTo};
+ghost use Rattle.tally.specs.Meet.{levelWalk, Within};
+ghost use Rattle.tally.specs.Going.{LevelTo};
 ghost use Rattle.check_packet.specs.Meet.{HeadIf};
 ghost use Rattle.check_packet.specs.Sets.{SeriesNext, SeriesAsked};
 use heads::Head;
@@ -75,28 +75,6 @@ fn series_at(s: &[u8], p: usize, top: u64) -> Part
     }
 }
 
-// The packs told at a glance, from a series' start. One alone needs no model.
-fn glance_packs(glances: &[u32], s: &[u8], alone: bool) -> Stage
-    requires { ⌜ (now glances ≡ glanceTable) × (length (now s) ≤ 8192) ⌝ }
-    ensures { λ r. ⌜ SeriesTo (formOf alone) (now (s .entry)) r ⌝ }
-{
-    if quick_packs::is_lone(s) {
-        return quick_packs::lone(glances, s, alone);
-    }
-    quick_packs::packs(glances, s, alone)
-}
-
-// The packs of a series one by one, from where the quick way over them ended.
-fn packs_rest(glances: &[u32], s: &[u8], alone: bool, q: Stage) -> Walked
-    requires { ⌜ (now glances ≡ glanceTable) × (length (now s) ≤ 8192) × SeriesTo (formOf alone) (now s) q ⌝ }
-    ensures { λ r. ⌜ (r ≡ seriesWalk (formOf alone) (now (s .entry))) × Within r (length (now (s .entry))) ⌝ }
-{
-    let table = items::table();
-    // lent on as a part, so that the compiler keeps the slice itself in registers
-    let mut bits = [0u64; 64];
-    check_items::pack_walk(&table, glances, &s[0..], alone, q, &mut bits)
-}
-
 // Whether a tag and a length are the checksum's, where it may stand, and the tag is told to be new.
 fn is_seal_next(alone: bool, p: usize, low: u64, tag: u64, size: usize, last: bool) -> bool
     ensures { λ r. ⌜ (r ≡ true → (alone ≡ true) × (0 < p) × (1 < low) × (tag ≡ 1) × (size ≡ 2) × (last ≡ true)) ⌝ }
@@ -157,41 +135,51 @@ fn set_rest(glances: &[u32], s: &[u8], alone: bool, from: Stage) -> Walked
     check_items::item_rest(&table, glances, s, true, alone, q, &mut bits)
 }
 
-// The rest of the set from its series on, where the quick way came to d in that. A refusal in the series is the set's.
+// The rest of the set from its series on, one by one, where the quick way over the packs came to d. A refusal in the series is the set's.
 fn series_rest(glances: &[u32], s: &[u8], alone: bool, q: Stage, part: Part, d: Stage) -> Walked
     requires { ⌜ SeriesAsked (now glances) (formOf alone) (now s) q (part .from) (part .next) d ⌝ }
     ensures { λ r. ⌜ (r ≡ levelWalk set (formOf alone) (now (s .entry))) × Within r (length (now (s .entry))) ⌝ }
 {
+    let table = items::table();
+    let mut bits = [0u64; 64];
     let from = part.from;
     let next = part.next;
-    let w = packs_rest(glances, &s[from..next], alone, d);
+    let w = check_items::pack_walk(&table, glances, &s[from..next], alone, d, &mut bits);
     let Walked::Good { sizes, held: _ } = w else {
         return tally::later(w, from);
     };
-    set_rest(glances, s, alone, stages::after_series(q, next, sizes))
+    let r = stages::after_series(q, next, sizes);
+    check_items::item_rest(&table, glances, s, true, alone, r, &mut bits)
 }
 
-// The items of the set. An embedded one often ends with its series.
+// The items of the set. An embedded one often ends with its series. Where all are told at a glance no enum and no stage goes through memory: the
+// rests are called at one place each, so that they stand there.
 pub fn set_walk(glances: &[u32], s: &[u8], alone: bool) -> Walked
     requires { ⌜ (now glances ≡ glanceTable) × (length (now s) ≤ 8192) ⌝ }
     ensures { λ r. ⌜ (r ≡ levelWalk set (formOf alone) (now (s .entry))) × Within r (length (now (s .entry))) ⌝ }
 {
-    let mut q = quick_items::glance_items(glances, s, true, alone);
+    let q = quick_items::glance_items(glances, s, true, alone);
+    let mut r = q;
     let part = series_at(s, q.at, q.top);
     let from = part.from;
     if from != 0 {
         let next = part.next;
         let packs = &s[from..next];
-        let d = glance_packs(glances, packs, alone);
-        // no enum goes through memory where all are told at a glance
-        if d.at != packs.len() {
-            return series_rest(glances, &s[0..], alone, q, part, d);
+        let one = quick_packs::lone(glances, packs, alone);
+        if one.at == packs.len() {
+            r = stages::after_series(q, next, one.sizes);
+        } else {
+            let d = quick_packs::packs(glances, packs, alone);
+            if d.at != packs.len() {
+                // lent on as a part, so that the compiler keeps the slice itself in registers
+                return series_rest(glances, &s[0..], alone, q, part, d);
+            }
+            r = stages::after_series(q, next, d.sizes);
         }
-        q = stages::after_series(q, next, d.sizes);
     }
-    if q.at == s.len() {
-        return stages::walked(q);
+    if r.at == s.len() {
+        return stages::walked(r);
     }
     // as a part here too
-    set_rest(glances, &s[0..], alone, q)
+    set_rest(glances, &s[0..], alone, r)
 }

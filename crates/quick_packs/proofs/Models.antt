@@ -2,7 +2,7 @@
 use mathlib.Core.Path.{_≡_, refl, sym, ap, subst, _∙_}
 use Prim.Native.Nat.{ℕ, _+_, _-_, _≤_, _<_}
 use native.Mathlib.Omega.{arith}
-use mathlib.Core.Bool.{Bool, true, false, not, _||_}
+use mathlib.Core.Bool.{Bool, true, false}
 use mathlib.Core.List.{List}
 use lib.ListN.{length, take, drop, length-drop}
 use lib.Seq.{getD-take, length-take-le}
@@ -18,14 +18,14 @@ use Rattle.tally.specs.declared.Sizes.{Sizes}
 use Rattle.tally.specs.declared.stages.Stage.{Stage}
 use Rattle.quick_packs.specs.declared.Model.{Model}
 use Rattle.tally.specs.Going.{LevelGoing, SeriesGoing, Reached}
-use Rattle.tally.specs.Meet.{packSizes, plusSizes}
+use Rattle.tally.specs.Meet.{packSizes, plusSizes, endedBy}
 use Rattle.quick_packs.specs.Packs.{Laid, Told, As, Modelled, packedSizes, ItemsAsked, ItemsTold, Chosen}
 use Rattle.quick_items.specs.Items.{toldSizes}
 use Rattle.tally.proofs.Walks.{same-sizes}
 use Rattle.tally.proofs.Turns.{turn-done, Fresh, reached-fresh}
-use Rattle.tally.proofs.PackTurns.{PackAt, either-is, head-stood, head-room, lent-long, pack-more}
+use Rattle.tally.proofs.PackTurns.{PackAt, head-stood, head-room, lent-long, pack-more}
 
-module _ (alone : Bool) {m a : List ℕ} {q : Stage} (l : Laid (formOf alone) m a q) (all : q .at ≡ length a) (located : not alone || q .held ≡ true) where
+module _ (alone : Bool) {m a : List ℕ} {q : Stage} (l : Laid (formOf alone) m a q) (all : q .at ≡ length a) (ends : endedBy (formOf alone) (q .held) ≡ 0) where
   pub laid-told : (b : List ℕ) → Bytes b → length b ≡ length a → AlikeTo m a b (length a) → Told alone b (1 + q .sizes .rows)
   laid-told b bytes e h = record {
     count = q .sizes .rows;
@@ -36,7 +36,7 @@ module _ (alone : Bool) {m a : List ℕ} {q : Stage} (l : Laid (formOf alone) m 
         let z : length b ≡ q .at = e ∙ sym all in
         rw (z, ← l .sizes-are) (l .walked b bytes e (rw (← all) at h));
     rows-are = refl;
-    located = located;
+    ends = ends;
   }
 
 -- the items from one place of s to another
@@ -44,7 +44,7 @@ pub part-long : (s : List ℕ) (from next : ℕ) → from ≤ next → next ≤ 
 part-long s from next ordered room = length-take-le (next - from) (drop from s) (rw length-drop (omega arith))
 
 module _ (alone : Bool) (s : List ℕ) (from next : ℕ) {glances masks : List ℕ} {q : Stage} (l : Laid (formOf alone) masks (take (next - from) (drop from s)) q) (asked : ItemsAsked glances s from next)
-    (all : q .at ≡ next - from) (located : not alone || q .held ≡ true) where
+    (all : q .at ≡ next - from) (ends : endedBy (formOf alone) (q .held) ≡ 0) where
   abbrev part : List ℕ
   part = take (next - from) (drop from s)
 
@@ -52,7 +52,7 @@ module _ (alone : Bool) (s : List ℕ) (from next : ℕ) {glances masks : List �
   long = part-long s from next (asked .ordered) (asked .room)
 
   pub items-told : Told alone part (1 + q .sizes .rows)
-  items-told = laid-told alone l (all ∙ sym long) located part (bytes-take (next - from) (drop from s) (bytes-drop from s (asked .bytes))) refl (alike-same _ _ _)
+  items-told = laid-told alone l (all ∙ sym long) ends part (bytes-take (next - from) (drop from s) (bytes-drop from s (asked .bytes))) refl (alike-same _ _ _)
 
   pub items-chosen : length masks ≡ 160 → Chosen alone masks s from next (record { from = from; size = q .at; rows = 1 + q .sizes .rows })
   items-chosen masked = record {
@@ -60,7 +60,7 @@ module _ (alone : Bool) (s : List ℕ) (from next : ℕ) {glances masks : List �
       long = masked;
       within = omega (arith, asked .ordered, asked .room);
       told = λ _ b bytes e h.
-          laid-told alone l (all ∙ sym long) located b bytes (e ∙ all ∙ sym long)
+          laid-told alone l (all ∙ sym long) ends b bytes (e ∙ all ∙ sym long)
           (subst (AlikeTo masks part b) (all ∙ sym long) (alike-as part b (λ i g. sym (getD-take (next - from) (drop from s) i 0 (omega (arith, g, all)))) (λ i g. refl) h));
     };
     earlier = omega arith;
@@ -90,9 +90,9 @@ pub unchosen : {alone : Bool} {masks s : List ℕ} {from next : ℕ} {m : Model}
 unchosen (e, n, z) long = none-chosen (e, n, λ h. absurd (omega (arith, h, z))) long
 
 -- items that the quick way goes over to their end
-pub run-told : (alone : Bool) {b : List ℕ} {q : Stage} → LevelGoing false (formOf alone) b (q .at) (q .sizes) (q .held) (q .top) (q .low) × (q .sizes ≡ toldSizes (q .sizes .rows) (q .at)) → length b ≡ q .at → not alone || q .held ≡ true
+pub run-told : (alone : Bool) {b : List ℕ} {q : Stage} → LevelGoing false (formOf alone) b (q .at) (q .sizes) (q .held) (q .top) (q .low) × (q .sizes ≡ toldSizes (q .sizes .rows) (q .at)) → length b ≡ q .at → endedBy (formOf alone) (q .held) ≡ 0
     → Told alone b (1 + q .sizes .rows)
-run-told alone {q = q} g all located = record { count = q .sizes .rows; held = q .held; top = q .top; low = q .low; going = rw (all, ← g .1) (g .0); rows-are = refl; located = located }
+run-told alone {q = q} g all ends = record { count = q .sizes .rows; held = q .held; top = q .top; low = q .low; going = rw (all, ← g .1) (g .0); rows-are = refl; ends = ends }
 
 -- the items of a pack whose head was read, with a byte for its length
 pub items-asked : {f : Form} {s : List ℕ} {p : ℕ} {sum : Sizes} {top low k u w n : ℕ} → PackAt f s p sum top low k u w n → (w ≡ 1) × (n < 128) × (u ≤ 2) → {glances : List ℕ} → glances ≡ glanceTable
@@ -114,7 +114,7 @@ pub told-more : {alone : Bool} {s : List ℕ} {p rows : ℕ} (more : ℕ) {top l
     → SeriesGoing (formOf alone) s (p + w + n) (packedSizes (p + w + n) (rows + r) (more + 5 - u)) top′ low′
 told-more {alone = alone} {p = p} {rows = rows} more {w = w} {n = n} i short b {r = r} t =
     let e : rows + r ≡ rows + 1 + t .count = omega (arith, t .rows-are) in
-    rw e (pack-more i (b .new) refl (turn-done (t .going) (omega arith)) refl (either-is alone (t .held) (sym (t .located))) refl (packed-plus p rows more w n short (head-stood i .body) (lent-long i (b .new) refl) refl) (b .over) (b .under))
+    rw e (pack-more i (b .new) refl (turn-done (t .going) (omega arith)) refl (sym (t .ends)) refl (packed-plus p rows more w n short (head-stood i .body) (lent-long i (b .new) refl) refl) (b .over) (b .under))
 
 -- the first, as the code has its sizes
 pub told-first : {alone : Bool} {s : List ℕ} {top low k u w n : ℕ} → PackAt (formOf alone) s 0 (packedSizes 0 0 0) top low k u w n → (w ≡ 1) × (n < 128) × (u ≤ 2) → {top′ low′ : ℕ}

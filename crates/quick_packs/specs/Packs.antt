@@ -1,7 +1,7 @@
 -- Packs laid out alike: what is told of one by the masks of another, its model.
 use mathlib.Core.Path.{_≡_}
 use Prim.Native.Nat.{ℕ, _+_, _-_, _*_, _≤_, _<_}
-use mathlib.Core.Bool.{Bool, true, false, not, _||_}
+use mathlib.Core.Bool.{Bool, false}
 use mathlib.Core.List.{List}
 use lib.ListN.{length, take, drop}
 use Rattle.format.specs.Coding.{Bytes}
@@ -11,7 +11,7 @@ use Rattle.items.specs.Meet.{formOf, glanceTable}
 use Rattle.tally.specs.declared.Sizes.{Sizes}
 use Rattle.tally.specs.declared.stages.Stage.{Stage}
 use Rattle.quick_packs.specs.declared.Model.{Model}
-use Rattle.tally.specs.Meet.{sizes}
+use Rattle.tally.specs.Meet.{sizes, endedBy}
 use Rattle.tally.specs.Going.{LevelGoing}
 
 -- the items of a, and of whatever is laid out as they are, by the masks, are walked to the same place with the same sizes
@@ -27,7 +27,7 @@ pub record Told (alone : Bool) (b : List ℕ) (rows : ℕ) : Type 0 where
   pub low : ℕ
   pub going : LevelGoing false (formOf alone) b (length b) (sizes (4 * count + length b) count (length b) 0) held top low
   pub rows-are : rows ≡ 1 + count
-  pub located : not alone || held ≡ true
+  pub ends : endedBy (formOf alone) held ≡ 0
 
 -- what stands from there on is laid out as the model's items
 pub record As (masks s : List ℕ) (m : Model) (from : ℕ) : Type 0 where

@@ -101,7 +101,7 @@ fn model_of(
     if q.at != next - from {
         return no_model();
     }
-    if !coding::either(!alone, q.held) {
+    if tally::ended_of(alone, q.held) != 0 {
         return no_model();
     }
     Model {
@@ -120,7 +120,7 @@ fn unmodelled(glances: &[u32], s: &[u8], from: usize, next: usize, alone: bool) 
     if q.at != next - from {
         return no_model();
     }
-    if !coding::either(!alone, q.held) {
+    if tally::ended_of(alone, q.held) != 0 {
         return no_model();
     }
     Model {
@@ -268,11 +268,24 @@ pub fn noted(glances: &[u32], s: &[u8], alone: bool, q: Stage, bits: &mut [u64; 
     q
 }
 
-// The same of a series of one pack, for which no model is laid out: apart, so that it stands where it is called.
+// Whether the first pack, with a byte for its length, is all of the series.
+fn is_lone(s: &[u8]) -> bool
+    ensures { λ r. ⌜ (r ≡ true → 0 < length (now (s .entry))) ⌝ }
+{
+    if s.len() == 0 {
+        return false;
+    }
+    s.len() - 1 == coding::wide(s[0]) as usize
+}
+
+// The same of a series of one pack alone, for which no model is laid out: apart, so that it stands where it is called.
 pub fn lone(glances: &[u32], s: &[u8], alone: bool) -> Stage
-    requires { ⌜ (now glances ≡ glanceTable) × (length (now s) ≤ 8192) × (0 < length (now s)) ⌝ }
+    requires { ⌜ (now glances ≡ glanceTable) × (length (now s) ≤ 8192) ⌝ }
     ensures { λ r. ⌜ SeriesTo (formOf alone) (now (s .entry)) r ⌝ }
 {
+    if !is_lone(s) {
+        return passed(0, 0, 0, 0, 18446744073709551615);
+    }
     let p: usize = 0;
     let h = heads::short_pack_head(&s[p..]);
     let Head::Whole {
@@ -291,16 +304,6 @@ pub fn lone(glances: &[u32], s: &[u8], alone: bool) -> Stage
         return passed(0, 0, 0, 0, 18446744073709551615);
     }
     passed(next, m.rows, 5 - used, key, key)
-}
-
-// Whether the first pack, with a byte for its length, is all of the series.
-pub fn is_lone(s: &[u8]) -> bool
-    ensures { λ r. ⌜ (r ≡ true → 0 < length (now (s .entry))) ⌝ }
-{
-    if s.len() == 0 {
-        return false;
-    }
-    s.len() - 1 == coding::wide(s[0]) as usize
 }
 
 pub mod bounds; // bounds.rt: the bounds of the ids, and whether one more is new

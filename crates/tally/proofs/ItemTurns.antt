@@ -27,7 +27,7 @@ use Rattle.tally.specs.declared.Sizes.{Sizes}
 use Rattle.tally.specs.declared.Walked.{Walked}
 use Rattle.tally.specs.declared.Walked.the-variants.{Good, Bad}
 use Rattle.tally.specs.Meet.{pieceOf, noSizes, itemSizes, seriesSizes, plusSizes, weightOfEntry, stepAt, askedTag, levelWalk, seriesWalk, seriesFrom, stopAt, laterBy, Few, Small, Within}
-use Rattle.tally.specs.Going.{LevelGoing}
+use Rattle.tally.specs.Going.{LevelGoing, ItemRead}
 use Rattle.tally.proofs.Walks.{few-more, going-start}
 use Rattle.tally.proofs.Levels.{Stood, stood, step-fault, read-peek, plain-step, plain-weight, plain-few, series-bad, series-good}
 use Rattle.tally.proofs.Turns.{Reads, within-of, within-more, turn-bad, turn-more}
@@ -117,7 +117,7 @@ series-deep false tag e t = no-bool (sym e ∙ t)
 -- ---- the turn
 
 module _ (b : Bool) (f : Form) {s : List ℕ} {p : ℕ} {sum : Sizes} {held : Bool} {top low : ℕ} (g : LevelGoing b f s p sum held top low) (h : p < length s)
-    {a : Piece} (ea : (seen : List ℕ) → Past (peek false false b) s p top low seen → a ≡ pieceOf (levelOf b) (item (levelOf b) f seen (drop p s))) where
+    {a : Piece} (ea : ItemRead b f s p top low a) where
   here : a ≡ pieceOf (levelOf b) (item (levelOf b) f (g .seen) (drop p s))
   here = ea (g .seen) (g .past)
 
@@ -130,7 +130,7 @@ pub record ItemAt (b : Bool) (f : Form) (s : List ℕ) (p : ℕ) (sum : Sizes) (
   pub going : LevelGoing b f s p sum held top low
   pub here : p < length s
   pub it : Piece
-  pub told : (seen : List ℕ) → Past (peek false false b) s p top low seen → it ≡ pieceOf (levelOf b) (item (levelOf b) f seen (drop p s))
+  pub told : ItemRead b f s p top low it
   pub whole : it ≡ piece.Whole tag from size small
   pub bytes : Bytes s
   pub most : length s ≤ 8192

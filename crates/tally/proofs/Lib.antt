@@ -2,6 +2,7 @@ pub mod Maps
 pub mod Pieces
 pub mod Walks
 pub mod Levels
+pub mod Ends
 pub mod Series
 pub mod Turns
 pub mod Begins

@@ -24,10 +24,11 @@ use Rattle.tally.specs.declared.Piece.{Piece}
 use Rattle.tally.specs.declared.Sizes.{Sizes}
 use Rattle.tally.specs.declared.Walked.{Walked}
 use Rattle.tally.specs.declared.Walked.the-variants.{Good, Bad}
-use Rattle.tally.specs.Meet.{pieceFault, noSizes, packSizes, plusSizes, total, weightOfItem, weightOfPack, levelWalk, seriesWalk, stopAt, laterBy, Few, Small, Within}
+use Rattle.tally.specs.Meet.{endedBy, pieceFault, noSizes, packSizes, plusSizes, total, weightOfItem, weightOfPack, levelWalk, seriesWalk, stopAt, laterBy, Few, Small, Within}
 use Rattle.tally.specs.Going.{SeriesGoing}
 use Rattle.tally.proofs.Walks.{few-more, going-start}
-use Rattle.tally.proofs.Series.{items-good, items-bad, pack-fault, PackStood, pack-stood, pack-10, pack-inside, pack-14, pack-good}
+use Rattle.tally.proofs.Series.{items-good, items-bad, pack-fault, PackStood, pack-stood, pack-10, pack-inside, pack-refused, pack-good}
+use Rattle.tally.proofs.Ends.{ended-says}
 use Rattle.tally.proofs.Turns.{Reads, within-more, turn-bad, turn-more}
 
 pub drop-take : (u n : ℕ) (s : List ℕ) → drop u (take n s) ≡ take (n - u) (drop u s)
@@ -115,37 +116,38 @@ module _ {f : Form} {s : List ℕ} {p : ℕ} {sum : Sizes} {top low k u w n : �
           good : Good z m ≡ levelWalk pack f (drop u (take n (drop w (drop p s))))
           good = rw lent-is at (sym ty ∙ ey .0)
 
-          -- v: no location is wanted, or there is one
-          module _ {v : Bool} (ev : v ≡ (not (isAlone f) || m)) where
-            pub no-location : {r : Walked} → v ≡ false → r ≡ Bad 14 p → (r ≡ seriesWalk f s) × Within r (length s)
-            no-location tv e =
+          pub items-small : Small z
+          items-small = few-more z (n - u) 65536 (omega (arith, head-room, i .most)) few
+
+          weighs : Few (packSizes u z) (w + n)
+          weighs =
+              let j = head-stood in
+              record {
+                sheet = omega (arith, few .sheet, j .len, j .key, j .body);
+                rows = omega (arith, few .rows, j .len, j .key, j .body);
+                normal = omega (arith, few .normal, j .len, j .key, j .body, len-most (u + z .normal));
+                inner = omega arith;
+              }
+
+          pub pack-small : {y : Sizes} → y ≡ packSizes u z → Small sum × Small y
+          pack-small e = (few-more sum p 65536 (omega (arith, i .here, i .most)) (i .going .few), rw e (few-more (packSizes u z) (w + n) 65536 (omega (arith, head-room, i .most)) weighs))
+
+          -- number: with what it is refused at its end, if not 0
+          module _ {number : ℕ} (says : number ≡ endedBy f m) where
+            pub not-ended : {r : Walked} → (number ≡ 0 → ⊥) → r ≡ Bad number p → (r ≡ seriesWalk f s) × Within r (length s)
+            not-ended tx e =
                 items-good f _ z m good λ is ei ez em.
-                turn-bad (i .going) (i .here) refl 14 0 (e ∙ ap (Bad 14) (sym (add-zero p))) (pack-14 f (i .going .seen) (drop p s) k u w n whole first is ei (rw em (sym ev ∙ tv))) (omega arith)
+                let b = pack-refused f (i .going .seen) (drop p s) k u w n whole first is ei (ended-says f _ says em .1 tx) in
+                turn-bad (i .going) (i .here) refl number 0 (e ∙ ap (Bad number) (sym (add-zero p))) b (omega arith)
 
-            pub items-small : Small z
-            items-small = few-more z (n - u) 65536 (omega (arith, head-room, i .most)) few
-
-            weighs : Few (packSizes u z) (w + n)
-            weighs =
-                let j = head-stood in
-                record {
-                  sheet = omega (arith, few .sheet, j .len, j .key, j .body);
-                  rows = omega (arith, few .rows, j .len, j .key, j .body);
-                  normal = omega (arith, few .normal, j .len, j .key, j .body, len-most (u + z .normal));
-                  inner = omega arith;
-                }
-
-            pub pack-small : {y : Sizes} → y ≡ packSizes u z → Small sum × Small y
-            pack-small e = (few-more sum p 65536 (omega (arith, i .here, i .most)) (i .going .few), rw e (few-more (packSizes u z) (w + n) 65536 (omega (arith, head-room, i .most)) weighs))
-
-            pub pack-more : v ≡ true → {sum′ : Sizes} → sum′ ≡ plusSizes sum (packSizes u z) → {top′ : ℕ} → (top ≤ top′) × (k ≤ top′) → {low′ : ℕ} → (low′ ≤ low) × (low′ ≤ k)
+            pub pack-more : number ≡ 0 → {sum′ : Sizes} → sum′ ≡ plusSizes sum (packSizes u z) → {top′ : ℕ} → (top ≤ top′) × (k ≤ top′) → {low′ : ℕ} → (low′ ≤ low) × (low′ ≤ k)
                 → SeriesGoing f s (p + w + n) sum′ top′ low′
-            pack-more tv es et el =
+            pack-more tx es et el =
                 items-good f _ z m good λ is ei ez em.
                 let j = head-stood in
                 let read : Reads weightOfPack (λ p. false) idOfPack (onePack f (i .going .seen) (drop p s)) k (w + n) (packSizes u z) false = record {
                   it = record { width = w; id = k; items = is .val };
-                  reads = pack-good f (i .going .seen) (drop p s) k u w n whole first is ei (rw em (sym ev ∙ tv));
+                  reads = pack-good f (i .going .seen) (drop p s) k u w n whole first is ei (ended-says f _ says em .0 tx);
                   key-is = refl;
                   weighs = ap (λ v. packSizes v (total (weightOfItem pack) (is .val))) (j .id-long) ∙ ap (packSizes u) ez;
                   holds = refl;

@@ -9,7 +9,7 @@ use lib.Dec.{eqb}
 use Rattle.format.specs.Answer.{Ans, ok, refused, Got, got, _>>=_, after}
 use Rattle.format.specs.Coding.{Bytes, oidBytes}
 use Rattle.format.specs.Lists.{has}
-use Rattle.format.specs.Table.{Form, pack, isAlone, ended}
+use Rattle.format.specs.Table.{Form, pack, ended}
 use Rattle.format.specs.Packet.{Item, Pack, plain, tagOfItem, tagOfEntry}
 use Rattle.format.specs.Run.{run, always}
 use Rattle.format.specs.Read.{item, packHead, onePack}
@@ -108,10 +108,8 @@ module _ (f : Form) (seen s : List ℕ) (k u w n : ℕ) (e : packHeadOf (heads.W
       pack-ended : onePack f seen s ≡ packEnd is
       pack-ended = pack-on ∙ bind-so (after (w + u) itemsRun) packEnd is (after-ok (w + u) itemsRun is r)
 
-      pub pack-14 : not (isAlone f) || has 17 (map tagOfItem (is .val)) ≡ false → onePack f seen s ≡ refused 14 0
-      unfolding ended
-      pack-14 z = pack-ended ∙ need-not _ _ _ z
+      pub pack-refused : {x : ℕ} → ended f (map tagOfItem (is .val)) ≡ refused x 0 → onePack f seen s ≡ refused x 0
+      pack-refused {x = x} z = pack-ended ∙ bind-not _ _ x 0 z
 
-      pub pack-good : not (isAlone f) || has 17 (map tagOfItem (is .val)) ≡ true → onePack f seen s ≡ ok (got (record { width = w; id = k; items = is .val }) (w + n))
-      unfolding ended
-      pack-good z = pack-ended ∙ need-so _ _ _ z
+      pub pack-good : ended f (map tagOfItem (is .val)) ≡ ok tt → onePack f seen s ≡ ok (got (record { width = w; id = k; items = is .val }) (w + n))
+      pack-good z = pack-ended ∙ bind-so _ _ tt z

@@ -9,16 +9,17 @@ use lib.ListN.{length, drop}
 use lib.Dec.{eqb}
 use Rattle.format.specs.Answer.{Ans, ok, refused, Got}
 use Rattle.format.specs.Packet.{tagOfEntry, idOfPack}
-use Rattle.format.specs.Read.{onePack}
+use Rattle.format.specs.Read.{item, onePack}
 use Rattle.format.specs.Run.{Step, skip, always}
 use Rattle.format.specs.Table.{Form, isSet, isAlone}
 use Rattle.items.specs.Meet.{levelOf}
 use Rattle.heads.specs.Meet.{peek, Past}
+use Rattle.tally.specs.declared.Piece.{Piece}
 use Rattle.tally.specs.declared.Sizes.{Sizes}
 use Rattle.tally.specs.declared.Walked.{Walked}
 use Rattle.tally.specs.declared.stages.Stage.{Stage}
 use Rattle.tally.specs.declared.Walked.the-variants.{Good, Bad}
-use Rattle.tally.specs.Meet.{plusSizes, total, any, weightOfEntry, weightOfPack, askedTag, stepAt, levelWalk, seriesWalk, Few}
+use Rattle.tally.specs.Meet.{pieceOf, plusSizes, total, any, weightOfEntry, weightOfPack, askedTag, stepAt, levelWalk, seriesWalk, Few}
 
 -- what was walked so far, and the rest from p
 abbrev pub resume : {X : Type 0} → (X → Sizes) → (X → Bool) → Sizes → Bool → ℕ → Ans (Got (List X)) → Walked
@@ -67,3 +68,7 @@ pub record Reached (p top low key top′ low′ : ℕ) : Type 0 where
   pub over : (top ≤ top′) × (key ≤ top′)
   pub under : (low′ ≤ low) × (low′ ≤ key)
   pub between : low′ ≤ top′
+
+-- a is the code's answer on the item at p, whatever tags between the bounds stood before it
+abbrev pub ItemRead : Bool → Form → List ℕ → ℕ → ℕ → ℕ → Piece → Type 0
+ItemRead b f s p top low a = (seen : List ℕ) → Past (peek false false b) s p top low seen → a ≡ pieceOf (levelOf b) (item (levelOf b) f seen (drop p s))

@@ -1,12 +1,12 @@
 -- Where the code that checks a packet meets document 01: what its answers mean.
 use Prim.Native.Nat.{ℕ, _+_, _-_, _*_, _≤_, _<_}
-use mathlib.Core.Bool.{Bool, true, false, _&&_, _||_}
+use mathlib.Core.Bool.{Bool, true, false, not, _&&_, _||_}
 use mathlib.Core.List.{List, [], _∷_}
 use lib.ListN.{length}
 use lib.Dec.{eqb}
 use Rattle.format.specs.Coding.{lenWidth, oidBytes}
 use Rattle.format.specs.Answer.{Ans, ok, refused, Got, got, _>>=_}
-use Rattle.format.specs.Table.{Form, Level, set, pack, isSet, ruleOf, short}
+use Rattle.format.specs.Table.{Form, Level, set, pack, isSet, isAlone, ruleOf, short}
 use Rattle.format.specs.Packet.{Item, Pack, Entry, plain, series, idOfPack, tagOfEntry}
 use Rattle.format.specs.Run.{Step, run, always}
 use Rattle.format.specs.Read.{item, onePack, deepen}
@@ -99,6 +99,10 @@ stepAt l f seen s = item l f seen s >>= λ i. deepenAt l f i
 abbrev pub askedTag : Level → ℕ
 askedTag set = 1
 askedTag pack = 17
+
+-- with what a pack or a target is refused at its end, 0 if it is not: one that stands alone must hold that tag
+unfoldable pub endedBy : Form → Bool → ℕ
+endedBy f held = elim (not (isAlone f) || held) [ true ↦ 0 | false ↦ 14 ]
 
 abbrev pub walkedOf : {X : Type 0} → (X → Sizes) → (X → Bool) → Ans (Got (List X)) → Walked
 walkedOf weight held (ok rs) = Good (total weight (rs .val)) (any held (rs .val))

@@ -3,8 +3,8 @@ ghost use mathlib.Core.Path.{_≡_};
 ghost use Prim.Native.Nat.{_≤_};
 ghost use mathlib.Core.Bool.{_&&_};
 ghost use lib.Dec.{eqb};
-ghost use Rattle.items.specs.Meet.{levelOf};
-ghost use Rattle.tally.specs.Meet.{itemSizes, stopAt, laterBy, seriesFrom, askedTag, Larger, Within};
+ghost use Rattle.items.specs.Meet.{formOf, levelOf};
+ghost use Rattle.tally.specs.Meet.{itemSizes, stopAt, laterBy, seriesFrom, askedTag, endedBy, Larger, Within};
 
 // An item that may stand where it does: its tag, where its value begins, its length, and its shortest length; or the refusal's number.
 pub enum Piece {
@@ -95,6 +95,16 @@ pub fn is_asked(set: bool, tag: u64) -> bool
     ensures { λ r. ⌜ r ≡ eqb tag (askedTag (levelOf set)) ⌝ }
 {
     tag == asked_tag(set)
+}
+
+// With what a pack or a target is refused at its end, 0 if it is not: one that stands alone must hold its location.
+pub fn ended_of(alone: bool, held: bool) -> u64
+    ensures { λ r. ⌜ r ≡ endedBy (formOf alone) held ⌝ }
+{
+    if coding::either(!alone, held) {
+        return 0;
+    }
+    14
 }
 
 // An item that is no series.

@@ -6,7 +6,9 @@ glance-items-requires : tie.Need-glance-items-requires
 glance-items-requires c κs = (c .before .before .before .pre .2, c .before .before .before .pre .1)
 
 item-rest-requires : tie.Need-item-rest-requires
-item-rest-requires c κs = (c .before .before .before .before .before .pre .0, c .before .before .before .before .before .pre .1, c .before .glance-items .ensures .0, c .before .before .before .before .before .pre .2)
+item-rest-requires c κs =
+    let (t, l, g) = c .before .before .before .before .before .pre in
+    (record { items = t; rows = g; most = l }, c .before .glance-items .ensures .0)
 
 returns : tie.Need-returns
 returns c = c .item-rest .ensures

@@ -1,7 +1,6 @@
 -- `quick_packs::model_of` meets its contract.
-use mathlib.Core.Path.{sym, _∙_}
+use mathlib.Core.Path.{_≡_, sym, _∙_}
 use native.Mathlib.Omega.{arith}
-use borrow.Author.Tests.{not-false}
 use Rattle.quick_packs.proofs.Models.{unchosen, items-told, items-chosen}
 use borrow.Author.Needs.{needs}
 use Rattle.quick_packs.proofs.model_of.Statement.{statement}
@@ -28,8 +27,8 @@ no-model-requires c κs = search needs
 returns : tie.Need-returns
 returns c = unchosen (c .no-model .ensures) (c .before .before .before .lay .ensures .1)
 
-either-requires : tie.Need-either-requires
-either-requires c κs = search needs
+ended-of-requires : tie.Need-ended-of-requires
+ended-of-requires c κs = search needs
 
 no-model-requires-2 : tie.Need-no-model-requires-2
 no-model-requires-2 c κs = search needs
@@ -41,16 +40,18 @@ add-t9 : tie.Need-add-t9
 add-t9 c =
     let a = c .before .before .before .before .before .before .before .before .before .before .before in
     let l = c .before .before .before .before .before .lay .ensures in
-    let located = sym (c .before .before .either .ensures) ∙ not-false _ (c .before .if2 .left) in
-    let t = items-told (a .args .alone) (a .args .s .now) (a .args .from) (a .args .next) (l .0) (a .pre .0) (omega (arith, c .before .before .before .if1 .left)) located in
+    let none : c .before .before .ended-of .result ≡ 0 = omega (arith, c .before .if2 .left) in
+    let ends = sym (c .before .before .ended-of .ensures) ∙ none in
+    let t = items-told (a .args .alone) (a .args .s .now) (a .args .from) (a .args .next) (l .0) (a .pre .0) (omega (arith, c .before .before .before .if1 .left)) ends in
     omega (arith, t .rows-are, t .going .few .rows, a .pre .0 .room, a .good)
 
 returns-3 : tie.Need-returns-3
 returns-3 c =
     let a = c .before .before .before .before .before .before .before .before .before .before .before in
     let l = c .before .before .before .before .before .lay .ensures in
-    let located = sym (c .before .before .either .ensures) ∙ not-false _ (c .before .if2 .left) in
-    items-chosen (a .args .alone) (a .args .s .now) (a .args .from) (a .args .next) (l .0) (a .pre .0) (omega (arith, c .before .before .before .if1 .left)) located (l .1)
+    let none : c .before .before .ended-of .result ≡ 0 = omega (arith, c .before .if2 .left) in
+    let ends = sym (c .before .before .ended-of .ensures) ∙ none in
+    items-chosen (a .args .alone) (a .args .s .now) (a .args .from) (a .args .next) (l .0) (a .pre .0) (omega (arith, c .before .before .before .if1 .left)) ends (l .1)
 
 pub model-of-spec : {M : Type 1} → statement M
 model-of-spec =
@@ -63,7 +64,7 @@ model-of-spec =
     sub-if1
     no-model-requires
     returns
-    either-requires
+    ended-of-requires
     no-model-requires-2
     returns-2
     add-t9

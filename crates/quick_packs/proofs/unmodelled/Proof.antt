@@ -1,7 +1,6 @@
 -- `quick_packs::unmodelled` meets its contract.
 use mathlib.Core.Path.{refl, sym, _∙_}
 use native.Mathlib.Omega.{arith}
-use borrow.Author.Tests.{not-false}
 use Rattle.quick_packs.proofs.Models.{part-long, run-told}
 use borrow.Author.Needs.{needs}
 use Rattle.quick_packs.proofs.unmodelled.Statement.{statement}
@@ -28,8 +27,8 @@ no-model-requires c κs = search needs
 returns : tie.Need-returns
 returns c = let n = c .no-model .ensures in (n .0, n .1, λ h. absurd (omega (arith, h, n .2)))
 
-either-requires : tie.Need-either-requires
-either-requires c κs = search needs
+ended-of-requires : tie.Need-ended-of-requires
+ended-of-requires c κs = search needs
 
 no-model-requires-2 : tie.Need-no-model-requires-2
 no-model-requires-2 c κs = search needs
@@ -44,7 +43,7 @@ returns-3 : tie.Need-returns-3
 returns-3 c =
     let a = c .before .before .before .before .before .before .before .before .before in
     let long = part-long (a .args .s .now) (a .args .from) (a .args .next) (a .pre .ordered) (a .pre .room) in
-    (refl, refl, λ _. run-told (a .args .alone) (c .before .before .before .before .before .glance-items .ensures) (omega (arith, long, c .before .before .before .if1 .left)) (sym (c .before .before .either .ensures) ∙ not-false _ (c .before .if2 .left)))
+    (refl, refl, λ _. run-told (a .args .alone) (c .before .before .before .before .before .glance-items .ensures) (omega (arith, long, c .before .before .before .if1 .left)) (sym (c .before .before .ended-of .ensures) ∙ omega (arith, c .before .if2 .left)))
 
 pub unmodelled-spec : {M : Type 1} → statement M
 unmodelled-spec =
@@ -57,7 +56,7 @@ unmodelled-spec =
     sub-if1
     no-model-requires
     returns
-    either-requires
+    ended-of-requires
     no-model-requires-2
     returns-2
     add-t8

@@ -22,7 +22,9 @@ slice-aggregate-item-rest : tie.Need-slice-aggregate-item-rest
 slice-aggregate-item-rest c = search needs
 
 item-rest-requires : tie.Need-item-rest-requires
-item-rest-requires c κs = (c .before .before .table .ensures, c .before .before .before .before .before .before .before .before .pre .1, c .before .before .before .before .before .seal .ensures, c .before .before .before .before .before .before .before .before .pre .0)
+item-rest-requires c κs =
+    let (g, l, _) = c .before .before .before .before .before .before .before .before .pre in
+    (record { items = c .before .before .table .ensures; rows = g; most = l }, c .before .before .before .before .before .seal .ensures)
 
 returns-2 : tie.Need-returns-2
 returns-2 c = c .item-rest .ensures

@@ -17,11 +17,12 @@ use Rattle.check_packet.proofs.sets.set_walk.Statement.{statement}
 use Rattle.check_packet.proofs.sets.set_walk.Tie as tie
 use Rattle.check_packet.proofs.sets.set_walk.Reads as reads
 use Rattle.check_packet.proofs.sets.set_walk.Lts as lts
-use Rattle.check_packet.proofs.sets.glance_packs.Reads as glance-packs-reads
 use Rattle.check_packet.proofs.sets.series_at.Reads as series-at-reads
 use Rattle.check_packet.proofs.sets.series_rest.Reads as series-rest-reads
 use Rattle.check_packet.proofs.sets.set_rest.Reads as set-rest-reads
 use Rattle.quick_items.proofs.glance_items.Reads as glance-items-reads
+use Rattle.quick_packs.proofs.lone.Reads as lone-reads
+use Rattle.quick_packs.proofs.packs.Reads as packs-reads
 use Rattle.tally.proofs.stages.after_series.Reads as after-series-reads
 use Rattle.tally.proofs.stages.walked.Reads as walked-reads
 
@@ -31,12 +32,14 @@ claims = (
   glance-items-reads.Learnt,
   series-at-reads.Asked,
   series-at-reads.Learnt,
-  glance-packs-reads.Asked,
-  glance-packs-reads.Learnt,
-  series-rest-reads.Asked,
-  series-rest-reads.Learnt,
+  lone-reads.Asked,
+  lone-reads.Learnt,
   after-series-reads.Asked,
   after-series-reads.Learnt,
+  packs-reads.Asked,
+  packs-reads.Learnt,
+  series-rest-reads.Asked,
+  series-rest-reads.Learnt,
   walked-reads.Asked,
   walked-reads.Learnt,
   set-rest-reads.Asked,
@@ -59,11 +62,13 @@ found a h = record { going = a .before .glance-items .ensures .0; series = a .se
 there : (b : lts.Then1 claims reads.Pre reads.Post) → SeriesAt (formOf (start (b .before) .args .alone)) (lent (b .before)) (b .before .before .glance-items .result) (b .before .series-at .result .from) (b .before .series-at .result .next)
 there b = found (b .before) (omega (arith, b .if1 .taken))
 
-going : (j : lts.Joined1 claims reads.Pre reads.Post) → LevelTo true (formOf (start (j .before) .args .alone)) (lent (j .before)) (j .if1 .q)
+going : (j : lts.Joined1 claims reads.Pre reads.Post) → LevelTo true (formOf (start (j .before) .args .alone)) (lent (j .before)) (j .if1 .r)
 going j =
     ⊎-elim
-    (λ x. rw (x .6) (series-goes (found (j .before) (omega (arith, x .0 .taken))) (turn-done (x .2 .ensures) (omega (arith, x .4 .left))) refl (x .5 .ensures)))
-    (λ x. rw (x .1) (j .before .before .glance-items .ensures .0))
+    (λ x. rw (x .6) (series-goes (found (j .before) (omega (arith, x .0 .taken))) (turn-done (x .2 .ensures) (omega (arith, x .4 .taken))) refl (x .5 .ensures)))
+    (⊎-elim
+    (λ x. rw (x .9) (series-goes (found (j .before) (omega (arith, x .0 .taken))) (turn-done (x .5 .ensures) (omega (arith, x .7 .left))) refl (x .8 .ensures)))
+    (λ x. rw (x .1) (j .before .before .glance-items .ensures .0)))
     (j .if1 .came)
 
 glance-items-requires : tie.Need-glance-items-requires
@@ -81,11 +86,18 @@ part-packs-start c = omega (arith, series-room (there c))
 part-packs-end : tie.Need-part-packs-end
 part-packs-end c = omega (arith, series-room (there c))
 
-glance-packs-requires : tie.Need-glance-packs-requires
-glance-packs-requires c κs =
-    let b = c .before in
-    let (g, l) = start (b .before) .pre in
-    (g, omega (arith, packs-long (there b), series-room (there b), l))
+lone-requires : tie.Need-lone-requires
+lone-requires c κs =
+    let i = there (c .before) in
+    (start (c .before .before) .pre .0, omega (arith, packs-long i, series-room i, i .most))
+
+after-series-requires : tie.Need-after-series-requires
+after-series-requires c κs = series-asks (there (c .before .before .before .before)) (turn-done (c .before .before .lone .ensures) (omega (arith, c .if2 .taken))) refl
+
+packs-requires : tie.Need-packs-requires
+packs-requires c κs =
+    let i = there (c .before .before .before .before) in
+    (start (c .before .before .before .before .before) .pre .0, omega (arith, packs-long i, series-room i, i .most))
 
 sub-series-rest : tie.Need-sub-series-rest
 sub-series-rest c = search needs
@@ -98,16 +110,15 @@ part-series-rest-end c = search needs
 
 series-rest-requires : tie.Need-series-rest-requires
 series-rest-requires c κs =
-    let b = c .before .before .before .before .before in
-    let i = there b in
-    let g = start (b .before) .pre .0 in
-    rw tail-part (record { rows = g; most = i .most; going = i .going; series = i .series; packs = c .before .before .before .glance-packs .ensures })
+    let i = there (c .before .before .before .before .before .before .before .before) in
+    let g = start (c .before .before .before .before .before .before .before .before .before) .pre .0 in
+    rw tail-part (record { rows = g; most = i .most; going = i .going; series = i .series; packs = c .before .before .before .packs2 .ensures })
 
 returns : tie.Need-returns
 returns c = rw tail-part at (c .series-rest .ensures)
 
-after-series-requires : tie.Need-after-series-requires
-after-series-requires c κs = series-asks (there (c .before .before .before .before)) (turn-done (c .before .before .glance-packs .ensures) (omega (arith, c .if2 .left))) refl
+after-series-requires-2 : tie.Need-after-series-requires-2
+after-series-requires-2 c κs = series-asks (there (c .before .before .before .before .before .before .before)) (turn-done (c .before .before .packs2 .ensures) (omega (arith, c .if3 .left))) refl
 
 walked-requires : tie.Need-walked-requires
 walked-requires c κs = search needs
@@ -115,7 +126,7 @@ walked-requires c κs = search needs
 returns-2 : tie.Need-returns-2
 returns-2 c =
     let j = c .before .before .before in
-    told-as (length (lent (j .before))) (c .walked .ensures) (turn-done (going j) (omega (arith, c .before .if3 .taken)))
+    told-as (length (lent (j .before))) (c .walked .ensures) (turn-done (going j) (omega (arith, c .before .if4 .taken)))
 
 sub-set-rest : tie.Need-sub-set-rest
 sub-set-rest c = search needs
@@ -144,13 +155,15 @@ set-walk-spec =
     sub-packs
     part-packs-start
     part-packs-end
-    glance-packs-requires
+    lone-requires
+    after-series-requires
+    packs-requires
     sub-series-rest
     part-series-rest-start
     part-series-rest-end
     series-rest-requires
     returns
-    after-series-requires
+    after-series-requires-2
     walked-requires
     returns-2
     sub-set-rest

@@ -1,5 +1,5 @@
-// The set of a packet: the quick ways over its items, its series and its checksum, and the walks over what is left. What the quick ways do not
-// know, the packs or the items from there on, goes by the walks, and whatever was walked is walked once.
+// The set of a packet: the quick ways over its items, its series and its checksum. They do not know a series or a checksum that stands elsewhere than
+// right after items told at a glance, nor any refusal: the walks go on where they ended, and the first refusal that these find is the set's.
 ghost use mathlib.Core.Path.{_≡_};
 ghost use Prim.Native.Nat.{_≤_, _<_};
 ghost use mathlib.Core.Bool.{true};

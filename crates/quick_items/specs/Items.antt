@@ -1,6 +1,6 @@
 -- Items told at a glance, and items that may stand where they do whatever their value.
 use mathlib.Core.Path.{_≡_}
-use Prim.Native.Nat.{ℕ, _+_, _*_, _≤_, _<_}
+use Prim.Native.Nat.{ℕ, _+_, _*_, _-_, _≤_, _<_}
 use mathlib.Core.Bool.{Bool, true}
 use mathlib.Core.List.{List}
 use lib.ListN.{length, getD}
@@ -10,6 +10,10 @@ use Rattle.items.specs.Quick as items
 use Rattle.tally.specs.declared.Sizes.{Sizes}
 use Rattle.tally.specs.Meet.{sizes}
 use Rattle.tally.specs.Going.{Begun, New}
+
+-- how far such an item may begin, and what begins the level may
+abbrev pub Span : Bool → Form → List ℕ → ℕ → Type 0
+Span b f s most = (most ≤ length s - 2) × (0 < most → Begun b f 0 (getD s 0 0))
 
 -- an item at p that is told at a glance, with a byte each for its tag and its length, and whose tag is above top
 pub record ItemGlanced (b : Bool) (f : Form) (s : List ℕ) (p top n : ℕ) : Type 0 where

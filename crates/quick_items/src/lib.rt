@@ -3,18 +3,18 @@
 // left to the walks.
 ghost use mathlib.Core.Path.{_≡_};
 ghost use mathlib.Core.Bool.{true, false};
-ghost use Prim.Native.Nat.{_+_, _*_, _-_, _≤_, _<_};
+ghost use Prim.Native.Nat.{_+_, _*_, _≤_, _<_};
 ghost use lib.ListN.{length, getD};
 ghost use Rattle.items.specs.Meet.{formOf, glanceTable};
-ghost use Rattle.tally.specs.Going.{LevelTo, Begun, New};
-ghost use Rattle.quick_items.specs.Items.{toldSizes, GlancedTo, Plain};
+ghost use Rattle.tally.specs.Going.{LevelTo, New};
+ghost use Rattle.quick_items.specs.Items.{toldSizes, Span, GlancedTo, Plain};
 use heads::Head;
 use tally::Sizes;
 use tally::stages::Stage;
 
 // How far such an item may begin: two bytes and a value have room there, and what begins the level may.
 pub fn span(s: &[u8], set: bool, alone: bool) -> usize
-    ensures { λ r. ⌜ (r ≤ length (now (s .entry)) - 2) × (0 < r → Begun set (formOf alone) 0 (getD (now (s .entry)) 0 0)) ⌝ }
+    ensures { λ r. ⌜ Span set (formOf alone) (now (s .entry)) r ⌝ }
 {
     if s.len() < 3 {
         return 0;
@@ -36,7 +36,7 @@ pub fn glance_item(
     alone: bool,
     top: u64,
 ) -> usize
-    requires { ⌜ (now glances ≡ glanceTable) × (length (now s) ≤ 8192) × (most ≤ length (now s) - 2) × (0 < most → Begun set (formOf alone) 0 (getD (now s) 0 0)) ⌝ }
+    requires { ⌜ (now glances ≡ glanceTable) × (length (now s) ≤ 8192) × Span set (formOf alone) (now s) most ⌝ }
     ensures { λ r. ⌜ (0 < r → GlancedTo set (formOf alone) (now (s .entry)) p top r) ⌝ }
 {
     if most <= p {

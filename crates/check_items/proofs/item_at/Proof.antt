@@ -59,7 +59,9 @@ standing-of-requires c κs = search needs
 returns-3 : tie.Need-returns-3
 returns-3 c =
     let h = c .before .before .before .before .before in
-    λ seen q. piece-tail q _ _ (piece-standing _ _ (h .before .before .item-head .ensures) (h .h .given .1) _ seen (c .before .before .before .if1 .left) (c .before .standing-of .ensures seen (c .before .before .is-seen .ensures seen q) (sym (q .first))) (c .if2 .taken))
+    λ seen q.
+    let stood = c .before .standing-of .ensures seen (c .before .before .is-seen .ensures seen q) (sym (q .first)) in
+    piece-tail q _ _ (piece-standing _ _ (h .before .before .item-head .ensures) (h .h .given .1) _ seen (c .before .before .before .if1 .left) stood (c .if2 .taken))
 
 rule-of-requires : tie.Need-rule-of-requires
 rule-of-requires c κs = search needs
@@ -82,7 +84,10 @@ returns-4 : tie.Need-returns-4
 returns-4 c =
     let k = c .before .before .before .before in
     let h = k .before .before .before .before .before in
-    λ seen q. piece-tail q _ _ (piece-valued _ _ (h .before .before .item-head .ensures) (h .h .given .1) _ seen (k .before .before .before .if1 .left) (k .before .standing-of .ensures seen (k .before .before .is-seen .ensures seen q) (sym (q .first))) (k .if2 .left) (c .before .before .before .rule-of .ensures) (c .before .valued-of .ensures) (c .if3 .taken))
+    λ seen q.
+    let stood = k .before .standing-of .ensures seen (k .before .before .is-seen .ensures seen q) (sym (q .first)) in
+    piece-tail q _ _
+    (piece-valued _ _ (h .before .before .item-head .ensures) (h .h .given .1) _ seen (k .before .before .before .if1 .left) stood (k .if2 .left) (c .before .before .before .rule-of .ensures) (c .before .valued-of .ensures) (c .if3 .taken))
 
 short-size-requires : tie.Need-short-size-requires
 short-size-requires c κs = search needs
@@ -91,7 +96,11 @@ returns-5 : tie.Need-returns-5
 returns-5 c =
     let k = c .before .before .before .before .before in
     let h = k .before .before .before .before .before in
-    λ seen q. piece-tail q _ _ (piece-whole _ _ (h .before .before .item-head .ensures) (h .h .given .1) _ seen (k .before .before .before .if1 .left) (k .before .standing-of .ensures seen (k .before .before .is-seen .ensures seen q) (sym (q .first))) (k .if2 .left) (c .before .before .before .before .rule-of .ensures) (c .before .before .valued-of .ensures) (c .before .if3 .left) (c .short-size .ensures))
+    λ seen q.
+    let stood = k .before .standing-of .ensures seen (k .before .before .is-seen .ensures seen q) (sym (q .first)) in
+    piece-tail q _ _
+    (piece-whole _ _ (h .before .before .item-head .ensures) (h .h .given .1) _ seen (k .before .before .before .if1 .left) stood (k .if2 .left) (c .before .before .before .before .rule-of .ensures) (c .before .before .valued-of .ensures) (c .before .if3 .left)
+    (c .short-size .ensures))
 
 pub item-at-spec : {M : Type 1} → statement M
 item-at-spec =

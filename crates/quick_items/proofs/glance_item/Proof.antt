@@ -44,8 +44,11 @@ add-result-2 c = search needs
 returns-3 : tie.Need-returns-3
 returns-3 c =
     let i = c .before .before .before .before .before .before .before .before .if1 .left in
-    let pre = c .before .before .before .before .before .before .before .before .before .before .before .pre in
-    λ h. glance-from _ _ _ _ _ (c .before .before .before .before .before .before .wide .ensures .0) (c .before .before .before .wide2 .ensures .0) (λ l. omega (arith, c .before .before .before .before .before .if2 .left, l)) (omega (arith, i, pre .2)) (pre .3 (omega (arith, i))) (c .before .is-glanced .ensures (c .if3 .taken))
+    let span = c .before .before .before .before .before .before .before .before .before .before .before .pre .2 in
+    let above = c .before .before .before .before .before .if2 .left in
+    λ h.
+    glance-from _ _ _ _ _ (c .before .before .before .before .before .before .wide .ensures .0) (c .before .before .before .wide2 .ensures .0) (λ l. omega (arith, above, l)) (omega (arith, i, span .0)) (span .1 (omega (arith, i)))
+    (c .before .is-glanced .ensures (c .if3 .taken))
 
 returns-4 : tie.Need-returns-4
 returns-4 c = λ h. absurd (omega arith)

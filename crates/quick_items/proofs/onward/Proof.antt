@@ -1,5 +1,5 @@
 -- `quick_items::onward` meets its contract: each turn is a turn of the item walk. `a` is where an item was found to be plain.
-use Prim.Native.Nat.{_-_}
+use Prim.Native.Nat.{ℕ, _-_}
 use native.Mathlib.Omega.{arith}
 use lib.ListN.{length}
 use borrow.Author.Needs.{needs}
@@ -27,17 +27,64 @@ Inv-loop s set alone q p₀ sum₀ top₀ low₀ p sum top low = LevelGoing set 
 abbrev μ-loop : tie.MeasureT-loop
 μ-loop s set alone q p₀ sum₀ top₀ low₀ p sum top low = length s - p
 
-here : (a : lts.Else2 (wide-reads.Asked, wide-reads.Learnt, is-series-reads.Asked, is-series-reads.Learnt, stage-at-reads.Asked, stage-at-reads.Learnt, item-head-reads.Asked, item-head-reads.Learnt, is-plain-reads.Asked, is-plain-reads.Learnt, plain-sizes-reads.Asked, plain-sizes-reads.Learnt, plus-reads.Asked, plus-reads.Learnt, larger-reads.Asked, larger-reads.Learnt, smaller-reads.Asked, smaller-reads.Learnt) reads.Pre reads.Post Inv-loop μ-loop)
-    → PlainAt (a .before .before .before .before .before .before .before .before .before .before .before .before .before .before .before .args .set) (formOf (a .before .before .before .before .before .before .before .before .before .before .before .before .before .before .before .args .alone)) (a .before .before .before .before .before .before .before .before .before .before .before .before .before .before .before .args .s .now) (a .before .before .before .before .before .before .before .before .before .before .before .before .loop .p) (a .before .before .before .before .before .before .before .before .before .before .before .before .loop .sum) (a .before .before .before .before .before .before .before .before .before .before .before .before .before .before .before .args .q .held) (a .before .before .before .before .before .before .before .before .before .before .before .before .loop .top) (a .before .before .before .before .before .before .before .before .before .before .before .before .loop .low) (a .before .before .before .h .given .0 .0) (a .before .before .before .h .given .0 .1 .0) (a .before .before .before .h .given .0 .1 .1 .0) (a .before .before .before .h .given .0 .1 .1 .1 .0)
+abbrev claims : lts.Claims
+claims = (
+  wide-reads.Asked,
+  wide-reads.Learnt,
+  is-series-reads.Asked,
+  is-series-reads.Learnt,
+  stage-at-reads.Asked,
+  stage-at-reads.Learnt,
+  item-head-reads.Asked,
+  item-head-reads.Learnt,
+  is-plain-reads.Asked,
+  is-plain-reads.Learnt,
+  plain-sizes-reads.Asked,
+  plain-sizes-reads.Learnt,
+  plus-reads.Asked,
+  plus-reads.Learnt,
+  larger-reads.Asked,
+  larger-reads.Learnt,
+  smaller-reads.Asked,
+  smaller-reads.Learnt,
+)
+
+abbrev Turn : Type 0
+Turn = lts.At-loop claims reads.Pre reads.Post Inv-loop μ-loop
+
+abbrev start : Turn → lts.Start claims reads.Pre reads.Post Inv-loop μ-loop
+start u = u .before .before .before
+
+abbrev Plain-read : Type 0
+Plain-read = lts.Else2 claims reads.Pre reads.Post Inv-loop μ-loop
+
+abbrev turn : Plain-read → Turn
+turn a = a .before .before .before .before .before .before .before .before .before .before .before .before
+
+abbrev tag : Plain-read → ℕ
+tag a = a .before .before .before .h .given .0 .0
+
+abbrev used : Plain-read → ℕ
+used a = a .before .before .before .h .given .0 .1 .0
+
+abbrev width : Plain-read → ℕ
+width a = a .before .before .before .h .given .0 .1 .1 .0
+
+abbrev size : Plain-read → ℕ
+size a = a .before .before .before .h .given .0 .1 .1 .1 .0
+
+here : (a : Plain-read)
+    → PlainAt (start (turn a) .args .set) (formOf (start (turn a) .args .alone)) (start (turn a) .args .s .now) (turn a .loop .p) (turn a .loop .sum) (start (turn a) .args .q .held) (turn a .loop .top) (turn a .loop .low)
+    (tag a) (used a) (width a) (size a)
 here a = record {
-  going = a .before .before .before .before .before .before .before .before .before .before .before .before .loop .inv;
+  going = turn a .loop .inv;
   here = a .before .before .before .before .before .before .before .before .before .before .before .loop-test .taken;
   it = a .before .before .before .before .before .item-head .result;
   told = a .before .before .before .before .before .item-head .ensures;
   is = a .before .before .before .h .given .1;
   plain = a .before .is-plain .ensures (not-false _ (a .if2 .left));
-  bytes = λ i. a .before .before .before .before .before .before .before .before .before .before .before .before .before .before .shared-slice-known .given i .fits;
-  most = a .before .before .before .before .before .before .before .before .before .before .before .before .before .before .before .pre .0;
+  bytes = λ i. turn a .before .before .shared-slice-known .given i .fits;
+  most = start (turn a) .pre .0;
 }
 
 loop-holds : tie.Need-loop-holds Inv-loop μ-loop
@@ -104,13 +151,13 @@ smaller-requires : tie.Need-smaller-requires Inv-loop μ-loop
 smaller-requires c κs = search needs
 
 add-p : tie.Need-add-p Inv-loop μ-loop
-add-p c = omega (arith, plain-next (here (c .before .before .before .before)), c .before .before .before .before .before .before .before .before .before .before .before .before .before .before .before .before .before .before .before .pre .0)
+add-p c = let a = c .before .before .before .before in omega (arith, plain-next (here a), start (turn a) .pre .0)
 
 add-p-2 : tie.Need-add-p-2 Inv-loop μ-loop
-add-p-2 c = omega (arith, plain-next (here (c .before .before .before .before)), c .before .before .before .before .before .before .before .before .before .before .before .before .before .before .before .before .before .before .before .pre .0)
+add-p-2 c = let a = c .before .before .before .before in omega (arith, plain-next (here a), start (turn a) .pre .0)
 
 add-p-3 : tie.Need-add-p-3 Inv-loop μ-loop
-add-p-3 c = omega (arith, plain-next (here (c .before .before .before .before)), c .before .before .before .before .before .before .before .before .before .before .before .before .before .before .before .before .before .before .before .pre .0)
+add-p-3 c = let a = c .before .before .before .before in omega (arith, plain-next (here a), start (turn a) .pre .0)
 
 loop-less : tie.Need-loop-less Inv-loop μ-loop
 loop-less c = omega (arith, plain-next (here (c .before .before .before .before)))

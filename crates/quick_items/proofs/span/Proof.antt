@@ -22,7 +22,9 @@ sub-result : tie.Need-sub-result
 sub-result c = search needs
 
 returns-2 : tie.Need-returns-2
-returns-2 c = (omega arith, λ h. begun-start (c .before .before .before .before .before .before .args .set) (formOf (c .before .before .before .before .before .before .args .alone)) (c .before .before .before .before .before .before .args .s .now) (c .before .before .wide .ensures .0) (c .before .begins .ensures) (c .if2 .taken))
+returns-2 c =
+    let start = c .before .before .before .before .before .before in
+    (omega arith, λ h. begun-start (start .args .set) (formOf (start .args .alone)) (start .args .s .now) (c .before .before .wide .ensures .0) (c .before .begins .ensures) (c .if2 .taken))
 
 returns-3 : tie.Need-returns-3
 returns-3 c = (omega arith, λ h. absurd (omega arith))

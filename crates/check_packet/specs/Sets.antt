@@ -1,16 +1,12 @@
 -- The series of a set, where the quick way over the items before it ended.
 use mathlib.Core.Path.{_≡_}
-use Prim.Native.Nat.{ℕ, _+_, _-_, _≤_, _<_}
-use mathlib.Core.Bool.{true}
+use Prim.Native.Nat.{ℕ, _+_, _<_}
 use mathlib.Core.List.{List}
-use lib.ListN.{length, take, drop}
-use Rattle.format.specs.Table.{Form, set}
+use lib.ListN.{length, drop}
+use Rattle.format.specs.Table.{set}
 use Rattle.format.specs.Read.{headOf}
-use Rattle.items.specs.Meet.{glanceTable}
 use Rattle.heads.specs.declared.Head.the-variants as heads
 use Rattle.heads.specs.Meet.{itemHeadOf}
-use Rattle.tally.specs.declared.stages.Stage.{Stage}
-use Rattle.tally.specs.Going.{LevelTo, SeriesTo}
 
 -- it stands at p, told to be new, and its packs from one place to another
 pub record SeriesNext (s : List ℕ) (p top from next : ℕ) : Type 0 where
@@ -24,11 +20,3 @@ pub record SeriesNext (s : List ℕ) (p top from next : ℕ) : Type 0 where
   pub some : 0 < size
   pub from-is : from ≡ p + used + width
   pub next-is : next ≡ from + size
-
--- the items before it are walked to q, and its packs, of their own, to d
-pub record SeriesAsked (glances : List ℕ) (f : Form) (s : List ℕ) (q : Stage) (from next : ℕ) (d : Stage) : Type 0 where
-  pub rows : glances ≡ glanceTable
-  pub most : length s ≤ 8192
-  pub going : LevelTo true f s q
-  pub series : SeriesNext s (q .at) (q .top) from next
-  pub packs : SeriesTo f (take (next - from) (drop from s)) d

@@ -6,10 +6,10 @@ ghost use mathlib.Core.Bool.{true};
 ghost use lib.ListN.{length};
 ghost use Rattle.format.specs.Table.{set};
 ghost use Rattle.items.specs.Meet.{formOf, glanceTable};
-ghost use Rattle.tally.specs.Meet.{levelWalk, Within};
-ghost use Rattle.tally.specs.Going.{LevelTo};
+ghost use Rattle.tally.specs.Meet.{levelWalk, seriesWalk, Within};
+ghost use Rattle.tally.specs.Going.{LevelTo, SeriesTo};
 ghost use Rattle.check_packet.specs.Meet.{HeadIf};
-ghost use Rattle.check_packet.specs.Sets.{SeriesNext, SeriesAsked};
+ghost use Rattle.check_packet.specs.Sets.{SeriesNext};
 use heads::Head;
 use tally::Walked;
 use tally::stages;
@@ -135,25 +135,18 @@ fn set_rest(glances: &[u32], s: &[u8], alone: bool, from: Stage) -> Walked
     check_items::item_rest(&table, glances, s, true, alone, q, &mut bits)
 }
 
-// The rest of the set from its series on, one by one, where the quick way over the packs came to d. A refusal in the series is the set's.
-fn series_rest(glances: &[u32], s: &[u8], alone: bool, q: Stage, part: Part, d: Stage) -> Walked
-    requires { ⌜ SeriesAsked (now glances) (formOf alone) (now s) q (part .from) (part .next) d ⌝ }
-    ensures { λ r. ⌜ (r ≡ levelWalk set (formOf alone) (now (s .entry))) × Within r (length (now (s .entry))) ⌝ }
+// The packs of a series one by one, from where the quick way over them ended.
+fn packs_rest(glances: &[u32], s: &[u8], alone: bool, q: Stage) -> Walked
+    requires { ⌜ (now glances ≡ glanceTable) × (length (now s) ≤ 8192) × SeriesTo (formOf alone) (now s) q ⌝ }
+    ensures { λ r. ⌜ (r ≡ seriesWalk (formOf alone) (now (s .entry))) × Within r (length (now (s .entry))) ⌝ }
 {
     let table = items::table();
     let mut bits = [0u64; 64];
-    let from = part.from;
-    let next = part.next;
-    let w = check_items::pack_walk(&table, glances, &s[from..next], alone, d, &mut bits);
-    let Walked::Good { sizes, held: _ } = w else {
-        return tally::later(w, from);
-    };
-    let r = stages::after_series(q, next, sizes);
-    check_items::item_rest(&table, glances, s, true, alone, r, &mut bits)
+    check_items::pack_walk(&table, glances, &s[0..], alone, q, &mut bits)
 }
 
 // The items of the set. An embedded one often ends with its series. Where all are told at a glance no enum and no stage goes through memory: the
-// rests are called at one place each, so that they stand there.
+// rests are called at one place each, so that they stand there, and lent parts, so that the compiler keeps the slices themselves in registers.
 pub fn set_walk(glances: &[u32], s: &[u8], alone: bool) -> Walked
     requires { ⌜ (now glances ≡ glanceTable) × (length (now s) ≤ 8192) ⌝ }
     ensures { λ r. ⌜ (r ≡ levelWalk set (formOf alone) (now (s .entry))) × Within r (length (now (s .entry))) ⌝ }
@@ -170,16 +163,20 @@ pub fn set_walk(glances: &[u32], s: &[u8], alone: bool) -> Walked
             r = stages::after_series(q, next, one.sizes);
         } else {
             let d = quick_packs::packs(glances, packs, alone);
-            if d.at != packs.len() {
-                // lent on as a part, so that the compiler keeps the slice itself in registers
-                return series_rest(glances, &s[0..], alone, q, part, d);
+            if d.at == packs.len() {
+                r = stages::after_series(q, next, d.sizes);
+            } else {
+                let w = packs_rest(glances, packs, alone, d);
+                // a refusal in the series is the set's
+                let Walked::Good { sizes, held: _ } = w else {
+                    return tally::later(w, from);
+                };
+                r = stages::after_series(q, next, sizes);
             }
-            r = stages::after_series(q, next, d.sizes);
         }
     }
     if r.at == s.len() {
         return stages::walked(r);
     }
-    // as a part here too
     set_rest(glances, &s[0..], alone, r)
 }

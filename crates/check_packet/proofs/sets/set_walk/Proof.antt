@@ -12,17 +12,18 @@ use Rattle.coding.proofs.Rooms.{tail-part}
 use Rattle.items.specs.Meet.{formOf}
 use Rattle.tally.specs.Going.{LevelTo}
 use Rattle.tally.proofs.Turns.{turn-done, told-as}
-use Rattle.check_packet.proofs.SetTurns.{SeriesAt, series-room, packs-long, series-asks, series-goes}
+use Rattle.check_packet.proofs.SetTurns.{SeriesAt, series-room, packs-long, refusal-asks, series-refused, series-asks, series-goes}
 use Rattle.check_packet.proofs.sets.set_walk.Statement.{statement}
 use Rattle.check_packet.proofs.sets.set_walk.Tie as tie
 use Rattle.check_packet.proofs.sets.set_walk.Reads as reads
 use Rattle.check_packet.proofs.sets.set_walk.Lts as lts
 use Rattle.check_packet.proofs.sets.series_at.Reads as series-at-reads
-use Rattle.check_packet.proofs.sets.series_rest.Reads as series-rest-reads
+use Rattle.check_packet.proofs.sets.packs_rest.Reads as packs-rest-reads
 use Rattle.check_packet.proofs.sets.set_rest.Reads as set-rest-reads
 use Rattle.quick_items.proofs.glance_items.Reads as glance-items-reads
 use Rattle.quick_packs.proofs.lone.Reads as lone-reads
 use Rattle.quick_packs.proofs.packs.Reads as packs-reads
+use Rattle.tally.proofs.later.Reads as later-reads
 use Rattle.tally.proofs.stages.after_series.Reads as after-series-reads
 use Rattle.tally.proofs.stages.walked.Reads as walked-reads
 
@@ -38,8 +39,10 @@ claims = (
   after-series-reads.Learnt,
   packs-reads.Asked,
   packs-reads.Learnt,
-  series-rest-reads.Asked,
-  series-rest-reads.Learnt,
+  packs-rest-reads.Asked,
+  packs-rest-reads.Learnt,
+  later-reads.Asked,
+  later-reads.Learnt,
   walked-reads.Asked,
   walked-reads.Learnt,
   set-rest-reads.Asked,
@@ -67,8 +70,10 @@ going j =
     ⊎-elim
     (λ x. rw (x .6) (series-goes (found (j .before) (omega (arith, x .0 .taken))) (turn-done (x .2 .ensures) (omega (arith, x .4 .taken))) refl (x .5 .ensures)))
     (⊎-elim
-    (λ x. rw (x .9) (series-goes (found (j .before) (omega (arith, x .0 .taken))) (turn-done (x .5 .ensures) (omega (arith, x .7 .left))) refl (x .8 .ensures)))
-    (λ x. rw (x .1) (j .before .before .glance-items .ensures .0)))
+    (λ x. rw (x .9) (series-goes (found (j .before) (omega (arith, x .0 .taken))) (turn-done (x .5 .ensures) (omega (arith, x .7 .taken))) refl (x .8 .ensures)))
+    (⊎-elim
+    (λ x. rw (x .13) (series-goes (found (j .before) (omega (arith, x .0 .taken))) (x .8 .ensures) (x .10 .given .1) (x .12 .ensures)))
+    (λ x. rw (x .1) (j .before .before .glance-items .ensures .0))))
     (j .if1 .came)
 
 glance-items-requires : tie.Need-glance-items-requires
@@ -99,26 +104,28 @@ packs-requires c κs =
     let i = there (c .before .before .before .before) in
     (start (c .before .before .before .before .before) .pre .0, omega (arith, packs-long i, series-room i, i .most))
 
-sub-series-rest : tie.Need-sub-series-rest
-sub-series-rest c = search needs
+after-series-requires-2 : tie.Need-after-series-requires-2
+after-series-requires-2 c κs = series-asks (there (c .before .before .before .before .before .before .before)) (turn-done (c .before .before .packs2 .ensures) (omega (arith, c .if3 .taken))) refl
 
-part-series-rest-start : tie.Need-part-series-rest-start
-part-series-rest-start c = search needs
+packs-rest-requires : tie.Need-packs-rest-requires
+packs-rest-requires c κs =
+    let i = there (c .before .before .before .before .before .before .before) in
+    (start (c .before .before .before .before .before .before .before .before) .pre .0, omega (arith, packs-long i, series-room i, i .most), c .before .before .packs2 .ensures)
 
-part-series-rest-end : tie.Need-part-series-rest-end
-part-series-rest-end c = search needs
+enum-known-w : tie.Need-enum-known-w
+enum-known-w c = search needs
 
-series-rest-requires : tie.Need-series-rest-requires
-series-rest-requires c κs =
-    let i = there (c .before .before .before .before .before .before .before .before) in
-    let g = start (c .before .before .before .before .before .before .before .before .before) .pre .0 in
-    rw tail-part (record { rows = g; most = i .most; going = i .going; series = i .series; packs = c .before .before .before .packs2 .ensures })
+enum-told : tie.Need-enum-told
+enum-told c = search needs
+
+later-requires : tie.Need-later-requires
+later-requires c κs = refusal-asks (there (c .before .before .before .before .before .before .before .before .before .before)) (c .before .before .packs-rest .ensures)
 
 returns : tie.Need-returns
-returns c = rw tail-part at (c .series-rest .ensures)
+returns c = series-refused (there (c .before .before .before .before .before .before .before .before .before .before .before)) (c .before .before .before .packs-rest .ensures) (c .before .enum-told .given .1) (c .later .ensures)
 
-after-series-requires-2 : tie.Need-after-series-requires-2
-after-series-requires-2 c κs = series-asks (there (c .before .before .before .before .before .before .before)) (turn-done (c .before .before .packs2 .ensures) (omega (arith, c .if3 .left))) refl
+after-series-requires-3 : tie.Need-after-series-requires-3
+after-series-requires-3 c κs = series-asks (there (c .before .before .before .before .before .before .before .before .before .before .before)) (c .before .before .before .packs-rest .ensures) (c .before .w .given .1)
 
 walked-requires : tie.Need-walked-requires
 walked-requires c κs = search needs
@@ -158,12 +165,13 @@ set-walk-spec =
     lone-requires
     after-series-requires
     packs-requires
-    sub-series-rest
-    part-series-rest-start
-    part-series-rest-end
-    series-rest-requires
-    returns
     after-series-requires-2
+    packs-rest-requires
+    enum-known-w
+    enum-told
+    later-requires
+    returns
+    after-series-requires-3
     walked-requires
     returns-2
     sub-set-rest

@@ -132,14 +132,33 @@ module _ {M : Type 1} (𝓤 : URA M) (H : Heap 𝓤) (A : Atoms 𝓤) (W : Given
   room : Room u64 size
   room = (lit< tt, lit< tt)
 
-  -- ---- `numbered`, at the array lent for ν under δ
+  -- ---- the array at l: lent for ν under δ to be written, and for μ under ε to be read
+  abbrev Lent : ℕ → ℕ → GName → List ℕ → Fml
+  Lent l ν δ xs = MutSlice (named 1) (ν ∷ []) u64 .own (slice u64 size l δ xs) (nv l ∷ [])
+
+  abbrev Shared : ℕ → ℕ → GName → List ℕ → Fml
+  Shared l μ ε ns = ShrSlice (named 0) (μ ∷ []) u64 .own (slice u64 size l ε ns) (nv l ∷ [])
+
+  -- ---- `numbered`: its arguments, what it says, what it leaves of them, and the numbers among that
+  abbrev numbered-args : ℕ → GName → List ℕ → RefT (List ℕ) × (Bool × (ℕ × (RefT (List ℕ) × Unit {0})))
+  numbered-args l δ xs = (px, (al, (length ys, (slice u64 size l δ xs, tt))))
+
+  abbrev numbered-says : ℕ → ℕ → GName → List ℕ → Answer → SProp 𝓤
+  numbered-says l ν δ xs a = ensured 𝓤 H A numbered.ended (numbered.clauses 𝓤 H A mem run) (κp, (ν ∷ [], tt)) (numbered-args l δ xs) tt a
+
+  abbrev Lasts : Type 0
+  Lasts = Unit {0} × (Unit {0} × (Unit {0} × (List ℕ × Unit {0})))
+
+  abbrev left : Lasts → List ℕ
+  left zs = zs .1 .1 .1 .0
+
   abbrev to-numbered : ℕ → ℕ → GName → List ℕ → Numbered 𝓤 H A mem run .Ghost
-  to-numbered l ν δ xs = (((κp, (ν ∷ [], tt)), (qp, (fullShare, tt)), tt, (px, (al, (length ys, (slice u64 size l δ xs, tt)))), (pv ∷ [], (vbool al ∷ [], (vint w64 (length ys) ∷ [], (nv l ∷ [], tt))))), tt)
+  to-numbered l ν δ xs = (((κp, (ν ∷ [], tt)), (qp, (fullShare, tt)), tt, numbered-args l δ xs, (pv ∷ [], (vbool al ∷ [], (vint w64 (length ys) ∷ [], (nv l ∷ [], tt))))), tt)
 
   asks-numbered : (l ν : ℕ) (δ : GName) (xs : List ℕ) → size ≤ length xs
-      → ent 𝓤 (sep 𝓤 (sep 𝓤 (A .lft κp qp) (A .lft (ν ∷ []) fullShare)) (sep 𝓤 (sem 𝓤 H A Own) (sem 𝓤 H A (MutSlice (named 1) (ν ∷ []) u64 .own (slice u64 size l δ xs) (nv l ∷ []))))) (Numbered 𝓤 H A mem run .pre (to-numbered l ν δ xs))
+      → ent 𝓤 (sep 𝓤 (sep 𝓤 (A .lft κp qp) (A .lft (ν ∷ []) fullShare)) (sep 𝓤 (sem 𝓤 H A Own) (sem 𝓤 H A (Lent l ν δ xs)))) (Numbered 𝓤 H A mem run .pre (to-numbered l ν δ xs))
   asks-numbered l ν δ xs big =
-      qed W ((‵ (flft κp qp) ⊛ ‵ (flft (ν ∷ []) fullShare)) ∷ (‵ Own ⊛ ‵ (MutSlice (named 1) (ν ∷ []) u64 .own (slice u64 size l δ xs) (nv l ∷ []))) ∷ []) ∵ says ! big $
+      qed W ((‵ (flft κp qp) ⊛ ‵ (flft (ν ∷ []) fullShare)) ∷ (‵ Own ⊛ ‵ (Lent l ν δ xs)) ∷ []) ∵ says ! big $
       split ! $ nothing ! $ move ! (2 ∷ 0 ∷ []) $ join ! $ move ! (1 ∷ 0 ∷ []) $ join ! $ frame ! $
       split ! $ nothing ! $ move ! (2 ∷ 0 ∷ []) $ fjoin ! $ owned ! usize (Is usize) (uint-makes 𝓤 H A W w64) (length ys) _ (refl, gr .0) $ fjoin ! $
       owned ! bool (Is bool) (bool-makes 𝓤 H A W) al _ refl $ fjoin ! $ move ! (1 ∷ 0 ∷ []) $ fjoin ! $ done !
@@ -151,14 +170,20 @@ module _ {M : Type 1} (𝓤 : URA M) (H : Heap 𝓤) (A : Atoms 𝓤) (W : Given
   asks-count : (a : Answer) (v : Val) → ent 𝓤 (sem 𝓤 H A (R.the-row .own a (v ∷ []))) (Count 𝓤 H A mem run .pre (to-count a v))
   asks-count a v = qed W (‵ (R.the-row .own a (v ∷ [])) ∷ []) ∵ nothing ! $ move ! (1 ∷ 0 ∷ []) $ join ! $ nothing ! $ join ! $ frame ! $ done !
 
-  -- ---- `fill_rows`, at the array lent for μ under ε
+  -- ---- `fill_rows`
+  abbrev fill-args : ℕ → GName → List ℕ → ℕ → RefT (List ℕ) × (ℕ × (RefT (List Row) × Unit {0}))
+  fill-args l ε ns k = (slice u64 size l ε ns, (k, (rx, tt)))
+
+  abbrev fill-says : ℕ → ℕ → GName → List ℕ → ℕ → Unit {0} → SProp 𝓤
+  fill-says l μ ε ns k u = ensured 𝓤 H A fill.ended (fill.clauses 𝓤 H A mem run) (μ ∷ [], (κ, tt)) (fill-args l ε ns k) tt u
+
   abbrev to-fill : ℕ → ℕ → GName → List ℕ → ℕ → Fill 𝓤 H A mem run .Ghost
-  to-fill l μ ε ns k = (((μ ∷ [], (κ, tt)), (fullShare, (q, tt)), tt, (slice u64 size l ε ns, (k, (rx, tt))), (nv l ∷ [], (vint w64 k ∷ [], (rv ∷ [], tt)))), tt)
+  to-fill l μ ε ns k = (((μ ∷ [], (κ, tt)), (fullShare, (q, tt)), tt, fill-args l ε ns k, (nv l ∷ [], (vint w64 k ∷ [], (rv ∷ [], tt)))), tt)
 
   asks-fill : (l μ : ℕ) (ε : GName) (ns : List ℕ) (k : ℕ) → k < 2 ^ 64 → (4 * k ≤ length ns) × (k ≤ length ys)
-      → ent 𝓤 (sep 𝓤 (sep 𝓤 (A .lft (μ ∷ []) fullShare) (A .lft κ q)) (sep 𝓤 (sem 𝓤 H A (ShrSlice (named 0) (μ ∷ []) u64 .own (slice u64 size l ε ns) (nv l ∷ []))) (sem 𝓤 H A Mut))) (Fill 𝓤 H A mem run .pre (to-fill l μ ε ns k))
+      → ent 𝓤 (sep 𝓤 (sep 𝓤 (A .lft (μ ∷ []) fullShare) (A .lft κ q)) (sep 𝓤 (sem 𝓤 H A (Shared l μ ε ns)) (sem 𝓤 H A Mut))) (Fill 𝓤 H A mem run .pre (to-fill l μ ε ns k))
   asks-fill l μ ε ns k k-fits fits =
-      qed W ((‵ (flft (μ ∷ []) fullShare) ⊛ ‵ (flft κ q)) ∷ (‵ (ShrSlice (named 0) (μ ∷ []) u64 .own (slice u64 size l ε ns) (nv l ∷ [])) ⊛ ‵ Mut) ∷ []) ∵ says ! fits $
+      qed W ((‵ (flft (μ ∷ []) fullShare) ⊛ ‵ (flft κ q)) ∷ (‵ (Shared l μ ε ns) ⊛ ‵ Mut) ∷ []) ∵ says ! fits $
       split ! $ nothing ! $ move ! (2 ∷ 0 ∷ []) $ join ! $ move ! (1 ∷ 0 ∷ []) $ join ! $ frame ! $
       split ! $ nothing ! $ move ! (2 ∷ 0 ∷ []) $ fjoin ! $ owned ! usize (Is usize) (uint-makes 𝓤 H A W w64) k _ (refl, k-fits) $ fjoin ! $ move ! (1 ∷ 0 ∷ []) $ fjoin ! $ done !
 
@@ -175,7 +200,8 @@ module _ {M : Type 1} (𝓤 : URA M) (H : Heap 𝓤) (A : Atoms 𝓤) (W : Given
     walk : ent 𝓤 (onEntry 𝓤 H A f.signature (κp, (κ, tt)) (qp, (q, tt)) x at) (WpFn 𝓤 H C Λ code.function (pv ∷ vbool al ∷ rv ∷ []) Post)
     walk =
         qed W ((‵ (flft κp qp) ⊛ (‵ (flft κ q) ⊛ ‵ ftrue)) ∷ ‵ (owns (ShrSlice (named 0) κp u8 ∷ bool ∷ MutSlice (named 1) κ T.the-row ∷ []) x at) ∷ []) ∵ enter ! C Λ code.function (pv ∷ vbool al ∷ rv ∷ []) _ $
-        alloc1 ! (λ l₀. alloc1 ! (λ l₁. alloc1 ! (λ l₂. alloc1 ! (λ l₃. alloc1 ! (λ l₄. alloc1 ! (λ l₅. alloc1 ! (λ l₆. alloc1 ! (λ l₇. alloc1 ! (λ l₈. alloc1 ! (λ l₉. alloc1 ! (λ l₁₀. alloc1 ! (λ l₁₁. alloc1 ! (λ l₁₂. alloc1 ! (λ l₁₃. alloc0 ! $ params1 ! $
+        alloc1 ! (λ l₀. alloc1 ! (λ l₁. alloc1 ! (λ l₂. alloc1 ! (λ l₃. alloc1 ! (λ l₄. alloc1 ! (λ l₅. alloc1 ! (λ l₆. alloc1 ! (λ l₇.
+        alloc1 ! (λ l₈. alloc1 ! (λ l₉. alloc1 ! (λ l₁₀. alloc1 ! (λ l₁₁. alloc1 ! (λ l₁₂. alloc1 ! (λ l₁₃. alloc0 ! $ params1 ! $
         pass1 ! (init ! 24 refl (tt, (tt, (record { fits = gp }, tt)))) $ pass1 ! (init ! 22 refl (tt, tt)) $ pass1 ! (init ! 20 refl (tt, (tt, (record { fits = gr .0 }, tt)))) $ pass0 ! $
         keep ! (29 ∷ 28 ∷ 0 ∷ 2 ∷ 4 ∷ 6 ∷ 8 ∷ 10 ∷ 12 ∷ 14 ∷ 16 ∷ 18 ∷ 20 ∷ 22 ∷ 24 ∷ 26 ∷ 27 ∷ 25 ∷ 23 ∷ 21 ∷ 19 ∷ 17 ∷ 15 ∷ 13 ∷ 11 ∷ 9 ∷ 7 ∷ 5 ∷ 3 ∷ 1 ∷ []) $
         -- [what the parameters own; the tokens; _13; …; _0; …]
@@ -194,18 +220,19 @@ module _ {M : Type 1} (𝓤 : URA M) (H : Heap 𝓤) (A : Atoms 𝓤) (W : Given
         assigns ! (agg ! (and-then ! (load ! (from ! (stop !)) (look ! 12 refl)) (and-then ! (big-lit ! (record { fits = lit< tt })) (no-more !)))) (from ! (stop !)) (init ! 11 refl (tt, (tt, (record { fits = lit< tt }, tt)))) $
         -- `numbered`
         lft-new ! tt (λ ν. move ! (1 ∷ []) $
-        use1 W (later (some (λ (δ : GName). given (length xs ≡ size) (‵ (MutSlice (named 1) (ν ∷ []) u64 .own (slice u64 size l₄ δ xs) (nv l₄ ∷ [])) ⊛ ‵ (flent (ν ∷ []) (Held u64 size l₄ 0 δ)))))) (lends u64 size l₄ 𝓤 H A W tt room (named 1) (ν ∷ []) xs) $ await ! tt $ pick ! (λ δ. learn ! (λ long. split ! $
+        use1 W (later (some (λ (δ : GName). given (length xs ≡ size) (‵ (Lent l₄ ν δ xs) ⊛ ‵ (flent (ν ∷ []) (Held u64 size l₄ 0 δ)))))) (lends u64 size l₄ 𝓤 H A W tt room (named 1) (ν ∷ []) xs) $ await ! tt $ pick ! (λ δ. learn ! (λ long. split ! $
         move ! (5 ∷ 2 ∷ []) $ join ! $ move ! (5 ∷ 1 ∷ []) $ join ! $ move ! (1 ∷ 0 ∷ []) $ use2 W (raw (Numbered 𝓤 H A mem run .pre (to-numbered l₄ ν δ xs))) (asks-numbered l₄ ν δ xs (omega (arith, long))) $
-        calls-at ! fm (Numbered 𝓤 H A mem run) known-numbered (to-numbered l₄ ν δ xs) (and-then ! (load ! (from ! (stop !)) (look ! 16 refl)) (and-then ! (load ! (from ! (stop !)) (look ! 15 refl)) (and-then ! (load ! (from ! (stop !)) (look ! 12 refl)) (and-then ! (load ! (from ! (stop !)) (look ! 10 refl)) (no-more !))))) (λ w.
-        use1 W (later (some (λ (a : Answer). ((‵ (flft κp qp) ⊛ (‵ (flft (ν ∷ []) fullShare) ⊛ ‵ ftrue)) ⊛ ‵ (R.the-row .own a (w ∷ []))) ⊛ raw (ensured 𝓤 H A numbered.ended (numbered.clauses 𝓤 H A mem run) (κp, (ν ∷ [], tt)) (px, (al, (length ys, (slice u64 size l₄ δ xs, tt)))) tt a)))) (id⊢ 𝓤 _) $ await ! tt $ pick ! (λ a.
-        split ! $ move ! (1 ∷ []) $ use1 W (some (λ (zs : Unit {0} × (Unit {0} × (Unit {0} × (List ℕ × Unit {0})))). ‵ (lasts numbered.ended (κp, (ν ∷ [], tt)) (px, (al, (length ys, (slice u64 size l₄ δ xs, tt)))) zs) ⊛ raw (fact 𝓤 (Filled (length ys) (Rows.locate (formOf al) (now px)) a (zs .1 .1 .1 .0))))) (id⊢ 𝓤 _) $ pick ! (λ zs.
-        split ! $ move ! (1 ∷ []) $ heard ! (Filled (length ys) (Rows.locate (formOf al) (now px)) a (zs .1 .1 .1 .0)) (λ full.
+        calls-at ! fm (Numbered 𝓤 H A mem run) known-numbered (to-numbered l₄ ν δ xs)
+        (and-then ! (load ! (from ! (stop !)) (look ! 16 refl)) (and-then ! (load ! (from ! (stop !)) (look ! 15 refl)) (and-then ! (load ! (from ! (stop !)) (look ! 12 refl)) (and-then ! (load ! (from ! (stop !)) (look ! 10 refl)) (no-more !))))) (λ w.
+        use1 W (later (some (λ (a : Answer). ((‵ (flft κp qp) ⊛ (‵ (flft (ν ∷ []) fullShare) ⊛ ‵ ftrue)) ⊛ ‵ (R.the-row .own a (w ∷ []))) ⊛ raw (numbered-says l₄ ν δ xs a)))) (id⊢ 𝓤 _) $ await ! tt $ pick ! (λ a.
+        split ! $ move ! (1 ∷ []) $ use1 W (some (λ (zs : Lasts). ‵ (lasts numbered.ended (κp, (ν ∷ [], tt)) (numbered-args l₄ δ xs) zs) ⊛ raw (fact 𝓤 (Filled (length ys) (Rows.locate (formOf al) (now px)) a (left zs))))) (id⊢ 𝓤 _) $ pick ! (λ zs.
+        split ! $ move ! (1 ∷ []) $ heard ! (Filled (length ys) (Rows.locate (formOf al) (now px)) a (left zs)) (λ full.
         fsplit ! $ move ! (1 ∷ []) $ fsplit ! $ move ! (1 ∷ []) $ fsplit ! $ move ! (1 ∷ []) $ fsplit ! $ fsplit ! $
         move ! (1 ∷ []) $ drop ! $ move ! (1 ∷ []) $ drop ! $ move ! (1 ∷ []) $ drop ! $ move ! (1 ∷ []) $ drop ! $ move ! (1 ∷ []) $ drop ! $
         -- [the last list; the tokens and the answer; the array's lender; Mut; its token; Own; _13; …]
         move ! (1 ∷ []) $ split ! $ split ! $ move ! (1 ∷ []) $ split ! $ move ! (3 ∷ []) $
         peeks ! R.the-row (Is R.the-row) (shows 𝓤 H A R.the-row) a (w ∷ []) (λ is. land ! (from ! (stop !)) (init ! 17 refl (LL.lawful R.the-type R′.the-laws 𝓤 H A W .typed a _ is .0)) $
-        move ! (1 ∷ []) $ lft-end ! tt $ move ! (0 ∷ 5 ∷ 4 ∷ []) $ use3 W (later (‵ (Lies u64 size l₄ (zs .1 .1 .1 .0)))) (back u64 size l₄ 𝓤 H A W tt room (named 1) (ν ∷ []) δ (zs .1 .1 .1 .0)) $ await ! tt $ move ! (2 ∷ []) $ drop ! $
+        move ! (1 ∷ []) $ lft-end ! tt $ move ! (0 ∷ 5 ∷ 4 ∷ []) $ use3 W (later (‵ (Lies u64 size l₄ (left zs)))) (back u64 size l₄ 𝓤 H A W tt room (named 1) (ν ∷ []) δ (left zs)) $ await ! tt $ move ! (2 ∷ []) $ drop ! $
         -- [the array; the answer's own; the packet's token; Mut; its token; Own; _13; …; _5; _3; …; _0; …]
         assigns ! (addr ! (from ! (stop !))) (from ! (stop !)) (init ! 9 refl (tt, tt)) $
         assigns ! (agg ! (and-then ! (load ! (from ! (stop !)) (look ! 9 refl)) (and-then ! (big-lit ! (record { fits = lit< tt })) (no-more !)))) (from ! (stop !)) (init ! 8 refl (tt, (tt, (record { fits = lit< tt }, tt)))) $
@@ -220,25 +247,27 @@ module _ {M : Type 1} (𝓤 : URA M) (H : Heap 𝓤) (A : Atoms 𝓤) (W : Given
         assigns ! (agg ! (and-then ! (load ! (from ! (stop !)) (look ! 6 refl)) (and-then ! (load ! (from ! (fld ! refl (stop !))) (look-in ! 14 (sub ! 1 refl (whole !)))) (no-more !)))) (from ! (stop !)) (init ! 5 refl (tt, (tt, (record { fits = gr .0 }, tt)))) $
         -- `fill_rows`
         lft-new ! tt (λ μ. move ! (1 ∷ []) $
-        use1 W (later (some (λ (ε : GName). given (length (zs .1 .1 .1 .0) ≡ size) (‵ (ShrSlice (named 0) (μ ∷ []) u64 .own (slice u64 size l₄ ε (zs .1 .1 .1 .0)) (nv l₄ ∷ [])) ⊛ ‵ (flent (μ ∷ []) (Parts u64 size l₄ (zs .1 .1 .1 .0))))))) (shares u64 size l₄ 𝓤 H A W tt room (named 0) (μ ∷ []) (zs .1 .1 .1 .0)) $ await ! tt $ pick ! (λ ε. learn ! (λ long′. split ! $
+        use1 W (later (some (λ (ε : GName). given (length (left zs) ≡ size) (‵ (Shared l₄ μ ε (left zs)) ⊛ ‵ (flent (μ ∷ []) (Parts u64 size l₄ (left zs))))))) (shares u64 size l₄ 𝓤 H A W tt room (named 0) (μ ∷ []) (left zs)) $
+        await ! tt $ pick ! (λ ε. learn ! (λ long′. split ! $
         move ! (2 ∷ 5 ∷ []) $ join ! $ move ! (1 ∷ 4 ∷ []) $ join ! $ move ! (1 ∷ 0 ∷ []) $
-        use2 W (raw (Fill 𝓤 H A mem run .pre (to-fill l₄ μ ε (zs .1 .1 .1 .0) k))) (asks-fill l₄ μ ε (zs .1 .1 .1 .0) k (is′ .1) (omega (arith, ek, full .held), omega (arith, ek, full .fits))) $
-        calls-at ! fm (Fill 𝓤 H A mem run) known-fill (to-fill l₄ μ ε (zs .1 .1 .1 .0) k) (and-then ! (load ! (from ! (stop !)) (look ! 6 refl)) (and-then ! (load ! (from ! (stop !)) (look ! 11 refl)) (and-then ! (load ! (from ! (stop !)) (look ! 4 refl)) (no-more !)))) (λ w″.
-        use1 W (later (some (λ (u : Unit {0}). ((‵ (flft (μ ∷ []) fullShare) ⊛ (‵ (flft κ q) ⊛ ‵ ftrue)) ⊛ ‵ (unit .own u (w″ ∷ []))) ⊛ raw (ensured 𝓤 H A fill.ended (fill.clauses 𝓤 H A mem run) (μ ∷ [], (κ, tt)) (slice u64 size l₄ ε (zs .1 .1 .1 .0), (k, (rx, tt))) tt u)))) (id⊢ 𝓤 _) $ await ! tt $ pick ! (λ u.
-        split ! $ move ! (1 ∷ []) $ use1 W (some (λ (ts : Unit {0} × (Unit {0} × (List Row × Unit {0}))). ‵ (lasts fill.ended (μ ∷ [], (κ, tt)) (slice u64 size l₄ ε (zs .1 .1 .1 .0), (k, (rx, tt))) ts) ⊛ raw (fact 𝓤 (ts .1 .1 .0 ≡ tableOf k (zs .1 .1 .1 .0) ++ dropped k ys)))) (id⊢ 𝓤 _) $ pick ! (λ ts.
-        split ! $ move ! (1 ∷ []) $ heard ! (ts .1 .1 .0 ≡ tableOf k (zs .1 .1 .1 .0) ++ dropped k ys) (λ et.
+        use2 W (raw (Fill 𝓤 H A mem run .pre (to-fill l₄ μ ε (left zs) k))) (asks-fill l₄ μ ε (left zs) k (is′ .1) (omega (arith, ek, full .held), omega (arith, ek, full .fits))) $
+        calls-at ! fm (Fill 𝓤 H A mem run) known-fill (to-fill l₄ μ ε (left zs) k)
+        (and-then ! (load ! (from ! (stop !)) (look ! 6 refl)) (and-then ! (load ! (from ! (stop !)) (look ! 11 refl)) (and-then ! (load ! (from ! (stop !)) (look ! 4 refl)) (no-more !)))) (λ w″.
+        use1 W (later (some (λ (u : Unit {0}). ((‵ (flft (μ ∷ []) fullShare) ⊛ (‵ (flft κ q) ⊛ ‵ ftrue)) ⊛ ‵ (unit .own u (w″ ∷ []))) ⊛ raw (fill-says l₄ μ ε (left zs) k u)))) (id⊢ 𝓤 _) $ await ! tt $ pick ! (λ u.
+        split ! $ move ! (1 ∷ []) $ use1 W (some (λ (ts : Unit {0} × (Unit {0} × (List Row × Unit {0}))). ‵ (lasts fill.ended (μ ∷ [], (κ, tt)) (fill-args l₄ ε (left zs) k) ts) ⊛ raw (fact 𝓤 (ts .1 .1 .0 ≡ tableOf k (left zs) ++ dropped k ys)))) (id⊢ 𝓤 _) $ pick ! (λ ts.
+        split ! $ move ! (1 ∷ []) $ heard ! (ts .1 .1 .0 ≡ tableOf k (left zs) ++ dropped k ys) (λ et.
         fsplit ! $ move ! (1 ∷ []) $ fsplit ! $ move ! (1 ∷ []) $ fsplit ! $ fsplit ! $ move ! (1 ∷ []) $ feqL ! (λ same. move ! (1 ∷ []) $ drop ! $ move ! (1 ∷ []) $ drop ! $ move ! (1 ∷ []) $ drop ! $
         -- [the last rows; the tokens and the result; the array's lender; the packet's token; Own; _13; …]
         move ! (1 ∷ []) $ split ! $ move ! (1 ∷ []) $ peeks ! unit (Is unit) (shows 𝓤 H A unit) u (w″ ∷ []) (λ is″. land ! (from ! (stop !)) (init ! 10 refl (nothing-lawful 𝓤 H A W .typed u _ is″ .0)) $ drop ! $
-        split ! $ lft-end ! tt $ move ! (0 ∷ 3 ∷ []) $ use2 W (later (‵ (Lies u64 size l₄ (zs .1 .1 .1 .0)))) (back-whole u64 size l₄ 𝓤 H A W tt room (named 0) (μ ∷ []) (zs .1 .1 .1 .0) long′) $ await ! tt $
-        use1 W (some (λ (v : Val). ‵ (fat fullShare (tyArray (tyInt w64) size) l₄ 0 v) ⊛ ‵ (Array u64 size .own (zs .1 .1 .1 .0) (v ∷ [])))) (part-out 𝓤 H A W (Array u64 size) refl fullShare (zs .1 .1 .1 .0) l₄ 0) $ pick ! (λ v. split ! $ forget ! 0 refl $ move ! (1 ∷ []) $ drop ! $
+        split ! $ lft-end ! tt $ move ! (0 ∷ 3 ∷ []) $ use2 W (later (‵ (Lies u64 size l₄ (left zs)))) (back-whole u64 size l₄ 𝓤 H A W tt room (named 0) (μ ∷ []) (left zs) long′) $ await ! tt $
+        use1 W (some (λ (v : Val). ‵ (fat fullShare (tyArray (tyInt w64) size) l₄ 0 v) ⊛ ‵ (Array u64 size .own (left zs) (v ∷ [])))) (part-out 𝓤 H A W (Array u64 size) refl fullShare (left zs) l₄ 0) $ pick ! (λ v. split ! $ forget ! 0 refl $ move ! (1 ∷ []) $ drop ! $
         -- [room for _4; its token and true; the last rows; the packet's token; Own; _13; …]
         assigns ! (of-opd ! (load ! (from ! (stop !)) (look ! 13 refl))) (from ! (stop !)) (init ! 17 refl (LL.lawful R.the-type R′.the-laws 𝓤 H A W .typed a _ is .0)) $
         returns ! (look ! 17 refl) $ forget ! 5 refl $ forget ! 6 refl $ forget ! 7 refl $ forget ! 8 refl $ forget ! 9 refl $ forget ! 10 refl $ forget ! 11 refl $ forget ! 12 refl $ forget ! 13 refl $ forget ! 14 refl $ forget ! 15 refl $ forget ! 16 refl $ forget ! 17 refl $
         move ! (17 ∷ 18 ∷ 16 ∷ 19 ∷ 15 ∷ 20 ∷ 14 ∷ 21 ∷ 0 ∷ 22 ∷ 13 ∷ 23 ∷ 12 ∷ 24 ∷ 11 ∷ 25 ∷ 10 ∷ 26 ∷ 9 ∷ 27 ∷ 8 ∷ 28 ∷ 7 ∷ 29 ∷ 6 ∷ 30 ∷ 5 ∷ 31 ∷ []) $
         free1 ! $ free1 ! $ free1 ! $ free1 ! $ free1 ! $ free1 ! $ free1 ! $ free1 ! $ free1 ! $ free1 ! $ free1 ! $ free1 ! $ free1 ! $ free1 ! $ free0 ! $
         split ! $ move ! (1 ∷ []) $ drop ! $ move ! (2 ∷ 0 ∷ []) $ join ! $ move ! (2 ∷ 1 ∷ []) $ join ! $ move ! (1 ∷ 0 ∷ []) $
-        by ! (exits a w (ts .1 .1 .0) is (ap (leftOf a) (et ∙ ap (λ j. tableOf j (zs .1 .1 .1 .0) ++ dropped j ys) ek) ∙ full .left ys refl) same)))))))))))))))))))))))))))))))))))))))
+        by ! (exits a w (ts .1 .1 .0) is (ap (leftOf a) (et ∙ ap (λ j. tableOf j (left zs) ++ dropped j ys) ek) ∙ full .left ys refl) same)))))))))))))))))))))))))))))))))))))))
 
 module _ {M : Type 1} (𝓤 : URA M) (H : Heap 𝓤) (A : Atoms 𝓤) (W : Given 𝓤 H A) (mem : Memory → SProp 𝓤) (run : Routine → Fun 𝓤) (𝓣 : Tables 𝓤 H)
     (known-numbered : Triple 𝓤 (𝓣 .C #numbered) (Numbered 𝓤 H A mem run)) (known-count : Triple 𝓤 (𝓣 .C #count) (Count 𝓤 H A mem run)) (known-fill : Triple 𝓤 (𝓣 .C #fill) (Fill 𝓤 H A mem run)) where

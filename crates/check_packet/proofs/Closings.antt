@@ -28,12 +28,9 @@ use Rattle.tally.proofs.Totals.{parts-sheet, parts-normal, parts-inner, entries
 use Rattle.tally.proofs.Parsed.{packetOf}
 use Rattle.check_packet.specs.declared.Checked.{Checked}
 use Rattle.check_packet.specs.declared.Checked.the-variants.{Fine, Wrong}
-use Rattle.check_packet.specs.Meet.{checkedOf, fineOf, closingBy}
+use Rattle.check_packet.specs.Meet.{checkedOf, fineOf, sumRight, closingBy}
 
 -- ---- as the code tests it
-
-abbrev sumRight : List ℕ → Bool
-sumRight s = eqb (checksum (take (length s - 2) s)) (bytesNumber (drop (length s - 2) s))
 
 -- the last two bytes, as the borrow checker has them
 pub sealed-is : (s : List ℕ) {a b : ℕ} → a ≡ checksum (take (length s - 2) s) → 2 ≤ length s

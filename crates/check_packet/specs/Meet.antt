@@ -57,12 +57,16 @@ walkFault k (Bad n p) = Wrong n (k + p)
 abbrev pub fineOf : Sizes → ℕ → Checked
 fineOf a k = Fine (sizes (3 + a .sheet) (a .rows) (a .normal) (a .inner)) k
 
+-- whether the last two bytes are the checksum of those before them
+abbrev pub sumRight : List ℕ → Bool
+sumRight s = eqb (checksum (take (length s - 2) s)) (bytesNumber (drop (length s - 2) s))
+
 -- what closes a packet, where m says whether its set has a checksum
 abbrev pub sumBy : Form → List ℕ → Bool → Ans (Unit {0})
 sumBy embedded s m = ok tt
 sumBy standalone s m =
     after (length s) (need m 14) >>= λ _.
-    after (length s - 4) (need (eqb (checksum (take (length s - 2) s)) (bytesNumber (drop (length s - 2) s))) 15)
+    after (length s - 4) (need (sumRight s) 15)
 
 abbrev pub finish : Sizes → ℕ → Ans (Unit {0}) → Checked
 finish a k (ok c) = fineOf a k

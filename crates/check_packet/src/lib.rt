@@ -1,15 +1,12 @@
 // The whole packet: what opens it, its set, and what closes it.
 ghost use mathlib.Core.Path.{_≡_};
-ghost use Prim.Native.Nat.{_-_, _≤_};
-ghost use lib.ListN.{length, take, drop};
-ghost use lib.Dec.{eqb};
-ghost use Rattle.format.specs.Coding.{bytesNumber};
-ghost use Rattle.format.specs.Packet.{checksum};
+ghost use Prim.Native.Nat.{_≤_};
+ghost use lib.ListN.{length};
 ghost use Rattle.format.specs.Table.{standalone};
 ghost use Rattle.format.specs.Read.{opening, start, parse};
 ghost use Rattle.items.specs.Meet.{formOf, glanceTable};
 ghost use Rattle.tally.specs.Meet.{Within};
-ghost use Rattle.check_packet.specs.Meet.{checkedOf, widthOf, numFault, walkFault, closingBy, fineOf};
+ghost use Rattle.check_packet.specs.Meet.{checkedOf, widthOf, numFault, walkFault, closingBy, fineOf, sumRight};
 use coding::Num;
 use tally::Sizes;
 use tally::Walked;
@@ -64,7 +61,7 @@ fn start_of(alone: bool, width: usize) -> usize
 // Whether the last two bytes are the checksum of those before them.
 fn is_sealed(s: &[u8]) -> bool
     requires { ⌜ (2 ≤ length (now s)) × (length (now s) ≤ 8192) ⌝ }
-    ensures { λ r. ⌜ r ≡ eqb (checksum (take (length (now (s .entry)) - 2) (now (s .entry)))) (bytesNumber (drop (length (now (s .entry)) - 2) (now (s .entry)))) ⌝ }
+    ensures { λ r. ⌜ r ≡ sumRight (now (s .entry)) ⌝ }
 {
     let n = s.len() - 2;
     coding::sum_of(s, n) == coding::number_of(&s[n..], 2)

@@ -22,16 +22,17 @@ use Rattle.check_packet.specs.declared.Checked.the-variants.{Wrong}
 use Rattle.check_packet.specs.Meet.{checkedOf}
 use Rattle.check_packet.proofs.Parsing.{wrong-parsed}
 use Rattle.frames.specs.Meet.{frameSize}
-use Rattle.edit_rules.specs.declared.Place.{Place}
-use Rattle.edit_rules.specs.declared.Found.{Found}
-use Rattle.edit_rules.specs.declared.Found.the-variants.{There, Not}
-use Rattle.edit_rules.specs.Meet.{changeOf, keptOf, sheetOf, editedOf, setEdited, Placed, verdictOf, PlacedIf, Judged, Brief}
+use Rattle.find.specs.declared.Place.{Place}
+use Rattle.find.specs.Places.{keptOf}
+use Rattle.edit_rules.specs.declared.Judged.{Judged}
+use Rattle.edit_rules.specs.declared.Judged.the-variants as judged
+use Rattle.edit_rules.specs.Meet.{changeOf, sheetOf, editedOf, setEdited, EditedAt, verdictOf, EditedIf, JudgedAs, Brief}
 use Rattle.edit_rules.proofs.Callers.{judged-no, long-edit}
 use Rattle.answers.specs.declared.Answer.{Answer}
 use Rattle.answers.specs.Meet.{leftOf, answerOf, refusalOf}
 use Rattle.answers.proofs.Leaving.{left-refused}
 use Rattle.answers.proofs.Packing.{Packs, size-is, packs-long}
-use Rattle.edit.specs.Meet.{foundRefusal}
+use Rattle.edit.specs.Meet.{judgedRefusal}
 
 -- `over_long`, of the change
 module _ (removal : Bool) (v : List ℕ) {x : Bool} (ex : x ≡ (not removal && ltb 8192 (length v))) where
@@ -42,7 +43,7 @@ module _ (removal : Bool) (v : List ℕ) {x : Bool} (ex : x ≡ (not removal && 
       go true z = tt
       go false z = ltb-false 8192 (length v) z
 
-  long-change : (f : Form) (h : Holder) (tag : ℕ) (s : List ℕ) (p : Place) → x ≡ true → Placed f h tag s p → editRules h tag (changeOf removal v) (sheetOf f s) ≡ ok tt
+  long-change : (f : Form) (h : Holder) (tag : ℕ) (s : List ℕ) (p : Place) → x ≡ true → EditedAt f h tag s p → editRules h tag (changeOf removal v) (sheetOf f s) ≡ ok tt
       → 8192 < length (editedOf f h tag (changeOf removal v) s)
   long-change f h tag s p tx k = go removal (sym ex ∙ tx)
     where
@@ -59,12 +60,12 @@ module _ (f : Form) (s : List ℕ) (h : Holder) (tag : ℕ) (ch : Change) {c : C
 
 -- ---- its set, where r is the answer on the rules
 
-module _ (f : Form) (h : Holder) (tag : ℕ) (ch : Change) (s : List ℕ) {r : Found} (j : Judged f h tag ch s r) where
-  pub set-refused : (lent : List ℕ) {n : ℕ} {q : Answer} → r ≡ Not n → q ≡ foundRefusal r → leftOf q lent ≡ leaves lent (setEdited f h tag ch s)
+module _ (f : Form) (h : Holder) (tag : ℕ) (ch : Change) (s : List ℕ) {r : Judged} (j : JudgedAs f h tag ch s r) where
+  pub set-refused : (lent : List ℕ) {n : ℕ} {q : Answer} → r ≡ judged.Wrong n → q ≡ judgedRefusal r → leftOf q lent ≡ leaves lent (setEdited f h tag ch s)
   unfolding setEdited
-  set-refused lent tr e = left-refused lent (bind-not _ _ _ _ (judged-no f h tag ch s j tr)) (e ∙ ap foundRefusal tr)
+  set-refused lent tr e = left-refused lent (bind-not _ _ _ _ (judged-no f h tag ch s j tr)) (e ∙ ap judgedRefusal tr)
 
-  module _ {p : Place} (tr : r ≡ There p) where
+  module _ {p : Place} {m : ℕ} (tr : r ≡ judged.Fine p m) where
     ruled : editRules h tag ch (sheetOf f s) ≡ ok tt
     ruled = sym (j .verdict) ∙ ap verdictOf tr
 
@@ -79,7 +80,8 @@ module _ (f : Form) (h : Holder) (tag : ℕ) (ch : Change) (s : List ℕ) {r : F
         let k : Packs (setEdited f h tag ch s) f (editEntries h tag ch (keptOf f s)) (length (editedOf f h tag ch s)) (frameSize f (length (editedOf f h tag ch s)))
         = record { packet = closed f (editEntries h tag ch (keptOf f s)); answers = set-packed; closes = refl; entries = refl; frame = refl } in
         let long : 8192 < length (editedOf f h tag ch s)
-        = subst (λ y. 8192 < length (editedOf f h tag y s)) (sym ev) (long-change removal v ex f h tag s p tx (subst (PlacedIf f h tag s) tr (j .placed)) (subst (λ y. editRules h tag y (sheetOf f s) ≡ ok tt) ev ruled)) in
+        = subst (λ y. 8192 < length (editedOf f h tag y s)) (sym ev)
+        (long-change removal v ex f h tag s p tx (subst (EditedIf f h tag ch s) tr (j .placed) .0) (subst (λ y. editRules h tag y (sheetOf f s) ≡ ok tt) ev ruled)) in
         packs-long k lent (omega (arith, long, size-is k, entries-less f (editEntries h tag ch (keptOf f s)))) e
 
 -- ---- the change at its place: n is how many bytes the entries take, size the packet

@@ -1,66 +1,36 @@
-// The edited entries: how many bytes they take, and these bytes, stored into a lent output. What is kept is copied in runs.
+// The set's bytes with an item put at its place, or without the one that stands there: how many, and these, stored into a lent output.
 ghost use mathlib.Core.Path.{_≡_};
 ghost use Prim.Native.Nat.{_+_, _-_, _≤_};
 ghost use lib.ListN.{length};
-ghost use lib.Seq.{sets};
 ghost use Rattle.format.specs.Coding.{lenWidth};
-ghost use Rattle.items.specs.Meet.{formOf, levelOf, glanceTable};
-ghost use Rattle.edit_rules.specs.Meet.{holderOf, changeOf, editedOf, shortOf, itemBytes, bodySize, frontOf, runsSize, Ordered, Puttable, Editing};
-use edit_rules::Place;
+ghost use Rattle.items.specs.Meet.{levelOf};
+ghost use Rattle.find.specs.Places.{Ordered};
+ghost use Rattle.edit_rules.specs.Meet.{itemSize, bodySize, frontOf, withSize, Putting, StoredAt, ItemStored, EditStored};
+use edit_rules::Asked;
+use find::Place;
 
 // ---- the item
 
-// How many bytes of the value are put: those of its shortest form; none for a removal.
-pub fn short_size(
-    glances: &[u32],
-    alone: bool,
-    set: bool,
-    tag: u64,
-    removal: bool,
-    v: &[u8],
-) -> usize
-    requires { ⌜ (now glances ≡ glanceTable) × Puttable (changeOf removal (now v)) ⌝ }
-    ensures { λ r. ⌜ r ≡ shortOf (levelOf set) tag (changeOf removal (now (v .entry))) ⌝ }
+// The bytes of the item that is put, with m bytes of the value; none for a removal.
+pub fn item_size(a: Asked, m: usize) -> usize
+    requires { ⌜ (a .tag ≤ 16383) × (m ≤ 8192) ⌝ }
+    ensures { λ r. ⌜ r ≡ itemSize (a .removal) (a .tag) m ⌝ }
 {
-    if removal {
+    if a.removal {
         return 0;
     }
-    if edit_rules::is_told(glances, alone, set, tag, v) {
-        return v.len();
-    }
-    let table = items::table();
-    let rule = items::rule_of(&table, set, tag);
-    items::short_size(rule, v)
+    coding::widths::short_total(a.tag, m)
 }
 
-// The bytes of the item that is put, with so many of the value; none for a removal.
-pub fn item_size(set: bool, tag: u64, removal: bool, v: &[u8], m: usize) -> usize
-    requires { ⌜ (tag ≤ 16383) × Puttable (changeOf removal (now v)) × (m ≡ shortOf (levelOf set) tag (changeOf removal (now v))) ⌝ }
-    ensures { λ r. ⌜ r ≡ length (itemBytes (levelOf set) tag (changeOf removal (now (v .entry)))) ⌝ }
+// The item that is put, with the last m bytes of the value; where it ends.
+fn put_item(out: &mut [u8], at: usize, a: Asked, v: &[u8], m: usize) -> usize
+    requires { ⌜ (a .tag ≤ 16383) × (m ≤ length (now v)) × (m ≤ 8192) × (at + itemSize (a .removal) (a .tag) m ≤ length (now out)) ⌝ }
+    ensures { λ r. ⌜ ItemStored a (now (v .entry)) m (now (out .entry)) at r (now (out .exit)) ⌝ }
 {
-    if removal {
-        return 0;
-    }
-    coding::widths::short_total(tag, m)
-}
-
-// The item that is put, with so many bytes of the value; where it ends.
-fn put_item(
-    out: &mut [u8],
-    at: usize,
-    set: bool,
-    tag: u64,
-    removal: bool,
-    v: &[u8],
-    m: usize,
-) -> usize
-    requires { ⌜ (tag ≤ 16383) × Puttable (changeOf removal (now v)) × (m ≡ shortOf (levelOf set) tag (changeOf removal (now v))) × (at + length (itemBytes (levelOf set) tag (changeOf removal (now v))) ≤ length (now out)) ⌝ }
-    ensures { λ r. ⌜ (r ≡ at + length (itemBytes (levelOf set) tag (changeOf removal (now (v .entry))))) × (now (out .exit) ≡ sets (now (out .entry)) at (itemBytes (levelOf set) tag (changeOf removal (now (v .entry))))) ⌝ }
-{
-    if removal {
+    if a.removal {
         return at;
     }
-    store_coded::put_short(out, at, tag, &v[v.len() - m..])
+    store_coded::put_short(out, at, a.tag, &v[v.len() - m..])
 }
 
 // ---- the lengths around it
@@ -83,10 +53,10 @@ fn packs_size(p: Place, n: usize) -> usize
 
 // ---- the entries
 
-// The bytes of all the runs, with an item of n bytes.
-fn runs_size(set: bool, p: Place, n: usize) -> usize
+// How many bytes the entries take with an item of n at the place.
+pub fn edited_size(set: bool, p: Place, n: usize) -> usize
     requires { ⌜ Ordered 8192 p × (n ≤ 16384) ⌝ }
-    ensures { λ r. ⌜ r ≡ runsSize (levelOf set) p n ⌝ }
+    ensures { λ r. ⌜ r ≡ withSize (levelOf set) p n ⌝ }
 {
     if set {
         return p.at + n + (p.stop - p.next);
@@ -95,28 +65,10 @@ fn runs_size(set: bool, p: Place, n: usize) -> usize
     p.series + 1 + coding::widths::len_width(packs) + packs + (p.stop - p.tail)
 }
 
-// How many bytes the edited entries take, with an item of n.
-pub fn edited_size(
-    s: &[u8],
-    alone: bool,
-    set: bool,
-    id: u64,
-    tag: u64,
-    removal: bool,
-    v: &[u8],
-    p: Place,
-    n: usize,
-) -> usize
-    requires { ⌜ Editing (formOf alone) (holderOf set id) tag (changeOf removal (now v)) (now s) p × (n ≡ length (itemBytes (levelOf set) tag (changeOf removal (now v)))) ⌝ }
-    ensures { λ r. ⌜ r ≡ length (editedOf (formOf alone) (holderOf set id) tag (changeOf removal (now (v .entry))) (now (s .entry))) ⌝ }
-{
-    runs_size(set, p, n)
-}
-
 // What stands before the item, of n bytes; where it ends.
 fn put_front(s: &[u8], set: bool, p: Place, n: usize, out: &mut [u8]) -> usize
     requires { ⌜ (length (now s) ≤ 8192) × Ordered (length (now s)) p × (n ≤ 16384) × (length (frontOf (levelOf set) (now s) p n) ≤ length (now out)) ⌝ }
-    ensures { λ r. ⌜ (r ≡ length (frontOf (levelOf set) (now (s .entry)) p n)) × (now (out .exit) ≡ sets (now (out .entry)) 0 (frontOf (levelOf set) (now (s .entry)) p n)) ⌝ }
+    ensures { λ r. ⌜ StoredAt (now (out .entry)) 0 (frontOf (levelOf set) (now (s .entry)) p n) r (now (out .exit)) ⌝ }
 {
     let at = p.at;
     if set {
@@ -135,26 +87,22 @@ fn put_front(s: &[u8], set: bool, p: Place, n: usize, out: &mut [u8]) -> usize
     stores::copy_all(out, d, &s[body..at])
 }
 
-// The edited entries, with m bytes of the value in an item of n, at the start of out; how many bytes.
+// The entries, with m bytes of the value in an item of n at the place, at the start of out; how many bytes.
 pub fn put_edited(
     s: &[u8],
-    alone: bool,
-    set: bool,
-    id: u64,
-    tag: u64,
-    removal: bool,
-    v: &[u8],
+    a: Asked,
     p: Place,
+    v: &[u8],
     m: usize,
     n: usize,
     out: &mut [u8],
 ) -> usize
-    requires { ⌜ (m ≡ shortOf (levelOf set) tag (changeOf removal (now v))) × Editing (formOf alone) (holderOf set id) tag (changeOf removal (now v)) (now s) p × (length (editedOf (formOf alone) (holderOf set id) tag (changeOf removal (now v)) (now s)) ≤ length (now out)) × (n ≡ length (itemBytes (levelOf set) tag (changeOf removal (now v)))) ⌝ }
-    ensures { λ r. ⌜ (r ≡ length (editedOf (formOf alone) (holderOf set id) tag (changeOf removal (now (v .entry))) (now (s .entry)))) × (now (out .exit) ≡ sets (now (out .entry)) 0 (editedOf (formOf alone) (holderOf set id) tag (changeOf removal (now (v .entry))) (now (s .entry)))) ⌝ }
+    requires { ⌜ Putting a (now s) (now v) p m n (length (now out)) ⌝ }
+    ensures { λ r. ⌜ EditStored a (now (s .entry)) (now (v .entry)) p m (now (out .entry)) r (now (out .exit)) ⌝ }
 {
-    let a = put_front(s, set, p, n, out);
-    let b = put_item(out, a, set, tag, removal, v, m);
+    let from = put_front(s, a.set, p, n, out);
+    let to = put_item(out, from, a, v, m);
     let next = p.next;
     let stop = p.stop;
-    stores::copy_all(out, b, &s[next..stop])
+    stores::copy_all(out, to, &s[next..stop])
 }

@@ -1,47 +1,19 @@
--- Levels in bytes: a list that ends with what does not hit, the runs of bytes between places, and one change to a level as one swap in its bytes.
+-- Levels in bytes: whether a tag stands, the bytes between two places, and one change to a level as one swap in its bytes.
 use mathlib.Core.Path.{_≡_, refl, sym, ap, _∙_}
 use mathlib.Core.Logic.{_⊎_, inl, inr}
 use Prim.Native.Nat.{ℕ, _+_, _-_, _≤_, _<_}
 use native.Mathlib.Omega.{arith}
-use mathlib.Core.Bool.{Bool, false}
-use mathlib.Core.List.{List, [], _∷_, _++_, append-assoc, map}
+use mathlib.Core.Bool.{Bool}
+use mathlib.Core.List.{List, [], _∷_, _++_, map}
 use lib.ListN.{length, take, drop, length-drop, take-append-drop}
 use lib.Seq.{take-at, drop-at, drop-drop, length-take-le}
 use lib.Dec.{eqb, ltb}
 use borrow.Author.Tests.{lt-ltb, le-ltb}
-use Rattle.format.specs.Answer.{ok}
 use Rattle.format.specs.Lists.{has, flatAll}
 use Rattle.format.specs.Edit.{Change, put, remove, applied}
-use Rattle.format.proofs.words.Answers.{never, ok-inj}
-use Rattle.format.proofs.words.Keys.{all-left, all-both}
-use Rattle.spots.specs.Meet.{spotIn, splice}
-use Rattle.spots.proofs.Splices.{Missed, Hit, place, hit-spot, missed-spot, spot-room, ask-hit, ask-absent, splice-put, splice-out, has-hit, has-absent}
+use Rattle.find.specs.Spots.{spotIn, Missed, Hit, splice}
+use Rattle.find.proofs.Splices.{place, hit-spot, missed-spot, spot-room, splice-put, splice-out, has-hit, has-absent}
 use Rattle.edit_rules.specs.Meet.{part}
-
--- ---- a list that ends with what does not hit
-
-module _ {X : Type 0} (hit : X → Bool) {xs : List X} (ys rest : List X) (e : xs ≡ ys ++ rest) where
-  pub absent-too : Missed hit xs → Missed hit ys
-  absent-too a = all-left (λ x. hit x ≡ false) ys rest (rw e at a)
-
-  abbrev grown : Hit hit ys → Hit hit xs
-  grown k = record {
-    before = k .before;
-    it = k .it;
-    later = k .later ++ rest;
-    list-is = e ∙ ap (λ r. r ++ rest) (k .list-is) ∙ append-assoc (k .before) (k .it ∷ k .later) rest;
-    missed = k .missed;
-    hits = k .hits;
-  }
-
-  -- the first hit is among the others
-  module _ (m : Missed hit rest) (flat : X → List ℕ) (body from : X → ℕ) where
-    pub narrowed : (a : Hit hit xs) → (k : Hit hit ys) × (k .it ≡ a .it) × (spotIn hit flat body from 0 ys ≡ spotIn hit flat body from 0 xs)
-    narrowed a = go (place hit ys)
-      where
-        go : Hit hit ys ⊎ Missed hit ys → (k : Hit hit ys) × (k .it ≡ a .it) × (spotIn hit flat body from 0 ys ≡ spotIn hit flat body from 0 xs)
-        go (inl k) = (k, ok-inj _ _ (sym (ask-hit hit (grown k) (λ x. ok x)) ∙ ask-hit hit a (λ x. ok x)), hit-spot hit flat body from k ∙ sym (hit-spot hit flat body from (grown k)))
-        go (inr none) = never 18 0 (a .it) (sym (ask-absent hit xs (rw e (all-both (λ x. hit x ≡ false) ys rest none m)) (λ x. ok x)) ∙ ask-hit hit a (λ x. ok x))
 
 -- something with the tag stands, where its spot has bytes
 pub has-spot : {X : Type 0} (key : X → ℕ) (tag : ℕ) (flat : X → List ℕ) (body from : X → ℕ) → ((x : X) → 0 < length (flat x)) → (xs : List X) (k a b : ℕ)
@@ -50,8 +22,12 @@ pub has-spot : {X : Type 0} (key : X → ℕ) (tag : ℕ) (flat : X → List ℕ
 has-spot key tag flat body from some xs k a b ea eb = go (place (λ x. eqb (key x) tag) xs)
   where
     go : Hit (λ x. eqb (key x) tag) xs ⊎ Missed (λ x. eqb (key x) tag) xs → has tag (map key xs) ≡ ltb a b
-    go (inl h) = let z = hit-spot (λ x. eqb (key x) tag) flat body from h in has-hit key tag h ∙ sym (lt-ltb a b (omega (arith, ea, eb, ap (λ x. x .at) z, ap (λ x. x .next) z, some (h .it))))
-    go (inr m) = let z = missed-spot (λ x. eqb (key x) tag) flat body from xs m in has-absent key tag xs m ∙ sym (le-ltb a b (omega (arith, ea, eb, ap (λ x. x .at) z, ap (λ x. x .next) z)))
+    go (inl h) =
+        let z = hit-spot (λ x. eqb (key x) tag) flat body from h in
+        has-hit key tag h ∙ sym (lt-ltb a b (omega (arith, ea, eb, ap (λ x. x .at) z, ap (λ x. x .next) z, some (h .it))))
+    go (inr m) =
+        let z = missed-spot (λ x. eqb (key x) tag) flat body from xs m in
+        has-absent key tag xs m ∙ sym (le-ltb a b (omega (arith, ea, eb, ap (λ x. x .at) z, ap (λ x. x .next) z)))
 
 -- ---- the bytes between two places
 

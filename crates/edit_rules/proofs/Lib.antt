@@ -1,7 +1,6 @@
 pub mod Levels
 pub mod Sets
 pub mod Targets
-pub mod Finds
 pub mod Rules
 pub mod Storing
 pub mod Callers

@@ -1,3 +1,5 @@
+pub mod Passing
+pub mod Values
 pub mod Showing
 pub mod Promised
 pub mod Results

@@ -1,71 +1,100 @@
 -- The call `shown`, case by case: a packet refused, no item named, and the value's part of the one packet or the other.
-use mathlib.Core.Path.{_≡_, refl, sym, ap, _∙_}
+use mathlib.Core.Path.{_≡_, refl, sym, ap, _∙_, subst}
 use mathlib.Core.Logic.{inl, inr}
-use Prim.Native.Nat.{ℕ, _+_, _-_, _≤_}
+use Prim.Native.Nat.{ℕ, zero, suc, _+_, _-_, _≤_, _<_}
 use native.Mathlib.Omega.{arith}
 use mathlib.Core.Bool.{Bool, true, false, not}
 use mathlib.Core.List.{List}
 use lib.ListN.{length, take, drop, length-drop}
 use lib.Dec.{ltb, eqb}
-use borrow.Author.Tests.{lt-ltb}
+use borrow.Author.Tests.{lt-ltb, le-ltb}
 use Rattle.format.specs.Answer.{Ans, ok, refused, _>>=_}
 use Rattle.format.specs.Coding.{Bytes}
-use Rattle.format.specs.Table.{Form, embedded, standalone, set}
-use Rattle.format.specs.Packet.{Entry, Packet}
+use Rattle.format.specs.Table.{Form, set}
+use Rattle.format.specs.Packet.{Packet}
 use Rattle.format.specs.Read.{start, unsealed, parse}
 use Rattle.format.specs.Rows.{Row, entryRows}
 use Rattle.format.specs.Edit.{Holder}
 use Rattle.format.specs.Show.{reviewer, detector, Shown, shown, nothing, numberOf, findRow, showable, eitherRow, showIn, show}
 use Rattle.format.specs.demands.Rows.{part}
 use Rattle.format.proofs.words.Answers.{no-bool}
+use Rattle.format.proofs.words.Bytes.{bytes-take, bytes-drop}
 use Rattle.format.proofs.demands.Shows.{show-refused, show-unnamed}
-use Rattle.format.proofs.rows.Find.{number-snoc}
 use Rattle.coding.proofs.Rooms.{tail-part}
 use Rattle.items.proofs.Tests.{bind-so}
 use Rattle.heads.proofs.Heads.{mid-part}
 use Rattle.tally.specs.declared.Sizes.{Sizes}
-use Rattle.tally.proofs.Parsed.{Sealing, Parsed}
+use Rattle.tally.proofs.Parsed.{Parsed}
 use Rattle.check_packet.specs.declared.Checked.{Checked}
 use Rattle.check_packet.specs.declared.Checked.the-variants.{Fine, Wrong}
 use Rattle.check_packet.specs.Meet.{checkedOf}
 use Rattle.check_packet.proofs.Parsing.{wrong-parsed}
 use Rattle.check_packet.proofs.Opened.{fine, opened, start-is, set-room, lentSet, lent-is}
-use Rattle.spots.specs.Meet.{thingsOf, entriesOf}
+use Rattle.find.specs.declared.Place.{Place}
+use Rattle.find.specs.declared.Found.{Found}
+use Rattle.find.specs.declared.Found.the-variants.{There, Nowhere}
+use Rattle.find.specs.Spots.{thingsOf, entriesOf}
+use Rattle.find.specs.Places.{holderOf, keptOf, Placed, FoundIs}
+use Rattle.find.proofs.Placing.{value-room}
+use Rattle.find.proofs.Callers.{set-is}
 use Rattle.write_rows.proofs.Packet.{rows-whole}
-use Rattle.edit_rules.specs.Meet.{holderOf}
-use Rattle.edit_rules.proofs.Finds.{some-of}
-use Rattle.shows.specs.declared.Value.{Value}
-use Rattle.shows.specs.Meet.{valueOf, rowFor, rowIn}
 use Rattle.show.specs.declared.Part.{Part}
-use Rattle.show.specs.Meet.{rowNamed, ofTwo, sideOf, isDetectors, partShown, noPart, bytesShown, placeShown}
+use Rattle.show.specs.declared.Value.{Value}
+use Rattle.show.specs.Meet.{rowNamed, noValue, valueOf, ValueIn, ofTwo, sideOf, isDetectors, partShown, noPart, bytesShown, placeShown}
 use Rattle.show.specs.Shows.{Names}
+use Rattle.show.proofs.Passing.{rowFor, rowIn}
+use Rattle.show.proofs.Values.{readIf, readOff, place-value, unheld-value}
 
 -- ---- in one packet
 
--- the checksum numbers no target anew
-sealed-number : (f : Form) (h : Holder) (es : List Entry) (sum : List ℕ) → Sealing f es sum → numberOf h (unsealed es) ≡ numberOf h es
-sealed-number embedded h es sum e = ap (numberOf h) (sym e)
-sealed-number standalone h es sum (c, n, e) = sym (ap (numberOf h) e ∙ number-snoc h (unsealed es) _)
-
-row-is : (f : Form) (s : List ℕ) (p : Packet) (k : Parsed f s p) (h : Holder) (tag : ℕ) → findRow h tag p ≡ rowIn h tag (start f (k .width)) (k .es .val)
+row-is : (f : Form) (s : List ℕ) (p : Packet) (k : Parsed f s p) (h : Holder) (tag : ℕ) → findRow h tag p ≡ rowIn h tag (start f (k .width)) (unsealed (k .es .val)) (k .es .val)
 unfolding findRow
 row-is f s p k h tag =
     ap (λ rs. numberOf h (p .entries) >>= λ n. rowFor n tag rs) (rows-whole k)
-    ∙ ap (λ m. m >>= λ n. rowFor n tag (entryRows (start f (k .width)) (k .es .val))) (ap (λ q. numberOf h (q .entries)) (k .packet-is) ∙ sealed-number f h (k .es .val) (k .sum) (k .sealing))
+    ∙ ap (λ q. numberOf h (q .entries) >>= λ n. rowFor n tag (entryRows (start f (k .width)) (k .es .val))) (k .packet-is)
 
 module _ (f : Form) (s : List ℕ) (b : Bytes s) {a : Sizes} {k : ℕ} (t : checkedOf (parse f s) ≡ Fine a k) (h : Holder) (tag : ℕ) where
-  -- what was found in the set, as it is lent
-  pub value-found : {v : Value} → (v ≡ valueOf (rowIn h tag k (entriesOf set f (lentSet f s refl b t)))) × (v .offset + v .size ≤ k + length (lentSet f s refl b t))
-      → (v ≡ valueOf (rowNamed h tag (parse f s))) × (v .offset + v .size ≤ length s)
-  value-found (e, l) =
+  lent-long : length (lentSet f s refl b t) ≡ length s - k
+  lent-long = ap length (tail-part k s) ∙ length-drop k s
+
+  lent-bytes : Bytes (lentSet f s refl b t)
+  lent-bytes = bytes-take (length s - k) (drop k s) (bytes-drop k s b)
+
+  named-is : rowNamed h tag (parse f s) ≡ rowIn h tag k (keptOf f (lentSet f s refl b t)) (entriesOf set f (lentSet f s refl b t))
+  named-is =
       let o = opened f s refl b t in
-      let lent-long : length (lentSet f s refl b t) ≡ length s - k = ap length (tail-part k s) ∙ length-drop k s in
-      let entries : entriesOf set f (lentSet f s refl b t) ≡ o .es .val = ap (entriesOf set f) (lent-is f s refl b t) ∙ ap thingsOf (o .runs) in (
-        e ∙ ap (λ x. valueOf (rowIn h tag k x)) entries
-            ∙ ap (λ x. valueOf (rowIn h tag x (o .es .val))) (start-is f s refl b t)
-            ∙ ap valueOf (sym (bind-so (parse f s) _ (fine f s refl b t .0) (fine f s refl b t .1) ∙ row-is f s (fine f s refl b t .0) o h tag)),
-        omega (arith, set-room f s refl b t, lent-long),
-      )
+      let entries : entriesOf set f (lentSet f s refl b t) ≡ o .es .val = ap (entriesOf set f) (lent-is f s refl b t) ∙ ap thingsOf (o .runs) in
+      bind-so (parse f s) _ (fine f s refl b t .0) (fine f s refl b t .1)
+      ∙ row-is f s (fine f s refl b t .0) o h tag
+      ∙ ap (λ n. rowIn h tag n (unsealed (o .es .val)) (o .es .val)) (sym (start-is f s refl b t))
+      ∙ ap (λ es. rowIn h tag k (unsealed es) es) (sym entries)
+
+  -- x was found in the set, as it is lent
+  module _ {x : Found} (ex : FoundIs f h tag (lentSet f s refl b t) x) where
+    pub none-found : x ≡ Nowhere → {v : Value} → v ≡ noValue → ValueIn f s h tag v
+    none-found z e =
+        let u = subst (FoundIs f h tag (lentSet f s refl b t)) z ex in
+        let r = named-is ∙ unheld-value f (lentSet f s refl b t) lent-bytes (set-is f s refl b t) k h tag u in
+        (e ∙ ap valueOf (sym r), rw e (omega arith))
+
+    module _ {p : Place} (z : x ≡ There p) where
+      at-it : Placed f h tag (lentSet f s refl b t) p
+      at-it = subst (FoundIs f h tag (lentSet f s refl b t)) z ex
+
+      pub value-sums : (p .from ≤ p .next) × (k + p .next ≤ length s) × (length s ≤ 8192)
+      value-sums =
+          let (q, r) = value-room f (lentSet f s refl b t) lent-bytes (set-is f s refl b t) h tag p at-it in
+          (q, omega (arith, r, lent-long, set-room f s refl b t), opened f s refl b t .short)
+
+      module _ (n : showable h tag ≡ true) where
+        reads : valueOf (rowNamed h tag (parse f s)) ≡ readOff k (p .at) (p .from) (p .next)
+        reads = ap valueOf named-is ∙ place-value f (lentSet f s refl b t) lent-bytes (set-is f s refl b t) k h tag n p at-it
+
+        pub value-there : p .at < p .next → ValueIn f s h tag (record { there = true; offset = k + p .from; size = p .next - p .from })
+        value-there l = (sym (reads ∙ ap (λ y. readIf y (k + p .from) (p .next - p .from)) (lt-ltb (p .at) (p .next) l)), omega (arith, value-sums))
+
+        pub value-absent : p .next ≤ p .at → {v : Value} → v ≡ noValue → ValueIn f s h tag v
+        value-absent l e = (e ∙ sym (reads ∙ ap (λ y. readIf y (k + p .from) (p .next - p .from)) (le-ltb (p .at) (p .next) l)), rw e (omega arith))
 
 -- ---- in two
 
@@ -116,11 +145,11 @@ module _ (f : Form) (r d : List ℕ) (h : Holder) (tag : ℕ) (hr : Bytes r) (hd
     unfolding show showIn _>>=_
     in-two = rw (fine f r refl hr ta .1, fine f d refl hd tb .1) (rw (n, showIn))
 
-    module _ {v : Value} (ev : (v ≡ valueOf (rowNamed h tag (parse f r))) × (v .offset + v .size ≤ length r)) where
+    module _ {v : Value} (ev : ValueIn f r h tag v) where
       pub reviewers : v .there ≡ true → Names f r d h tag (record { detectors = false; offset = v .offset; size = v .size })
       reviewers z = (row-first _ _ (ev .0) z ∙ sym in-two, ev .1)
 
-      module _ (z : v .there ≡ false) {w : Value} (ew : (w ≡ valueOf (rowNamed h tag (parse f d))) × (w .offset + w .size ≤ length d)) where
+      module _ (z : v .there ≡ false) {w : Value} (ew : ValueIn f d h tag w) where
         pub detectors : w .there ≡ true → Names f r d h tag (record { detectors = true; offset = w .offset; size = w .size })
         detectors y = (row-second _ _ (ev .0) z (ew .0) y ∙ sym in-two, ew .1)
 
@@ -129,13 +158,17 @@ module _ (f : Form) (r d : List ℕ) (h : Holder) (tag : ℕ) (hr : Bytes r) (hd
 
 -- ---- what may be shown
 
+some : (n : ℕ) → (n ≡ 0 → ⊥) → 0 < n
+some zero h = absurd (h refl)
+some (suc n) h = omega arith
+
 module _ {tag : ℕ} where
   pub zero-unnamed : (b : Bool) (id : ℕ) → tag ≡ 0 → false ≡ showable (holderOf b id) tag
   unfolding showable
   zero-unnamed b id e = rw e
 
   some-tag : (tag ≡ 0 → ⊥) → ltb 0 tag ≡ true
-  some-tag n = lt-ltb 0 tag (some-of tag n)
+  some-tag n = lt-ltb 0 tag (some tag n)
 
   module _ {b : Bool} (id : ℕ) (n : tag ≡ 0 → ⊥) where
     pub set-named : b ≡ true → not (eqb tag 101) ≡ showable (holderOf b id) tag

@@ -1,20 +1,14 @@
 // Show: the value of an item, as a part of one of two packets that are lent.
 ghost use mathlib.Core.Path.{_≡_};
 ghost use mathlib.Core.Bool.{true};
-ghost use Prim.Native.Nat.{ℕ, _+_, _≤_};
-ghost use lib.ListN.{length};
-ghost use Rattle.format.specs.Read.{parse};
+ghost use Prim.Native.Nat.{ℕ};
 ghost use Rattle.format.specs.Show as Show;
 ghost use Rattle.items.specs.Meet.{formOf};
-ghost use Rattle.tally.specs.declared.Sizes.{Sizes};
-ghost use Rattle.check_packet.specs.declared.Checked.the-variants.{Fine};
-ghost use Rattle.check_packet.specs.Meet.{checkedOf};
-ghost use Rattle.edit_rules.specs.Meet.{holderOf};
-ghost use Rattle.shows.specs.Meet.{valueOf};
-ghost use Rattle.show.specs.Meet.{rowNamed, noPart};
+ghost use Rattle.find.specs.Places.{holderOf};
+ghost use Rattle.show.specs.Meet.{noValue, ValueIn, FineFrom, noPart};
 ghost use Rattle.show.specs.Shows.{Names, Shows};
 use check_packet::Checked;
-use shows::Value;
+use find::Found;
 
 // Which part of which of the two packets is shown.
 pub struct Part {
@@ -47,12 +41,40 @@ fn is_showable(set: bool, tag: u64) -> bool
     true
 }
 
-// Where the item's value stands in a packet that was found fine, with its set at `from`.
-fn value_in(packet: &[u8], from: usize, alone: bool, set: bool, id: u64, tag: u64) -> Value
-    requires { ⌜ (Show.showable (holderOf set id) tag ≡ true) × ((a : Sizes) × (checkedOf (parse (formOf alone) (now packet)) ≡ Fine a from)) ⌝ }
-    ensures { λ r. ⌜ (r ≡ valueOf (rowNamed (holderOf set id) tag (parse (formOf alone) (now (packet .entry))))) × (r .offset + r .size ≤ length (now (packet .entry))) ⌝ }
+// Where a value stands: whether it is there, its offset from the packet's start, and its length.
+struct Value {
+    there: bool,
+    offset: usize,
+    size: usize,
+}
+
+fn absent() -> Value
+    ensures { λ r. ⌜ r ≡ noValue ⌝ }
 {
-    shows::value_at(&packet[from..], from, alone, set, id, tag)
+    Value {
+        there: false,
+        offset: 0,
+        size: 0,
+    }
+}
+
+// Where the item's value stands in a packet that was found fine, whose set begins at `from`: as the item's place says.
+fn value_in(packet: &[u8], from: usize, alone: bool, set: bool, id: u64, tag: u64) -> Value
+    requires { ⌜ (Show.showable (holderOf set id) tag ≡ true) × FineFrom (formOf alone) (now packet) from ⌝ }
+    ensures { λ r. ⌜ ValueIn (formOf alone) (now (packet .entry)) (holderOf set id) tag r ⌝ }
+{
+    let f = find::place_of(&packet[from..], alone, set, id, tag);
+    let Found::There(p) = f else {
+        return absent();
+    };
+    if p.at < p.next {
+        return Value {
+            there: true,
+            offset: from + p.from,
+            size: p.next - p.from,
+        };
+    }
+    absent()
 }
 
 // Which part is shown: the value's of the reviewer's packet if that has the item, else of the detector's.

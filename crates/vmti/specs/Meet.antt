@@ -9,7 +9,8 @@ use Rattle.format.specs.Table.{Form}
 use Rattle.format.specs.Room.{leaves, oneNumber}
 use Rattle.format.specs.Edit.{Holder, Change}
 use Rattle.items.specs.Meet.{formOf}
-use Rattle.edit_rules.specs.Meet.{holderOf, changeOf}
+use Rattle.find.specs.Places.{holderOf}
+use Rattle.edit_rules.specs.Meet.{changeOf}
 
 -- the one number r that comes back for what x answers, and what is left of the buffer that held `lent`
 abbrev pub Returns : List ℕ → Ans (List ℕ) → ℕ → List ℕ → Type 0

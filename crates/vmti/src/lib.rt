@@ -6,6 +6,7 @@ ghost use Rattle.format.specs.Edit as Edit;
 ghost use Rattle.vmti.specs.Meet.{Returns, formNamed, holderNamed, changeNamed};
 use answers::Answer;
 use edit::edit;
+use edit_rules::Asked;
 use normalise::normalise;
 use read::read;
 use write::write;
@@ -56,14 +57,11 @@ pub extern "C" fn vmti_edit(
         (Edit.edit (formNamed form) (holderNamed level target) tag (changeNamed removal (now (value .entry))) (now (packet .entry)))
         r (now (out .exit)) ⌝ }
 {
-    one_number(edit(
-        packet,
-        form != 0,
-        level == 0,
-        target,
+    let a = Asked {
+        set: level == 0,
+        id: target,
         tag,
-        removal != 0,
-        value,
-        out,
-    ))
+        removal: removal != 0,
+    };
+    one_number(edit(packet, form != 0, a, value, out))
 }

@@ -75,7 +75,8 @@ returns-4 : tie.Need-returns-4
 returns-4 c =
     let k = c .before .before .before .before .before .before in
     let a = k .before .before in
-    check-good _ _ (a .before .before .before .if1 .left) (a .before .before .opening-of .ensures) (a .a .given .1) (k .start-of .ensures) (c .before .before .before .before .set-walk .ensures .0) (λ i. a .before .before .before .before .shared-slice-known2 .given i .fits) (c .before .before .w .given .1) (c .closing-of .ensures)
+    check-good _ _ (a .before .before .before .if1 .left) (a .before .before .opening-of .ensures) (a .a .given .1) (k .start-of .ensures) (c .before .before .before .before .set-walk .ensures .0) (λ i. a .before .before .before .before .shared-slice-known2 .given i .fits)
+    (c .before .before .w .given .1) (c .closing-of .ensures)
 
 pub check-spec : {M : Type 1} → statement M
 check-spec =

@@ -3,7 +3,8 @@ use mathlib.Core.Path.{sym, ap, _∙_}
 use borrow.Author.Needs.{needs}
 use Rattle.format.specs.Room.{leaves}
 use Rattle.check_packet.proofs.Opened.{set-room}
-use Rattle.edit_rules.proofs.Callers.{set-is, edit-is}
+use Rattle.find.proofs.Callers.{set-is}
+use Rattle.edit_rules.proofs.Callers.{edit-is}
 use Rattle.edit.proofs.Editing.{edit-unread}
 use Rattle.edit.proofs.edit.Statement.{statement}
 use Rattle.edit.proofs.edit.Tie as tie

@@ -1,24 +1,20 @@
--- `edit_bytes::put_edited` meets its contract.
+-- `edit_bytes::put_edited` meets its contract. i is where the call begins, f where the front was put, and m where the item was.
 use borrow.Author.Needs.{needs}
-use Rattle.items.specs.Meet.{formOf}
-use Rattle.edit_rules.specs.Meet.{changeOf}
-use Rattle.edit_rules.proofs.Storing.{tag-high, puttable, item-fits, front-room, item-behind, rest-behind, edited-stored}
+use Rattle.edit_rules.proofs.Storing.{front-asked, item-asked, rest-asked, all-stored}
 use Rattle.edit_bytes.proofs.put_edited.Statement.{statement}
 use Rattle.edit_bytes.proofs.put_edited.Tie as tie
 
 put-front-requires : tie.Need-put-front-requires
 put-front-requires c κs =
-    let i = c .before .before .before .before .args in
-    let (t, e, room, en) = c .before .before .before .before .pre in
-    let x = changeOf (i .removal) (i .v .now) in
-    (e .short, e .placed .ordered, item-fits (formOf (i .alone)) (i .set) (i .id) (i .tag) x (i .s .now) (i .p) e en, front-room (formOf (i .alone)) (i .set) (i .id) (i .tag) x (i .s .now) (i .p) e (i .out .now) room en)
+    let i = c .before .before .before .before in
+    let (n, l) = front-asked (i .args .out .now) (i .pre) in
+    (i .pre .short, i .pre .ordered, n, l)
 
 put-item-requires : tie.Need-put-item-requires
 put-item-requires c κs =
-    let i = c .before .before .before .before .before .before .before .before .args in
-    let (t, e, room, en) = c .before .before .before .before .before .before .before .before .pre in
-    let x = changeOf (i .removal) (i .v .now) in
-    (tag-high (formOf (i .alone)) (i .set) (i .id) (i .tag) x (i .s .now) (i .p) e, puttable (formOf (i .alone)) (i .set) (i .id) (i .tag) x (i .s .now) (i .p) e, t, item-behind (formOf (i .alone)) (i .set) (i .id) (i .tag) x (i .s .now) (i .p) e (i .out .now) room en (c .before .before .before .put-front .ensures))
+    let f = c .before .before .before in
+    let i = f .before .before .before .before .before in
+    (i .pre .tag-high, i .pre .some, i .pre .few, item-asked (i .args .out .now) (i .pre) (f .put-front .ensures))
 
 sub-copy-all : tie.Need-sub-copy-all
 sub-copy-all c = search needs
@@ -31,20 +27,20 @@ part-copy-all-end c = search needs
 
 copy-all-requires : tie.Need-copy-all-requires
 copy-all-requires c κs =
-    let i = c .before .before .before .before .before .before .before .before .before .before .before .before .before .args in
-    let (t, e, room, en) = c .before .before .before .before .before .before .before .before .before .before .before .before .before .pre in
-    let x = changeOf (i .removal) (i .v .now) in
-    rest-behind (formOf (i .alone)) (i .set) (i .id) (i .tag) x (i .s .now) (i .p) e (i .out .now) room en (c .before .before .before .before .before .before .before .before .put-front .ensures) (c .before .before .before .before .put-item .ensures)
+    let m = c .before .before .before .before in
+    let f = m .before .before .before .before in
+    let i = f .before .before .before .before .before in
+    rest-asked (i .args .out .now) (i .pre) (f .put-front .ensures) (m .put-item .ensures)
 
 same-length : tie.Need-same-length
 same-length c = search needs
 
 returns : tie.Need-returns
 returns c =
-    let i = c .before .before .before .before .before .before .before .before .before .before .before .before .before .before .before .before .args in
-    let (t, e, room, en) = c .before .before .before .before .before .before .before .before .before .before .before .before .before .before .before .before .pre in
-    let x = changeOf (i .removal) (i .v .now) in
-    edited-stored (formOf (i .alone)) (i .set) (i .id) (i .tag) x (i .s .now) (i .p) e (i .out .now) room en (c .before .before .before .before .before .before .before .before .before .before .before .put-front .ensures) (c .before .before .before .before .before .before .before .put-item .ensures) (c .before .before .copy-all .ensures)
+    let m = c .before .before .before .before .before .before .before in
+    let f = m .before .before .before .before in
+    let i = f .before .before .before .before .before in
+    all-stored (i .args .out .now) (i .pre) (f .put-front .ensures) (m .put-item .ensures) (c .before .before .copy-all .ensures)
 
 pub put-edited-spec : {M : Type 1} → statement M
 put-edited-spec =

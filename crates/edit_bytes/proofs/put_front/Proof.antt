@@ -1,10 +1,30 @@
--- `edit_bytes::put_front` meets its contract.
+-- `edit_bytes::put_front` meets its contract. z is where the sizes of the pack and of the series are known, a where the first bytes were
+-- put, q where the series' tag and length were, k where the packs before were, and l where the pack's length was.
 use native.Mathlib.Omega.{arith}
 use borrow.Author.Needs.{needs}
 use Rattle.coding.proofs.Counts.{len-most}
-use Rattle.edit_rules.proofs.Storing.{alone-room, alone-stored, first-room, series-room, packs-room, len-room, last-room, front-stored}
+use Rattle.stores.proofs.copy_all.Reads as copy-all-reads
+use Rattle.store_coded.proofs.put_len.Reads as put-len-reads
+use Rattle.store_coded.proofs.put_series.Reads as put-series-reads
+use Rattle.edit_rules.proofs.Storing.{alone-room, alone-stored, Fronting, first-room, series-room, packs-room, len-room, last-room, front-stored}
+use Rattle.edit_bytes.proofs.body_size.Reads as body-size-reads
+use Rattle.edit_bytes.proofs.packs_size.Reads as packs-size-reads
 use Rattle.edit_bytes.proofs.put_front.Statement.{statement}
+use Rattle.edit_bytes.proofs.put_front.Reads as reads
+use Rattle.edit_bytes.proofs.put_front.Lts as lts
 use Rattle.edit_bytes.proofs.put_front.Tie as tie
+
+abbrev Sized : Type 0
+Sized = lts.After-packs-size (copy-all-reads.Asked, copy-all-reads.Learnt, body-size-reads.Asked, body-size-reads.Learnt, packs-size-reads.Asked, packs-size-reads.Learnt, put-series-reads.Asked, put-series-reads.Learnt, put-len-reads.Asked, put-len-reads.Learnt) reads.Pre reads.Post
+
+abbrev Call : Type 0
+Call = lts.Start (copy-all-reads.Asked, copy-all-reads.Learnt, body-size-reads.Asked, body-size-reads.Learnt, packs-size-reads.Asked, packs-size-reads.Learnt, put-series-reads.Asked, put-series-reads.Learnt, put-len-reads.Asked, put-len-reads.Learnt) reads.Pre reads.Post
+
+abbrev from : Sized → Call
+from z = z .before .before .before .before .before
+
+here : (z : Sized) → Fronting (from z .args .s .now) (from z .args .p) (from z .args .n) (from z .args .set) (from z .args .out .now) (z .before .body-size .result) (z .packs-size .result)
+here z = record { ordered = from z .pre .1; in-pack = z .before .before .if1 .left; room = from z .pre .3; body-is = z .before .body-size .ensures; packs-are = z .packs-size .ensures }
 
 sub-copy-all : tie.Need-sub-copy-all
 sub-copy-all c = search needs
@@ -16,13 +36,17 @@ part-copy-all-end : tie.Need-part-copy-all-end
 part-copy-all-end c = search needs
 
 copy-all-requires : tie.Need-copy-all-requires
-copy-all-requires c κs = let i = c .before .before .before .before .before .args in alone-room (i .s .now) (i .p) (i .n) (c .before .before .before .before .before .pre .1) (c .before .before .if1 .taken) (i .out .now) (c .before .before .before .before .before .pre .3)
+copy-all-requires c κs =
+    let i = c .before .before .before .before .before in
+    alone-room (i .args .s .now) (i .args .p) (i .args .n) (c .before .before .if1 .taken) (i .args .out .now) (i .pre .3)
 
 same-length : tie.Need-same-length
 same-length c = search needs
 
 returns : tie.Need-returns
-returns c = let i = c .before .before .before .before .before .before .before .before .args in alone-stored (i .s .now) (i .p) (i .n) (c .before .before .before .before .before .before .before .before .pre .1) (c .before .before .before .before .before .if1 .taken) (i .out .now) (c .before .before .before .before .before .before .before .before .pre .3) (c .before .before .copy-all .ensures)
+returns c =
+    let i = c .before .before .before .before .before .before .before .before in
+    alone-stored (i .args .s .now) (i .args .p) (i .args .n) (c .before .before .before .before .before .if1 .taken) (i .args .out .now) (i .pre .3) (c .before .before .copy-all .ensures)
 
 body-size-requires : tie.Need-body-size-requires
 body-size-requires c κs = search needs
@@ -40,16 +64,13 @@ part-copy-all-end-2 : tie.Need-part-copy-all-end-2
 part-copy-all-end-2 c = search needs
 
 copy-all-requires-2 : tie.Need-copy-all-requires-2
-copy-all-requires-2 c κs =
-    let i = c .before .before .before .before .before .before .before .args in
-    first-room (i .s .now) (i .p) (i .n) (c .before .before .before .before .before .before .before .pre .1) (c .before .before .before .before .if1 .left) (i .out .now) (c .before .before .before .before .before .before .before .pre .3) (c .before .before .before .body-size .ensures) (c .before .before .packs-size .ensures)
+copy-all-requires-2 c κs = first-room (here (c .before .before))
 
 put-series-requires : tie.Need-put-series-requires
 put-series-requires c κs =
-    let i = c .before .before .before .before .before .before .before .before .before .before .before .args in (
-      omega (arith, c .before .before .before .before .before .before .before .body-size .ensures, c .before .before .before .before .before .before .packs-size .ensures, len-most (c .before .before .before .before .before .before .before .body-size .result), c .before .before .before .before .before .before .before .before .before .before .before .pre),
-      series-room (i .s .now) (i .p) (i .n) (c .before .before .before .before .before .before .before .before .before .before .before .pre .1) (c .before .before .before .before .before .before .before .before .if1 .left) (i .out .now) (c .before .before .before .before .before .before .before .before .before .before .before .pre .3) (c .before .before .before .before .before .before .before .body-size .ensures) (c .before .before .before .before .before .before .packs-size .ensures) (c .before .before .before .copy-all2 .ensures),
-    )
+    let a = c .before .before .before in
+    let z = a .before .before .before in
+    (omega (arith, z .before .body-size .ensures, z .packs-size .ensures, len-most (z .before .body-size .result), from z .pre), series-room (here z) (a .copy-all2 .ensures))
 
 sub-copy-all-3 : tie.Need-sub-copy-all-3
 sub-copy-all-3 c = search needs
@@ -62,15 +83,17 @@ part-copy-all-end-3 c = search needs
 
 copy-all-requires-3 : tie.Need-copy-all-requires-3
 copy-all-requires-3 c κs =
-    let i = c .before .before .before .before .before .before .before .before .before .before .before .before .before .before .before .before .args in
-    packs-room (i .s .now) (i .p) (i .n) (c .before .before .before .before .before .before .before .before .before .before .before .before .before .before .before .before .pre .1) (c .before .before .before .before .before .before .before .before .before .before .before .before .before .if1 .left) (i .out .now) (c .before .before .before .before .before .before .before .before .before .before .before .before .before .before .before .before .pre .3) (c .before .before .before .before .before .before .before .before .before .before .before .before .body-size .ensures) (c .before .before .before .before .before .before .before .before .before .before .before .packs-size .ensures) (c .before .before .before .before .before .before .before .before .copy-all2 .ensures) (c .before .before .before .before .put-series .ensures)
+    let q = c .before .before .before .before in
+    let a = q .before .before .before .before in
+    packs-room (here (a .before .before .before)) (a .copy-all2 .ensures) (q .put-series .ensures)
 
 put-len-requires : tie.Need-put-len-requires
 put-len-requires c κs =
-    let i = c .before .before .before .before .before .before .before .before .before .before .before .before .before .before .before .before .before .before .before .before .args in (
-      omega (arith, c .before .before .before .before .before .before .before .before .before .before .before .before .before .before .before .before .body-size .ensures, c .before .before .before .before .before .before .before .before .before .before .before .before .before .before .before .before .before .before .before .before .pre),
-      len-room (i .s .now) (i .p) (i .n) (c .before .before .before .before .before .before .before .before .before .before .before .before .before .before .before .before .before .before .before .before .pre .1) (c .before .before .before .before .before .before .before .before .before .before .before .before .before .before .before .before .before .if1 .left) (i .out .now) (c .before .before .before .before .before .before .before .before .before .before .before .before .before .before .before .before .before .before .before .before .pre .3) (c .before .before .before .before .before .before .before .before .before .before .before .before .before .before .before .before .body-size .ensures) (c .before .before .before .before .before .before .before .before .before .before .before .before .before .before .before .packs-size .ensures) (c .before .before .before .before .before .before .before .before .before .before .before .before .copy-all2 .ensures) (c .before .before .before .before .before .before .before .before .put-series .ensures) (c .before .before .before .copy-all3 .ensures),
-    )
+    let k = c .before .before .before in
+    let q = k .before .before .before .before .before in
+    let a = q .before .before .before .before in
+    let z = a .before .before .before in
+    (omega (arith, z .before .body-size .ensures, from z .pre), len-room (here z) (a .copy-all2 .ensures) (q .put-series .ensures) (k .copy-all3 .ensures))
 
 sub-copy-all-4 : tie.Need-sub-copy-all-4
 sub-copy-all-4 c = search needs
@@ -83,16 +106,22 @@ part-copy-all-end-4 c = search needs
 
 copy-all-requires-4 : tie.Need-copy-all-requires-4
 copy-all-requires-4 c κs =
-    let i = c .before .before .before .before .before .before .before .before .before .before .before .before .before .before .before .before .before .before .before .before .before .before .before .before .before .args in
-    last-room (i .s .now) (i .p) (i .n) (c .before .before .before .before .before .before .before .before .before .before .before .before .before .before .before .before .before .before .before .before .before .before .before .before .before .pre .1) (c .before .before .before .before .before .before .before .before .before .before .before .before .before .before .before .before .before .before .before .before .before .before .if1 .left) (i .out .now) (c .before .before .before .before .before .before .before .before .before .before .before .before .before .before .before .before .before .before .before .before .before .before .before .before .before .pre .3) (c .before .before .before .before .before .before .before .before .before .before .before .before .before .before .before .before .before .before .before .before .before .body-size .ensures) (c .before .before .before .before .before .before .before .before .before .before .before .before .before .before .before .before .before .before .before .before .packs-size .ensures) (c .before .before .before .before .before .before .before .before .before .before .before .before .before .before .before .before .before .copy-all2 .ensures) (c .before .before .before .before .before .before .before .before .before .before .before .before .before .put-series .ensures) (c .before .before .before .before .before .before .before .before .copy-all3 .ensures) (c .before .before .before .before .put-len .ensures)
+    let l = c .before .before .before .before in
+    let k = l .before .before .before .before in
+    let q = k .before .before .before .before .before in
+    let a = q .before .before .before .before in
+    last-room (here (a .before .before .before)) (a .copy-all2 .ensures) (q .put-series .ensures) (k .copy-all3 .ensures) (l .put-len .ensures)
 
 same-length-2 : tie.Need-same-length-2
 same-length-2 c = search needs
 
 returns-2 : tie.Need-returns-2
 returns-2 c =
-    let i = c .before .before .before .before .before .before .before .before .before .before .before .before .before .before .before .before .before .before .before .before .before .before .before .before .before .before .before .before .args in
-    front-stored (i .s .now) (i .p) (i .n) (c .before .before .before .before .before .before .before .before .before .before .before .before .before .before .before .before .before .before .before .before .before .before .before .before .before .before .before .before .pre .1) (c .before .before .before .before .before .before .before .before .before .before .before .before .before .before .before .before .before .before .before .before .before .before .before .before .before .if1 .left) (i .out .now) (c .before .before .before .before .before .before .before .before .before .before .before .before .before .before .before .before .before .before .before .before .before .before .before .before .before .before .before .before .pre .3) (c .before .before .before .before .before .before .before .before .before .before .before .before .before .before .before .before .before .before .before .before .before .before .before .before .body-size .ensures) (c .before .before .before .before .before .before .before .before .before .before .before .before .before .before .before .before .before .before .before .before .before .before .before .packs-size .ensures) (c .before .before .before .before .before .before .before .before .before .before .before .before .before .before .before .before .before .before .before .before .copy-all2 .ensures) (c .before .before .before .before .before .before .before .before .before .before .before .before .before .before .before .before .put-series .ensures) (c .before .before .before .before .before .before .before .before .before .before .before .copy-all3 .ensures) (c .before .before .before .before .before .before .before .put-len .ensures) (c .before .before .copy-all4 .ensures)
+    let l = c .before .before .before .before .before .before .before in
+    let k = l .before .before .before .before in
+    let q = k .before .before .before .before .before in
+    let a = q .before .before .before .before in
+    front-stored (here (a .before .before .before)) (a .copy-all2 .ensures) (q .put-series .ensures) (k .copy-all3 .ensures) (l .put-len .ensures) (c .before .before .copy-all4 .ensures)
 
 pub put-front-spec : {M : Type 1} → statement M
 put-front-spec =

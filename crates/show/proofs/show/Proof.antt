@@ -9,7 +9,9 @@ shown-requires : tie.Need-shown-requires
 shown-requires c κs = search needs
 
 add-to : tie.Need-add-to
-add-to c = omega (arith, part-fits (c .before .before .before .before .args .reviewer .now) (c .before .before .before .before .args .detector .now) (c .before .shown .result .detectors) 18446744073709551615 (c .before .shown .ensures .1) (omega arith) (omega arith))
+add-to c =
+    let i = c .before .before .before .before .args in
+    omega (arith, part-fits (i .reviewer .now) (i .detector .now) (c .before .shown .result .detectors) 18446744073709551615 (c .before .shown .ensures .1) (omega arith) (omega arith))
 
 sub-result : tie.Need-sub-result
 sub-result c = search needs
@@ -21,7 +23,12 @@ part-result-end : tie.Need-part-result-end
 part-result-end c = omega (arith, part-ends (c .before .before .shown .result) (c .if1 .taken) (c .before .before .before .before .before .args .reviewer .now) (c .before .before .before .before .before .args .detector .now) (c .before .before .shown .ensures .1))
 
 returns : tie.Need-returns
-returns c = (part-bytes (c .before .before .before .shown .result) (c .before .if1 .taken) (c .before .before .before .shown .ensures .0) (c .before .before .before .before .before .before .args .reviewer .now) (c .before .before .before .before .before .before .args .detector .now), part-place (c .before .before .before .shown .result) (c .before .if1 .taken) (c .before .before .before .shown .ensures .0) (c .before .before .before .before .before .before .args .reviewer .ptr) (c .before .before .before .before .before .before .args .detector .ptr))
+returns c =
+    let s = c .before .before .before in
+    let i = s .before .before .before .args in (
+      part-bytes (s .shown .result) (c .before .if1 .taken) (s .shown .ensures .0) (i .reviewer .now) (i .detector .now),
+      part-place (s .shown .result) (c .before .if1 .taken) (s .shown .ensures .0) (i .reviewer .ptr) (i .detector .ptr),
+    )
 
 sub-result-2 : tie.Need-sub-result-2
 sub-result-2 c = search needs
@@ -33,7 +40,12 @@ part-result-end-2 : tie.Need-part-result-end-2
 part-result-end-2 c = omega (arith, part-ends (c .before .before .shown .result) (c .if1 .left) (c .before .before .before .before .before .args .reviewer .now) (c .before .before .before .before .before .args .detector .now) (c .before .before .shown .ensures .1))
 
 returns-2 : tie.Need-returns-2
-returns-2 c = (part-bytes (c .before .before .before .shown .result) (c .before .if1 .left) (c .before .before .before .shown .ensures .0) (c .before .before .before .before .before .before .args .reviewer .now) (c .before .before .before .before .before .before .args .detector .now), part-place (c .before .before .before .shown .result) (c .before .if1 .left) (c .before .before .before .shown .ensures .0) (c .before .before .before .before .before .before .args .reviewer .ptr) (c .before .before .before .before .before .before .args .detector .ptr))
+returns-2 c =
+    let s = c .before .before .before in
+    let i = s .before .before .before .args in (
+      part-bytes (s .shown .result) (c .before .if1 .left) (s .shown .ensures .0) (i .reviewer .now) (i .detector .now),
+      part-place (s .shown .result) (c .before .if1 .left) (s .shown .ensures .0) (i .reviewer .ptr) (i .detector .ptr),
+    )
 
 pub show-spec : {M : Type 1} → statement M
 show-spec =

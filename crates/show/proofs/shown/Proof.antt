@@ -3,7 +3,7 @@
 use mathlib.Core.Path.{sym, _∙_}
 use borrow.Author.Tests.{not-true, not-false}
 use Rattle.items.specs.Meet.{formOf}
-use Rattle.edit_rules.specs.Meet.{holderOf}
+use Rattle.find.specs.Places.{holderOf}
 use Rattle.show.proofs.Showing.{reviewer-wrong, detector-wrong, unnamed, reviewers, detectors, neithers}
 use borrow.Author.Needs.{needs}
 use Rattle.show.proofs.shown.Statement.{statement}
@@ -31,7 +31,9 @@ returns : tie.Need-returns
 returns c =
     let k = c .before .before .before .before .before .before in
     let i = k .before .before in
-    reviewer-wrong (formOf (i .args .alone)) (i .args .reviewer .now) (i .args .detector .now) (holderOf (i .args .set) (i .args .id)) (i .args .tag) (λ n. k .before .shared-slice-known .given n .fits) (λ n. k .shared-slice-known2 .given n .fits) (c .before .before .before .check .ensures) (c .before .enum-told .given .1) (c .nothing .ensures)
+    reviewer-wrong (formOf (i .args .alone)) (i .args .reviewer .now) (i .args .detector .now) (holderOf (i .args .set) (i .args .id)) (i .args .tag)
+    (λ n. k .before .shared-slice-known .given n .fits) (λ n. k .shared-slice-known2 .given n .fits)
+    (c .before .before .before .check .ensures) (c .before .enum-told .given .1) (c .nothing .ensures)
 
 slice-aggregate-check-2 : tie.Need-slice-aggregate-check-2
 slice-aggregate-check-2 c = search needs
@@ -52,7 +54,9 @@ returns-2 : tie.Need-returns-2
 returns-2 c =
     let k = c .before .before .before .before .before .before .before .before .before .before .before in
     let i = k .before .before in
-    detector-wrong (formOf (i .args .alone)) (i .args .reviewer .now) (i .args .detector .now) (holderOf (i .args .set) (i .args .id)) (i .args .tag) (λ n. k .before .shared-slice-known .given n .fits) (λ n. k .shared-slice-known2 .given n .fits) (c .before .before .before .check2 .ensures) (c .before .enum-told2 .given .1) (c .nothing2 .ensures)
+    detector-wrong (formOf (i .args .alone)) (i .args .reviewer .now) (i .args .detector .now) (holderOf (i .args .set) (i .args .id)) (i .args .tag)
+    (λ n. k .before .shared-slice-known .given n .fits) (λ n. k .shared-slice-known2 .given n .fits)
+    (c .before .before .before .check2 .ensures) (c .before .enum-told2 .given .1) (c .nothing2 .ensures)
 
 is-showable-requires : tie.Need-is-showable-requires
 is-showable-requires c κs = search needs
@@ -65,7 +69,9 @@ returns-3 c =
     let s = c .before .before in
     let k = s .before .before .before .before .before .before .before .before .before .before .before .before in
     let i = k .before .before in
-    unnamed (formOf (i .args .alone)) (i .args .reviewer .now) (i .args .detector .now) (holderOf (i .args .set) (i .args .id)) (i .args .tag) (λ n. k .before .shared-slice-known .given n .fits) (λ n. k .shared-slice-known2 .given n .fits) (s .is-showable .ensures (i .args .id)) (not-true _ (c .before .if1 .taken)) (c .nothing3 .ensures)
+    unnamed (formOf (i .args .alone)) (i .args .reviewer .now) (i .args .detector .now) (holderOf (i .args .set) (i .args .id)) (i .args .tag)
+    (λ n. k .before .shared-slice-known .given n .fits) (λ n. k .shared-slice-known2 .given n .fits)
+    (s .is-showable .ensures (i .args .id)) (not-true _ (c .before .if1 .taken)) (c .nothing3 .ensures)
 
 value-in-requires : tie.Need-value-in-requires
 value-in-requires c κs =
@@ -79,7 +85,11 @@ returns-4 c =
     let s = c .before .before .before in
     let k = s .before .before .before .before .before .before .before .before .before .before .before .before in
     let i = k .before .before in
-    reviewers (formOf (i .args .alone)) (i .args .reviewer .now) (i .args .detector .now) (holderOf (i .args .set) (i .args .id)) (i .args .tag) (λ n. k .before .shared-slice-known .given n .fits) (λ n. k .shared-slice-known2 .given n .fits) (sym (s .before .before .before .before .before .before .before .before .before .check .ensures) ∙ s .before .before .before .before .before .before .before .a .given .1) (sym (s .before .before .before .before .check2 .ensures) ∙ s .before .before .b .given .1) (sym (s .is-showable .ensures (i .args .id)) ∙ not-false _ (c .before .before .if1 .left)) (c .before .value-in .ensures) (c .if2 .taken)
+    reviewers (formOf (i .args .alone)) (i .args .reviewer .now) (i .args .detector .now) (holderOf (i .args .set) (i .args .id)) (i .args .tag)
+    (λ n. k .before .shared-slice-known .given n .fits) (λ n. k .shared-slice-known2 .given n .fits)
+    (sym (s .before .before .before .before .before .before .before .before .before .check .ensures) ∙ s .before .before .before .before .before .before .before .a .given .1)
+    (sym (s .before .before .before .before .check2 .ensures) ∙ s .before .before .b .given .1)
+    (sym (s .is-showable .ensures (i .args .id)) ∙ not-false _ (c .before .before .if1 .left)) (c .before .value-in .ensures) (c .if2 .taken)
 
 value-in-requires-2 : tie.Need-value-in-requires-2
 value-in-requires-2 c κs =
@@ -93,7 +103,11 @@ returns-5 c =
     let s = c .before .before .before .before .before in
     let k = s .before .before .before .before .before .before .before .before .before .before .before .before in
     let i = k .before .before in
-    detectors (formOf (i .args .alone)) (i .args .reviewer .now) (i .args .detector .now) (holderOf (i .args .set) (i .args .id)) (i .args .tag) (λ n. k .before .shared-slice-known .given n .fits) (λ n. k .shared-slice-known2 .given n .fits) (sym (s .before .before .before .before .before .before .before .before .before .check .ensures) ∙ s .before .before .before .before .before .before .before .a .given .1) (sym (s .before .before .before .before .check2 .ensures) ∙ s .before .before .b .given .1) (sym (s .is-showable .ensures (i .args .id)) ∙ not-false _ (c .before .before .before .before .if1 .left)) (c .before .before .before .value-in .ensures) (c .before .before .if2 .left) (c .before .value-in2 .ensures) (c .if3 .taken)
+    detectors (formOf (i .args .alone)) (i .args .reviewer .now) (i .args .detector .now) (holderOf (i .args .set) (i .args .id)) (i .args .tag)
+    (λ n. k .before .shared-slice-known .given n .fits) (λ n. k .shared-slice-known2 .given n .fits)
+    (sym (s .before .before .before .before .before .before .before .before .before .check .ensures) ∙ s .before .before .before .before .before .before .before .a .given .1)
+    (sym (s .before .before .before .before .check2 .ensures) ∙ s .before .before .b .given .1)
+    (sym (s .is-showable .ensures (i .args .id)) ∙ not-false _ (c .before .before .before .before .if1 .left)) (c .before .before .before .value-in .ensures) (c .before .before .if2 .left) (c .before .value-in2 .ensures) (c .if3 .taken)
 
 nothing-requires-4 : tie.Need-nothing-requires-4
 nothing-requires-4 c κs = search needs
@@ -103,7 +117,11 @@ returns-6 c =
     let s = c .before .before .before .before .before .before in
     let k = s .before .before .before .before .before .before .before .before .before .before .before .before in
     let i = k .before .before in
-    neithers (formOf (i .args .alone)) (i .args .reviewer .now) (i .args .detector .now) (holderOf (i .args .set) (i .args .id)) (i .args .tag) (λ n. k .before .shared-slice-known .given n .fits) (λ n. k .shared-slice-known2 .given n .fits) (sym (s .before .before .before .before .before .before .before .before .before .check .ensures) ∙ s .before .before .before .before .before .before .before .a .given .1) (sym (s .before .before .before .before .check2 .ensures) ∙ s .before .before .b .given .1) (sym (s .is-showable .ensures (i .args .id)) ∙ not-false _ (c .before .before .before .before .before .if1 .left)) (c .before .before .before .before .value-in .ensures) (c .before .before .before .if2 .left) (c .before .before .value-in2 .ensures) (c .before .if3 .left) (c .nothing4 .ensures)
+    neithers (formOf (i .args .alone)) (i .args .reviewer .now) (i .args .detector .now) (holderOf (i .args .set) (i .args .id)) (i .args .tag)
+    (λ n. k .before .shared-slice-known .given n .fits) (λ n. k .shared-slice-known2 .given n .fits)
+    (sym (s .before .before .before .before .before .before .before .before .before .check .ensures) ∙ s .before .before .before .before .before .before .before .a .given .1)
+    (sym (s .before .before .before .before .check2 .ensures) ∙ s .before .before .b .given .1)
+    (sym (s .is-showable .ensures (i .args .id)) ∙ not-false _ (c .before .before .before .before .before .if1 .left)) (c .before .before .before .before .value-in .ensures) (c .before .before .before .if2 .left) (c .before .before .value-in2 .ensures) (c .before .if3 .left) (c .nothing4 .ensures)
 
 pub shown-spec : {M : Type 1} → statement M
 shown-spec =

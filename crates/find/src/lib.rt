@@ -1,0 +1,208 @@
+// The one search, in what was checked: the series, the pack with an id, the item with a tag. Each is one loop over heads, to the first hit.
+ghost use mathlib.Core.Path.{_≡_};
+ghost use Prim.Native.Nat.{_-_, _≤_};
+ghost use lib.ListN.{length};
+ghost use Rattle.format.specs.Edit.{target};
+ghost use Rattle.items.specs.Meet.{formOf, levelOf};
+ghost use Rattle.tally.specs.Runs.{Ran, levelRun, seriesRun};
+ghost use Rattle.find.specs.Spots.{noSpot, entrySpot, packSpot};
+ghost use Rattle.find.specs.Places.{holderOf, sealSize, SetOf, placeIn, SetPlaced, FoundIs};
+use heads::Head;
+
+// Where something stands: where it begins, where what its length counts begins (an item's value, a pack's id), where its value or
+// its items begin, and what follows it. Where it is not there, all four are the end.
+pub struct Spot {
+    pub at: usize,
+    pub body: usize,
+    pub from: usize,
+    pub next: usize,
+}
+
+// Nothing there, and the end at `at`.
+fn no_spot(at: usize) -> Spot
+    ensures { λ r. ⌜ r ≡ noSpot at ⌝ }
+{
+    Spot {
+        at,
+        body: at,
+        from: at,
+        next: at,
+    }
+}
+
+// The item with this tag in a level: the set, or a pack's items.
+pub fn item_spot(s: &[u8], set: bool, alone: bool, tag: u64) -> Spot
+    requires { ⌜ (length (now s) ≤ 8192) × Ran (levelRun (levelOf set) (formOf alone) (now s)) ⌝ }
+    ensures { λ r. ⌜ r ≡ entrySpot (levelOf set) (formOf alone) tag (now (s .entry)) ⌝ }
+{
+    let mut p: usize = 0;
+    while p < s.len() {
+        let h = heads::quick_item_head(&s[p..], set);
+        let Head::Whole {
+            key,
+            used,
+            width,
+            size,
+        } = h
+        else {
+            return no_spot(p);
+        };
+        let from = p + used + width;
+        let next = from + size;
+        if key == tag {
+            return Spot {
+                at: p,
+                body: from,
+                from,
+                next,
+            };
+        }
+        p = next;
+    }
+    no_spot(p)
+}
+
+// The pack with this id in a series.
+pub fn pack_spot(s: &[u8], alone: bool, id: u64) -> Spot
+    requires { ⌜ (length (now s) ≤ 8192) × Ran (seriesRun (formOf alone) (now s)) ⌝ }
+    ensures { λ r. ⌜ r ≡ packSpot (formOf alone) id (now (s .entry)) ⌝ }
+{
+    let mut p: usize = 0;
+    while p < s.len() {
+        let h = heads::quick_pack_head(&s[p..]);
+        let Head::Whole {
+            key,
+            used,
+            width,
+            size,
+        } = h
+        else {
+            return no_spot(p);
+        };
+        let body = p + width;
+        let next = body + size;
+        if key == id {
+            let from = body + used;
+            return Spot {
+                at: p,
+                body,
+                from,
+                next,
+            };
+        }
+        p = next;
+    }
+    no_spot(p)
+}
+
+// ---- the place of an item
+
+// Where an item stands in the bytes of a packet's set. For a target's item: where the series begins, its packs, the pack, the pack's id,
+// the item, its value, what follows it, where the pack ends, the series, and the entries, before the checksum. Where there is no such
+// item, it would begin and end at its level's end. For the set's item all before it are 0, and all that follow are the entries' end.
+pub struct Place {
+    pub series: usize,
+    pub packs: usize,
+    pub pack: usize,
+    pub body: usize,
+    pub at: usize,
+    pub from: usize,
+    pub next: usize,
+    pub last: usize,
+    pub tail: usize,
+    pub stop: usize,
+}
+
+// The place; or that there is no such target.
+pub enum Found {
+    There(Place),
+    Nowhere,
+}
+
+// Where the entries end: before the checksum.
+fn stop_of(s: &[u8], alone: bool) -> usize
+    requires { ⌜ sealSize (formOf alone) ≤ length (now s) ⌝ }
+    ensures { λ r. ⌜ r ≡ length (now (s .entry)) - sealSize (formOf alone) ⌝ }
+{
+    if alone {
+        return s.len() - 4;
+    }
+    s.len()
+}
+
+// What stands at a spot of the set, whose entries end at `stop`.
+fn place_in(a: Spot, stop: usize) -> Place
+    ensures { λ r. ⌜ r ≡ placeIn a stop ⌝ }
+{
+    Place {
+        series: 0,
+        packs: 0,
+        pack: 0,
+        body: 0,
+        at: a.at,
+        from: a.from,
+        next: a.next,
+        last: stop,
+        tail: stop,
+        stop,
+    }
+}
+
+// An item of the set.
+fn set_place(s: &[u8], alone: bool, tag: u64) -> Place
+    requires { ⌜ SetOf (formOf alone) (now s) ⌝ }
+    ensures { λ r. ⌜ SetPlaced (formOf alone) tag (now (s .entry)) r ⌝ }
+{
+    let stop = stop_of(s, alone);
+    let a = item_spot(s, true, alone, tag);
+    if a.at < a.next {
+        return place_in(a, stop);
+    }
+    place_in(no_spot(stop), stop)
+}
+
+// An item of a target: the series, its pack with the id, and the item in that.
+fn target_place(s: &[u8], alone: bool, id: u64, tag: u64) -> Found
+    requires { ⌜ SetOf (formOf alone) (now s) ⌝ }
+    ensures { λ r. ⌜ FoundIs (formOf alone) (target id) tag (now (s .entry)) r ⌝ }
+{
+    let a = item_spot(s, true, alone, 101);
+    if a.at == a.next {
+        return Found::Nowhere;
+    }
+    let packs = a.from;
+    let tail = a.next;
+    let inner = &s[packs..tail];
+    let b = pack_spot(inner, alone, id);
+    if b.at == b.next {
+        return Found::Nowhere;
+    }
+    let items = b.from;
+    let end = b.next;
+    let c = item_spot(&inner[items..end], false, alone, tag);
+    let base = packs + items;
+    let stop = stop_of(s, alone);
+    Found::There(Place {
+        series: a.at,
+        packs,
+        pack: packs + b.at,
+        body: packs + b.body,
+        at: base + c.at,
+        from: base + c.from,
+        next: base + c.next,
+        last: packs + end,
+        tail,
+        stop,
+    })
+}
+
+// The place of an item; or that there is no such target.
+pub fn place_of(s: &[u8], alone: bool, set: bool, id: u64, tag: u64) -> Found
+    requires { ⌜ SetOf (formOf alone) (now s) ⌝ }
+    ensures { λ r. ⌜ FoundIs (formOf alone) (holderOf set id) tag (now (s .entry)) r ⌝ }
+{
+    if set {
+        return Found::There(set_place(s, alone, tag));
+    }
+    target_place(s, alone, id, tag)
+}

@@ -1,4 +1,0 @@
-pub mod Splices
-pub mod Seeks
-pub mod Entries
-pub mod Packs

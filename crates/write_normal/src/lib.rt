@@ -1,11 +1,9 @@
 // The entries of a packet's set in normal form, written into a lent output as the item walk and the pack walk go over a packet that was checked.
 ghost use mathlib.Core.Path.{_≡_};
-ghost use Prim.Native.Nat.{_+_, _≤_, _<_};
 ghost use lib.ListN.{length};
-ghost use lib.Seq.{sets};
 ghost use Rattle.items.specs.Meet.{formOf, levelOf, itemTable, glanceTable};
-ghost use Rattle.write_normal.specs.Meet.{itemNormal, InnerRun, levelNormal, seriesNormal};
-ghost use Rattle.tally.specs.Runs.{Ran, levelRun, seriesRun};
+ghost use Rattle.stores.specs.Puts.{Puts, Fills};
+ghost use Rattle.write_normal.specs.Meet.{itemNormal, levelNormal, seriesNormal, ItemAsked, LevelAsked, SeriesAsked};
 use heads::Head;
 use tally::Walked;
 
@@ -13,8 +11,8 @@ use tally::Walked;
 
 // An item in normal form, from its value as it stands in the packet; where it ends. The set's checksum has no place.
 pub fn put_normal(table: &[u32], out: &mut [u8], at: usize, set: bool, tag: u64, v: &[u8]) -> usize
-    requires { ⌜ (now table ≡ itemTable) × ((tag ≤ 16383) × (0 < length (now v)) × (length (now v) ≤ 8192) × (at + length (itemNormal (levelOf set) tag (now v)) ≤ length (now out))) ⌝ }
-    ensures { λ r. ⌜ (r ≡ at + length (itemNormal (levelOf set) tag (now (v .entry)))) × (now (out .exit) ≡ sets (now (out .entry)) at (itemNormal (levelOf set) tag (now (v .entry)))) ⌝ }
+    requires { ⌜ (now table ≡ itemTable) × ItemAsked (levelOf set) tag (now v) at (length (now out)) ⌝ }
+    ensures { λ r. ⌜ Puts (now (out .entry)) at (itemNormal (levelOf set) tag (now (v .entry))) r (now (out .exit)) ⌝ }
 {
     if set {
         if tag == 1 {
@@ -39,8 +37,8 @@ pub fn item_normal(
     bits: &mut [u64; 64],
     out: &mut [u8],
 ) -> usize
-    requires { ⌜ (now table ≡ itemTable) × ((length (now s) ≤ 8192) × Ran (levelRun (levelOf set) (formOf alone) (now s)) × (inner ≤ 65536) × InnerRun inner (levelRun (levelOf set) (formOf alone) (now s)) × (length (levelNormal (levelOf set) (formOf alone) (now s)) ≤ length (now out))) × (now glances ≡ glanceTable) ⌝ }
-    ensures { λ r. ⌜ (r ≡ length (levelNormal (levelOf set) (formOf alone) (now (s .entry)))) × (now (out .exit) ≡ sets (now (out .entry)) 0 (levelNormal (levelOf set) (formOf alone) (now (s .entry)))) ⌝ }
+    requires { ⌜ (now table ≡ itemTable) × LevelAsked (levelOf set) (formOf alone) (now s) inner (length (now out)) × (now glances ≡ glanceTable) ⌝ }
+    ensures { λ r. ⌜ Fills (now (out .entry)) (levelNormal (levelOf set) (formOf alone) (now (s .entry))) r (now (out .exit)) ⌝ }
 {
     let mut p: usize = 0;
     let mut k: usize = 0;
@@ -77,8 +75,8 @@ pub fn pack_normal(
     bits: &mut [u64; 64],
     out: &mut [u8],
 ) -> usize
-    requires { ⌜ (now table ≡ itemTable) × ((length (now s) ≤ 8192) × Ran (seriesRun (formOf alone) (now s)) × (length (seriesNormal (formOf alone) (now s)) ≤ length (now out))) × (now glances ≡ glanceTable) ⌝ }
-    ensures { λ r. ⌜ (r ≡ length (seriesNormal (formOf alone) (now (s .entry)))) × (now (out .exit) ≡ sets (now (out .entry)) 0 (seriesNormal (formOf alone) (now (s .entry)))) ⌝ }
+    requires { ⌜ (now table ≡ itemTable) × SeriesAsked (formOf alone) (now s) (length (now out)) × (now glances ≡ glanceTable) ⌝ }
+    ensures { λ r. ⌜ Fills (now (out .entry)) (seriesNormal (formOf alone) (now (s .entry))) r (now (out .exit)) ⌝ }
 {
     let mut p: usize = 0;
     let mut k: usize = 0;

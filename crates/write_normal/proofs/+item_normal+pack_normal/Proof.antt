@@ -11,7 +11,8 @@ use Rattle.write_laws.proofs.Writing.{each}
 use Rattle.write_laws.proofs.Entries.{entry-fault, entry-room}
 use Rattle.write_laws.proofs.Packs.{series-start, series-done, pack-fault, pack-room, items-asked}
 use Rattle.write_normal.specs.Meet.{packNormal}
-use Rattle.write_normal.proofs.Turns.{LevelNormals, level-begins, level-room, level-ends, NormalEntry, one-asked, one-more, head-asked, series-behind, series-asked, series-more, SeriesNormals, NormalPack, no-fault, body-few, pack-asked, items-behind, level-asked, items-more, copy-asked, copied-more}
+use Rattle.write_normal.proofs.Turns.{LevelNormals, level-begins, level-room, level-ends, NormalEntry, one-asked, one-more, head-asked, series-behind, series-asked, series-more}
+use Rattle.write_normal.proofs.Turns.{SeriesNormals, NormalPack, no-fault, body-few, pack-asked, items-behind, level-asked, items-more, copy-asked, copied-more}
 use Rattle.write_normal.proofs.item_normal.Reads as item-normal
 use Rattle.write_normal.proofs.item_normal.Kinds as item-normal-kinds
 use Rattle.write_normal.proofs.+item_normal+pack_normal.Lts-item_normal as item-normal-lts
@@ -63,23 +64,47 @@ item-normal-Inv-loop table glances s set alone inner bits₀ out₀ p₀ k₀ bi
 abbrev item-normal-μ-loop : item-normal-lts.MeasureT-loop
 item-normal-μ-loop table glances s set alone inner bits₀ out₀ p₀ k₀ bits out p k = length s - p
 
+-- the places: an entry's head, whether it is the series, and the series' head stored
+abbrev ItemHead : ℕ → Type 0
+ItemHead t = item-normal-lts.After-h (item-claims t) (item-normal-at t) item-normal.Post item-normal-Inv-loop item-normal-μ-loop
+
+abbrev item-start : (t : ℕ) → ItemHead t → item-normal-lts.Start (item-claims t) (item-normal-at t) item-normal.Post item-normal-Inv-loop item-normal-μ-loop
+item-start t a = a .before .before .before .before .before .before .before .before .before .before
+
+abbrev item-loop : (t : ℕ) → ItemHead t → item-normal-lts.At-loop (item-claims t) (item-normal-at t) item-normal.Post item-normal-Inv-loop item-normal-μ-loop
+item-loop t a = a .before .before .before .before .before
+
+abbrev Series : ℕ → Type 0
+Series t = item-normal-lts.Then1 (item-claims t) (item-normal-at t) item-normal.Post item-normal-Inv-loop item-normal-μ-loop
+
+abbrev series-head : (t : ℕ) → Series t → ItemHead t
+series-head t a = a .before .before .before
+
+abbrev SeriesFront : ℕ → Type 0
+SeriesFront t = item-normal-lts.After-put-series (item-claims t) (item-normal-at t) item-normal.Post item-normal-Inv-loop item-normal-μ-loop
+
+abbrev front-series : (t : ℕ) → SeriesFront t → Series t
+front-series t a = a .before .before
+
 -- the entry at the head that was read
-item-here : (t : ℕ) (a : item-normal-lts.After-h (item-claims t) (item-normal-at t) item-normal.Post item-normal-Inv-loop item-normal-μ-loop)
-    → NormalEntry (a .before .before .before .before .before .before .before .before .before .before .args .inner) (a .before .before .before .before .before .before .before .before .before .before .args .set) (formOf (a .before .before .before .before .before .before .before .before .before .before .args .alone)) (a .before .before .before .before .before .before .before .before .before .before .args .s .now) (a .before .before .before .before .before .before .before .before .before .before .args .out .now)
-    (a .before .before .before .before .before .loop .out) (a .before .before .before .before .before .loop .p) (a .before .before .before .before .before .loop .k) (a .h .given .0 .0) (a .h .given .0 .1 .0) (a .h .given .0 .1 .1 .0) (a .h .given .0 .1 .1 .1 .0)
-item-here t a = record {
-  is = record {
-    going = a .before .before .before .before .before .loop .inv;
-    here = a .before .before .before .before .loop-test .taken;
-    head = _;
-    reads = a .before .before .item-head .ensures;
-    whole = a .h .given .1;
-    bytes = λ i. a .before .before .before .before .before .before .before .shared-slice-known3 .given i .fits;
-    most = a .before .before .before .before .before .before .before .before .before .before .pre .1 .1 .0;
-    room = level-room (a .before .before .before .before .before .before .before .before .before .before .args .inner) (a .before .before .before .before .before .before .before .before .before .before .args .set) (formOf (a .before .before .before .before .before .before .before .before .before .before .args .alone)) (a .before .before .before .before .before .before .before .before .before .before .args .s .now) (a .before .before .before .before .before .before .before .before .before .before .args .out .now) (a .before .before .before .before .before .before .before .before .before .before .pre .1 .1 .3) (a .before .before .before .before .before .before .before .before .before .before .pre .1 .1 .4);
-  };
-  few = a .before .before .before .before .before .before .before .before .before .before .pre .1 .1 .2;
-}
+item-here : (t : ℕ) (a : ItemHead t)
+    → NormalEntry (item-start t a .args .inner) (item-start t a .args .set) (formOf (item-start t a .args .alone)) (item-start t a .args .s .now) (item-start t a .args .out .now)
+    (item-loop t a .loop .out) (item-loop t a .loop .p) (item-loop t a .loop .k) (a .h .given .0 .0) (a .h .given .0 .1 .0) (a .h .given .0 .1 .1 .0) (a .h .given .0 .1 .1 .1 .0)
+item-here t a =
+    let i = item-start t a in
+    record {
+      is = record {
+        going = item-loop t a .loop .inv;
+        here = a .before .before .before .before .loop-test .taken;
+        head = _;
+        reads = a .before .before .item-head .ensures;
+        whole = a .h .given .1;
+        bytes = λ j. item-loop t a .before .before .shared-slice-known3 .given j .fits;
+        most = i .pre .1 .1 .0;
+        room = level-room (i .args .inner) (i .args .set) (formOf (i .args .alone)) (i .args .s .now) (i .args .out .now) (i .pre .1 .1 .3) (i .pre .1 .1 .4);
+      };
+      few = i .pre .1 .1 .2;
+    }
 
 item-normal-loop-holds : (t : ℕ) → item-normal-lts.Need-loop-holds (item-claims t) (item-normal-at t) item-normal.Post item-normal-Inv-loop item-normal-μ-loop
 item-normal-loop-holds t c = level-begins _ _ _ _ _ (c .before .before .before .before .pre .1 .1 .1)
@@ -133,19 +158,34 @@ item-normal-part-pack-normal-end : (t : ℕ) → item-normal-lts.Need-part-pack-
 item-normal-part-pack-normal-end t c = omega (arith, entry-room (item-here t (c .before .before .before .before .before .before .before) .is))
 
 item-normal-sub-pack-normal-2 : (t : ℕ) → item-normal-lts.Need-sub-pack-normal-2 (item-claims t) (item-normal-at t) item-normal.Post item-normal-Inv-loop item-normal-μ-loop
-item-normal-sub-pack-normal-2 t c = series-behind (item-here t (c .before .before .before .before .before .before .before .before .before)) (c .before .before .before .before .before .before .before .is-series .ensures) (c .before .before .before .before .before .before .if1 .taken) (c .before .before .before .before .put-series .ensures)
+item-normal-sub-pack-normal-2 t c =
+    let m = c .before .before .before .before in
+    let a = front-series t m in
+    series-behind (item-here t (series-head t a)) (a .before .is-series .ensures) (a .if1 .taken) (m .put-series .ensures)
 
 item-normal-part-pack-normal-start-2 : (t : ℕ) → item-normal-lts.Need-part-pack-normal-start-2 (item-claims t) (item-normal-at t) item-normal.Post item-normal-Inv-loop item-normal-μ-loop
-item-normal-part-pack-normal-start-2 t c = series-behind (item-here t (c .before .before .before .before .before .before .before .before .before)) (c .before .before .before .before .before .before .before .is-series .ensures) (c .before .before .before .before .before .before .if1 .taken) (c .before .before .before .before .put-series .ensures)
+item-normal-part-pack-normal-start-2 t c =
+    let m = c .before .before .before .before in
+    let a = front-series t m in
+    series-behind (item-here t (series-head t a)) (a .before .is-series .ensures) (a .if1 .taken) (m .put-series .ensures)
 
 item-normal-part-pack-normal-end-2 : (t : ℕ) → item-normal-lts.Need-part-pack-normal-end-2 (item-claims t) (item-normal-at t) item-normal.Post item-normal-Inv-loop item-normal-μ-loop
 item-normal-part-pack-normal-end-2 t c = search needs
 
 item-normal-pack-normal-requires : (t : ℕ) → item-normal-lts.Need-pack-normal-requires (item-claims t) (item-normal-at t) item-normal.Post item-normal-Inv-loop item-normal-μ-loop
-item-normal-pack-normal-requires t c κs = (omega (arith, series-deep (c .before .before .before .before .before .before .before .before .before .before .before .before .before .before .before .before .before .before .before .before .args .set) (c .before .before .before .before .before .before .before .before .before .before .h .given .0 .0) (c .before .before .before .before .before .before .before .before .is-series .ensures) (c .before .before .before .before .before .before .before .if1 .taken), c .before .before .before .before .before .before .before .before .before .before .before .before .before .before .before .before .before .before .before .before .pre .0), (c .before .before .before .before .before .before .before .before .before .before .before .before .before .before .before .before .before .before .before .before .pre .1 .0, series-asked (item-here t (c .before .before .before .before .before .before .before .before .before .before)) (c .before .before .before .before .before .before .before .before .is-series .ensures) (c .before .before .before .before .before .before .before .if1 .taken) (c .before .before .before .before .before .put-series .ensures), c .before .before .before .before .before .before .before .before .before .before .before .before .before .before .before .before .before .before .before .before .pre .1 .2))
+item-normal-pack-normal-requires t c κs =
+    let m = c .before .before .before .before .before in
+    let a = front-series t m in
+    let h = series-head t a in
+    let i = item-start t h in
+    (omega (arith, series-deep (i .args .set) (h .h .given .0 .0) (a .before .is-series .ensures) (a .if1 .taken), i .pre .0), (i .pre .1 .0, series-asked (item-here t (series-head t a)) (a .before .is-series .ensures) (a .if1 .taken) (m .put-series .ensures), i .pre .1 .2))
 
 item-normal-add-k : (t : ℕ) → item-normal-lts.Need-add-k (item-claims t) (item-normal-at t) item-normal.Post item-normal-Inv-loop item-normal-μ-loop
-item-normal-add-k t c = omega (arith, series-more (item-here t (c .before .before .before .before .before .before .before .before .before .before .before .before .before)) (c .before .before .before .before .before .before .before .before .before .before .before .is-series .ensures) (c .before .before .before .before .before .before .before .before .before .before .if1 .taken) (c .before .before .before .before .before .before .before .before .put-series .ensures) (c .before .before .pack-normal .ensures) .writes .sum, item-here t (c .before .before .before .before .before .before .before .before .before .before .before .before .before) .is .room, c .before .before .before .before .before .before .before .before .before .before .before .before .before .before .before .before .before .before .before .before .before .before .before .good)
+item-normal-add-k t c =
+    let m = c .before .before .before .before .before .before .before .before in
+    let a = front-series t m in
+    let h = series-head t a in
+    omega (arith, series-more (item-here t (series-head t a)) (a .before .is-series .ensures) (a .if1 .taken) (m .put-series .ensures) (c .before .before .pack-normal .ensures) .writes .sum, item-here t h .is .room, item-start t h .good)
 
 item-normal-sub-put-normal : (t : ℕ) → item-normal-lts.Need-sub-put-normal (item-claims t) (item-normal-at t) item-normal.Post item-normal-Inv-loop item-normal-μ-loop
 item-normal-sub-put-normal t c = omega (arith, entry-room (item-here t (c .before .before .before .before) .is))
@@ -157,13 +197,19 @@ item-normal-part-put-normal-end : (t : ℕ) → item-normal-lts.Need-part-put-no
 item-normal-part-put-normal-end t c = omega (arith, entry-room (item-here t (c .before .before .before .before) .is))
 
 item-normal-put-normal-requires : (t : ℕ) → item-normal-lts.Need-put-normal-requires (item-claims t) (item-normal-at t) item-normal.Post item-normal-Inv-loop item-normal-μ-loop
-item-normal-put-normal-requires t c κs = (c .before .before .before .before .before .before .before .before .before .before .before .before .before .before .before .pre .1 .0, one-asked (item-here t (c .before .before .before .before .before)) (c .before .before .before .is-series .ensures) (c .before .before .if1 .left))
+item-normal-put-normal-requires t c κs =
+    let a = c .before .before in
+    let h = a .before .before .before in
+    (item-start t h .pre .1 .0, one-asked (item-here t h) (a .before .is-series .ensures) (a .if1 .left))
 
 item-normal-loop-less : (t : ℕ) → item-normal-lts.Need-loop-less (item-claims t) (item-normal-at t) item-normal.Post item-normal-Inv-loop item-normal-μ-loop
 item-normal-loop-less t c = omega (arith, entry-room (item-here t (c .before .before .before .before .before .before .before .before .before .before .before .before .before) .is))
 
 item-normal-loop-again : (t : ℕ) → item-normal-lts.Need-loop-again (item-claims t) (item-normal-at t) item-normal.Post item-normal-Inv-loop item-normal-μ-loop
-item-normal-loop-again t c = series-more (item-here t (c .before .before .before .before .before .before .before .before .before .before .before .before .before)) (c .before .before .before .before .before .before .before .before .before .before .before .is-series .ensures) (c .before .before .before .before .before .before .before .before .before .before .if1 .taken) (c .before .before .before .before .before .before .before .before .put-series .ensures) (c .before .before .pack-normal .ensures)
+item-normal-loop-again t c =
+    let m = c .before .before .before .before .before .before .before .before in
+    let a = front-series t m in
+    series-more (item-here t (series-head t a)) (a .before .is-series .ensures) (a .if1 .taken) (m .put-series .ensures) (c .before .before .pack-normal .ensures)
 
 item-normal-loop-less-2 : (t : ℕ) → item-normal-lts.Need-loop-less-2 (item-claims t) (item-normal-at t) item-normal.Post item-normal-Inv-loop item-normal-μ-loop
 item-normal-loop-less-2 t c = omega (arith, entry-room (item-here t (c .before .before .before .before .before .before .before .before) .is))
@@ -185,19 +231,41 @@ pack-normal-Inv-loop table glances s alone bits₀ out₀ p₀ k₀ bits out p k
 abbrev pack-normal-μ-loop : pack-normal-lts.MeasureT-loop
 pack-normal-μ-loop table glances s alone bits₀ out₀ p₀ k₀ bits out p k = length s - p
 
+-- the places: a pack's head, what the item walk says of its items, and its own head stored
+abbrev PackHead : ℕ → Type 0
+PackHead t = pack-normal-lts.After-h (pack-claims t) (pack-normal-at t) pack-normal.Post pack-normal-Inv-loop pack-normal-μ-loop
+
+abbrev pack-start : (t : ℕ) → PackHead t → pack-normal-lts.Start (pack-claims t) (pack-normal-at t) pack-normal.Post pack-normal-Inv-loop pack-normal-μ-loop
+pack-start t a = a .before .before .before .before .before .before .before .before .before .before
+
+abbrev pack-loop : (t : ℕ) → PackHead t → pack-normal-lts.At-loop (pack-claims t) (pack-normal-at t) pack-normal.Post pack-normal-Inv-loop pack-normal-μ-loop
+pack-loop t a = a .before .before .before .before .before
+
+abbrev Walked : ℕ → Type 0
+Walked t = pack-normal-lts.After-w (pack-claims t) (pack-normal-at t) pack-normal.Post pack-normal-Inv-loop pack-normal-μ-loop
+
+abbrev walked-head : (t : ℕ) → Walked t → PackHead t
+walked-head t a = a .before .before .before .before .before .before
+
+abbrev PackFront : ℕ → Type 0
+PackFront t = pack-normal-lts.After-put-pack (pack-claims t) (pack-normal-at t) pack-normal.Post pack-normal-Inv-loop pack-normal-μ-loop
+
+abbrev front-walked : (t : ℕ) → PackFront t → Walked t
+front-walked t a = a .before .before .before .before
+
 -- the pack at the head that was read
-pack-at : (t : ℕ) (a : pack-normal-lts.After-h (pack-claims t) (pack-normal-at t) pack-normal.Post pack-normal-Inv-loop pack-normal-μ-loop)
-    → NormalPack (formOf (a .before .before .before .before .before .before .before .before .before .before .args .alone)) (a .before .before .before .before .before .before .before .before .before .before .args .s .now) (a .before .before .before .before .before .before .before .before .before .before .args .out .now)
-    (a .before .before .before .before .before .loop .out) (a .before .before .before .before .before .loop .p) (a .before .before .before .before .before .loop .k) (a .h .given .0 .0) (a .h .given .0 .1 .0) (a .h .given .0 .1 .1 .0) (a .h .given .0 .1 .1 .1 .0)
+pack-at : (t : ℕ) (a : PackHead t)
+    → NormalPack (formOf (pack-start t a .args .alone)) (pack-start t a .args .s .now) (pack-start t a .args .out .now)
+    (pack-loop t a .loop .out) (pack-loop t a .loop .p) (pack-loop t a .loop .k) (a .h .given .0 .0) (a .h .given .0 .1 .0) (a .h .given .0 .1 .1 .0) (a .h .given .0 .1 .1 .1 .0)
 pack-at t a = record {
-  going = a .before .before .before .before .before .loop .inv;
+  going = pack-loop t a .loop .inv;
   here = a .before .before .before .before .loop-test .taken;
   head = _;
   reads = a .before .before .quick-pack-head .ensures;
   whole = a .h .given .1;
-  bytes = λ i. a .before .before .before .before .before .before .before .shared-slice-known3 .given i .fits;
-  most = a .before .before .before .before .before .before .before .before .before .before .pre .1 .1 .0;
-  room = a .before .before .before .before .before .before .before .before .before .before .pre .1 .1 .2;
+  bytes = λ i. pack-loop t a .before .before .shared-slice-known3 .given i .fits;
+  most = pack-start t a .pre .1 .1 .0;
+  room = pack-start t a .pre .1 .1 .2;
 }
 
 pack-normal-loop-holds : (t : ℕ) → pack-normal-lts.Need-loop-holds (pack-claims t) (pack-normal-at t) pack-normal.Post pack-normal-Inv-loop pack-normal-μ-loop
@@ -249,7 +317,10 @@ pack-normal-part-item-walk-end : (t : ℕ) → pack-normal-lts.Need-part-item-wa
 pack-normal-part-item-walk-end t c = omega (arith, pack-room (pack-at t (c .before)))
 
 pack-normal-item-walk-requires : (t : ℕ) → pack-normal-lts.Need-item-walk-requires (pack-claims t) (pack-normal-at t) pack-normal.Post pack-normal-Inv-loop pack-normal-μ-loop
-pack-normal-item-walk-requires t c κs = (c .before .before .before .before .before .before .before .before .before .before .before .before .before .pre .1 .0, items-asked (pack-at t (c .before .before .before)) .0, c .before .before .before .before .before .before .before .before .before .before .before .before .before .pre .1 .2)
+pack-normal-item-walk-requires t c κs =
+    let a = c .before .before .before in
+    let i = pack-start t a in
+    (i .pre .1 .0, items-asked (pack-at t a) .0, i .pre .1 .2)
 
 pack-normal-enum-known-w : (t : ℕ) → pack-normal-lts.Need-enum-known-w (pack-claims t) (pack-normal-at t) pack-normal.Post pack-normal-Inv-loop pack-normal-μ-loop
 pack-normal-enum-known-w t c = search needs
@@ -279,7 +350,10 @@ pack-normal-part-copy-all-end : (t : ℕ) → pack-normal-lts.Need-part-copy-all
 pack-normal-part-copy-all-end t c = omega (arith, pack-room (pack-at t (c .before .before .before .before .before .before .before .before .before .before .before .before .before .before)))
 
 pack-normal-copy-all-requires : (t : ℕ) → pack-normal-lts.Need-copy-all-requires (pack-claims t) (pack-normal-at t) pack-normal.Post pack-normal-Inv-loop pack-normal-μ-loop
-pack-normal-copy-all-requires t c κs = copy-asked (pack-at t (c .before .before .before .before .before .before .before .before .before .before .before .before .before .before .before)) (c .before .before .before .before .before .before .before .before .before .before .before .item-walk .ensures) (c .before .before .before .before .before .before .before .before .before .w .given .1) (c .before .before .before .before .before .put-pack .ensures) (c .before .before .if1 .taken)
+pack-normal-copy-all-requires t c κs =
+    let m = c .before .before .before .before .before in
+    let w = front-walked t m in
+    copy-asked (pack-at t (walked-head t w)) (w .before .before .item-walk .ensures) (w .w .given .1) (m .put-pack .ensures) (c .before .before .if1 .taken)
 
 pack-normal-sub-item-normal : (t : ℕ) → pack-normal-lts.Need-sub-item-normal (pack-claims t) (pack-normal-at t) pack-normal.Post pack-normal-Inv-loop pack-normal-μ-loop
 pack-normal-sub-item-normal t c = omega (arith, pack-room (pack-at t (c .before .before .before .before .before .before .before .before .before .before .before .before .before)))
@@ -291,31 +365,51 @@ pack-normal-part-item-normal-end : (t : ℕ) → pack-normal-lts.Need-part-item-
 pack-normal-part-item-normal-end t c = omega (arith, pack-room (pack-at t (c .before .before .before .before .before .before .before .before .before .before .before .before .before)))
 
 pack-normal-sub-item-normal-2 : (t : ℕ) → pack-normal-lts.Need-sub-item-normal-2 (pack-claims t) (pack-normal-at t) pack-normal.Post pack-normal-Inv-loop pack-normal-μ-loop
-pack-normal-sub-item-normal-2 t c = items-behind (pack-at t (c .before .before .before .before .before .before .before .before .before .before .before .before .before .before .before)) (c .before .before .before .before .before .before .before .before .before .before .before .item-walk .ensures) (c .before .before .before .before .before .before .before .before .before .w .given .1) (c .before .before .before .before .before .put-pack .ensures)
+pack-normal-sub-item-normal-2 t c =
+    let m = c .before .before .before .before .before in
+    let w = front-walked t m in
+    items-behind (pack-at t (walked-head t w)) (w .before .before .item-walk .ensures) (w .w .given .1) (m .put-pack .ensures)
 
 pack-normal-part-item-normal-start-2 : (t : ℕ) → pack-normal-lts.Need-part-item-normal-start-2 (pack-claims t) (pack-normal-at t) pack-normal.Post pack-normal-Inv-loop pack-normal-μ-loop
-pack-normal-part-item-normal-start-2 t c = items-behind (pack-at t (c .before .before .before .before .before .before .before .before .before .before .before .before .before .before .before)) (c .before .before .before .before .before .before .before .before .before .before .before .item-walk .ensures) (c .before .before .before .before .before .before .before .before .before .w .given .1) (c .before .before .before .before .before .put-pack .ensures)
+pack-normal-part-item-normal-start-2 t c =
+    let m = c .before .before .before .before .before in
+    let w = front-walked t m in
+    items-behind (pack-at t (walked-head t w)) (w .before .before .item-walk .ensures) (w .w .given .1) (m .put-pack .ensures)
 
 pack-normal-part-item-normal-end-2 : (t : ℕ) → pack-normal-lts.Need-part-item-normal-end-2 (pack-claims t) (pack-normal-at t) pack-normal.Post pack-normal-Inv-loop pack-normal-μ-loop
 pack-normal-part-item-normal-end-2 t c = search needs
 
 pack-normal-item-normal-requires : (t : ℕ) → pack-normal-lts.Need-item-normal-requires (pack-claims t) (pack-normal-at t) pack-normal.Post pack-normal-Inv-loop pack-normal-μ-loop
-pack-normal-item-normal-requires t c κs = (omega (arith, c .before .before .before .before .before .before .before .before .before .before .before .before .before .before .before .before .before .before .before .before .before .before .before .before .before .before .pre .0), (c .before .before .before .before .before .before .before .before .before .before .before .before .before .before .before .before .before .before .before .before .before .before .before .before .before .before .pre .1 .0, level-asked (pack-at t (c .before .before .before .before .before .before .before .before .before .before .before .before .before .before .before .before)) (c .before .before .before .before .before .before .before .before .before .before .before .before .item-walk .ensures) (c .before .before .before .before .before .before .before .before .before .before .w .given .1) (c .before .before .before .before .before .before .put-pack .ensures), c .before .before .before .before .before .before .before .before .before .before .before .before .before .before .before .before .before .before .before .before .before .before .before .before .before .before .pre .1 .2))
+pack-normal-item-normal-requires t c κs =
+    let m = c .before .before .before .before .before .before in
+    let w = front-walked t m in
+    let i = pack-start t (walked-head t w) in
+    (omega (arith, i .pre .0), (i .pre .1 .0, level-asked (pack-at t (walked-head t w)) (w .before .before .item-walk .ensures) (w .w .given .1) (m .put-pack .ensures), i .pre .1 .2))
 
 pack-normal-add-k : (t : ℕ) → pack-normal-lts.Need-add-k (pack-claims t) (pack-normal-at t) pack-normal.Post pack-normal-Inv-loop pack-normal-μ-loop
-pack-normal-add-k t c = omega (arith, items-more (pack-at t (c .before .before .before .before .before .before .before .before .before .before .before .before .before .before .before .before .before .before .before)) (c .before .before .before .before .before .before .before .before .before .before .before .before .before .before .before .item-walk .ensures) (c .before .before .before .before .before .before .before .before .before .before .before .before .before .w .given .1) (c .before .before .before .before .before .before .before .before .before .put-pack .ensures) (c .before .before .item-normal .ensures) .writes .sum, pack-at t (c .before .before .before .before .before .before .before .before .before .before .before .before .before .before .before .before .before .before .before) .room, c .before .before .before .before .before .before .before .before .before .before .before .before .before .before .before .before .before .before .before .before .before .before .before .before .before .before .before .before .before .good)
+pack-normal-add-k t c =
+    let m = c .before .before .before .before .before .before .before .before .before in
+    let w = front-walked t m in
+    let h = walked-head t w in
+    omega (arith, items-more (pack-at t (walked-head t w)) (w .before .before .item-walk .ensures) (w .w .given .1) (m .put-pack .ensures) (c .before .before .item-normal .ensures) .writes .sum, pack-at t h .room, pack-start t h .good)
 
 pack-normal-loop-less : (t : ℕ) → pack-normal-lts.Need-loop-less (pack-claims t) (pack-normal-at t) pack-normal.Post pack-normal-Inv-loop pack-normal-μ-loop
 pack-normal-loop-less t c = omega (arith, pack-room (pack-at t (c .before .before .before .before .before .before .before .before .before .before .before .before .before .before .before .before .before .before)))
 
 pack-normal-loop-again : (t : ℕ) → pack-normal-lts.Need-loop-again (pack-claims t) (pack-normal-at t) pack-normal.Post pack-normal-Inv-loop pack-normal-μ-loop
-pack-normal-loop-again t c = copied-more (pack-at t (c .before .before .before .before .before .before .before .before .before .before .before .before .before .before .before .before .before .before)) (c .before .before .before .before .before .before .before .before .before .before .before .before .before .before .item-walk .ensures) (c .before .before .before .before .before .before .before .before .before .before .before .before .w .given .1) (c .before .before .before .before .before .before .before .before .put-pack .ensures) (c .before .before .before .before .before .if1 .taken) (c .before .before .copy-all .ensures)
+pack-normal-loop-again t c =
+    let m = c .before .before .before .before .before .before .before .before in
+    let w = front-walked t m in
+    copied-more (pack-at t (walked-head t w)) (w .before .before .item-walk .ensures) (w .w .given .1) (m .put-pack .ensures) (c .before .before .before .before .before .if1 .taken) (c .before .before .copy-all .ensures)
 
 pack-normal-loop-less-2 : (t : ℕ) → pack-normal-lts.Need-loop-less-2 (pack-claims t) (pack-normal-at t) pack-normal.Post pack-normal-Inv-loop pack-normal-μ-loop
 pack-normal-loop-less-2 t c = omega (arith, pack-room (pack-at t (c .before .before .before .before .before .before .before .before .before .before .before .before .before .before .before .before .before .before .before)))
 
 pack-normal-loop-again-2 : (t : ℕ) → pack-normal-lts.Need-loop-again-2 (pack-claims t) (pack-normal-at t) pack-normal.Post pack-normal-Inv-loop pack-normal-μ-loop
-pack-normal-loop-again-2 t c = items-more (pack-at t (c .before .before .before .before .before .before .before .before .before .before .before .before .before .before .before .before .before .before .before)) (c .before .before .before .before .before .before .before .before .before .before .before .before .before .before .before .item-walk .ensures) (c .before .before .before .before .before .before .before .before .before .before .before .before .before .w .given .1) (c .before .before .before .before .before .before .before .before .before .put-pack .ensures) (c .before .before .item-normal .ensures)
+pack-normal-loop-again-2 t c =
+    let m = c .before .before .before .before .before .before .before .before .before in
+    let w = front-walked t m in
+    items-more (pack-at t (walked-head t w)) (w .before .before .item-walk .ensures) (w .w .given .1) (m .put-pack .ensures) (c .before .before .item-normal .ensures)
 
 pack-normal-same-length-3 : (t : ℕ) → pack-normal-lts.Need-same-length-3 (pack-claims t) (pack-normal-at t) pack-normal.Post pack-normal-Inv-loop pack-normal-μ-loop
 pack-normal-same-length-3 t c = c .before .loop .inv .writes .same

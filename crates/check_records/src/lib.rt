@@ -1,20 +1,21 @@
 // The walks that check a sheet: one record at a time, the records of a level and the targets of the series, with the sizes of what they find.
 ghost use mathlib.Core.Path.{_≡_};
-ghost use Prim.Native.Nat.{ℕ, _^_, _≤_, _<_};
-ghost use mathlib.Core.List.{List};
+ghost use Prim.Native.Nat.{_^_, _≤_, _<_};
 ghost use mathlib.Core.Bool.{true, false};
 ghost use lib.ListN.{length, drop};
-ghost use Rattle.format.specs.Sheet.{TS, is, valueAt};
+ghost use Rattle.format.specs.Sheet.{TS, is};
 ghost use Rattle.items.specs.Meet.{formOf, levelOf, itemTable, glanceTable};
-ghost use Rattle.heads.specs.Meet.{peek, Past, Clear};
-ghost use Rattle.heads.specs.Records.{peekVal};
+ghost use Rattle.heads.specs.Meet.{peek, Clear};
 ghost use Rattle.tally.specs.Meet.{Within};
-ghost use Rattle.tally_records.specs.Meet.{pieceBy, valueWhole, seriesWhole, targetWhole, seriesOpens, targetOpens, partPiece, recordsWalk, targetsWalk};
+ghost use Rattle.tally_records.specs.Meet.{IsValue, IsSeries, IsPart, IsTarget, recordsWalk, targetsWalk};
+ghost use Rattle.tally_records.specs.Going.{RecordsFrom};
+ghost use Rattle.quick_records.specs.Going.{TargetsPassed};
+ghost use Rattle.check_records.specs.Asked.{ValueAsked, PartAsked};
 use heads::records;
 use heads::records::Field;
 use tally::Piece;
-use tally::Sizes;
 use tally::Walked;
+use tally::stages::Stage;
 
 // ---- one record; no key before p is above top or below low, and none repeats before clear
 
@@ -29,8 +30,8 @@ fn value_at(
     top: u64,
     low: u64,
 ) -> Piece
-    requires { ⌜ (now table ≡ itemTable) × (p ≤ length (now s)) × Clear (peek true false set) (now s) clear × (peek true false set (drop p (now s)) ≡ peekVal (drop p (now s))) ⌝ }
-    ensures { λ r. ⌜ ((seen : List ℕ) → Past (peek true false set) (now (s .entry)) p top low seen → r ≡ pieceBy valueWhole (valueAt (levelOf set) (formOf alone) seen (drop p (now (s .entry))))) ⌝ }
+    requires { ⌜ ValueAsked (now table) (now s) p clear set ⌝ }
+    ensures { λ r. ⌜ IsValue set (formOf alone) (now (s .entry)) p top low r ⌝ }
 {
     let t = &s[p..];
     let h = records::field_of(t, set);
@@ -66,7 +67,7 @@ fn value_at(
 // A `TS`, before its targets: 17 if no `TG` follows, 9, 14.
 fn series_at(s: &[u8], p: usize, clear: usize, alone: bool, top: u64, low: u64) -> Piece
     requires { ⌜ (p ≤ length (now s)) × Clear (peek true false true) (now s) clear × (is TS (drop p (now s)) ≡ true) ⌝ }
-    ensures { λ r. ⌜ ((seen : List ℕ) → Past (peek true false true) (now (s .entry)) p top low seen → r ≡ pieceBy seriesWhole (seriesOpens (formOf alone) seen (drop p (now (s .entry))))) ⌝ }
+    ensures { λ r. ⌜ IsSeries (formOf alone) (now (s .entry)) p top low r ⌝ }
 {
     if records::is_mark(s, p + 2, records::TG) {
         let dup = repeats::is_seen(s, p, clear, top, low, 101, true, false, true);
@@ -96,8 +97,8 @@ pub fn part_at(
     top: u64,
     low: u64,
 ) -> Piece
-    requires { ⌜ (now table ≡ itemTable) × (length (now s) ≤ 65536) × (p ≤ length (now s)) × Clear (peek true false set) (now s) clear × (now glances ≡ glanceTable) ⌝ }
-    ensures { λ r. ⌜ ((seen : List ℕ) → Past (peek true false set) (now (s .entry)) p top low seen → r ≡ partPiece (levelOf set) (formOf alone) seen (drop p (now (s .entry)))) ⌝ }
+    requires { ⌜ PartAsked (now table) (now glances) (now s) p clear set ⌝ }
+    ensures { λ r. ⌜ IsPart set (formOf alone) (now (s .entry)) p top low r ⌝ }
 {
     let g = quick_records::quick::glance_begun(glances, s, p, set, alone, top);
     if 0 < g.next {
@@ -121,24 +122,17 @@ pub fn part_at(
     value_at(table, s, p, clear, set, alone, top, low)
 }
 
-// The larger of an id and the largest before it. An id is held to the limit by this: tested alone, it would be read byte by byte.
-fn higher(top: u64, id: u64) -> u64
-    requires { ⌜ top < 2 ^ 63 ⌝ }
-    ensures { λ r. ⌜ (top ≤ r) × (id ≤ r) × (id < 2 ^ 63 → r < 2 ^ 63) ⌝ }
-{
-    if top < id { id } else { top }
-}
-
 // The `TG` at p, before its `TI`s: 17, 10. Its id stands for a tag.
 fn target_at(s: &[u8], p: usize, clear: usize, top: u64, low: u64) -> Piece
     requires { ⌜ (p ≤ length (now s)) × Clear (peek true true false) (now s) clear × (top < 2 ^ 63) ⌝ }
-    ensures { λ r. ⌜ ((seen : List ℕ) → Past (peek true true false) (now (s .entry)) p top low seen → r ≡ pieceBy targetWhole (targetOpens seen (drop p (now (s .entry))))) ⌝ }
+    ensures { λ r. ⌜ IsTarget (now (s .entry)) p top low r ⌝ }
 {
     if s.len() - p < 10 {
         return Piece::Fault(17);
     }
     let id = coding::eight_of(&s[p + 2..]);
-    if 9223372036854775807 < higher(top, id) {
+    // held to the limit by the larger: tested alone, it would be read byte by byte
+    if 9223372036854775807 < tally::larger(top, id) {
         return Piece::Fault(17);
     }
     if repeats::is_seen(s, p, clear, top, low, id, true, true, false) {
@@ -154,34 +148,27 @@ fn target_at(s: &[u8], p: usize, clear: usize, top: u64, low: u64) -> Piece
 
 // ---- walks
 
-// The records of a level: the set, or a target. A part takes as many bytes as it adds to the sheet.
+// The records of a level, the set or a target, from where a quick way over them ended.
 pub fn item_records(
     table: &[u32],
     glances: &[u32],
     s: &[u8],
     set: bool,
     alone: bool,
+    from: Stage,
     bits: &mut [u64; 64],
 ) -> Walked
-    requires { ⌜ (now table ≡ itemTable) × (length (now s) ≤ 65536) × (now glances ≡ glanceTable) ⌝ }
+    requires { ⌜ (now table ≡ itemTable) × (length (now s) ≤ 65536) × (now glances ≡ glanceTable) × RecordsFrom set (formOf alone) (now s) from ⌝ }
     ensures { λ r. ⌜ (r ≡ recordsWalk (levelOf set) (formOf alone) (now (s .entry))) × Within r (length (now (s .entry))) ⌝ }
 {
-    let mut p: usize = 0;
-    let mut sum = Sizes {
-        sheet: 0,
-        rows: 0,
-        normal: 0,
-        inner: 0,
-    };
-    let mut held = false;
-    let mut top: u64 = 0;
-    let mut low: u64 = 18446744073709551615;
+    let mut q = from;
     let mut clear: usize = 0;
-    while p < s.len() {
+    while q.at < s.len() {
+        let p = q.at;
         if !tally_records::goes_on(s, p, set) {
-            return Walked::Good { sizes: sum, held };
+            return tally::stages::walked(q);
         }
-        let a = part_at(table, glances, s, p, clear, set, alone, top, low);
+        let a = part_at(table, glances, s, p, clear, set, alone, q.top, q.low);
         let Piece::Whole {
             tag,
             from: _,
@@ -192,48 +179,41 @@ pub fn item_records(
             return tally::stop(a, p);
         };
         let w = if tally::is_series(set, tag) {
-            tally::series_of(target_records(table, glances, &s[p + 2..], alone, bits), 2)
+            let targets = &s[p + 2..];
+            let d = quick_records::targets::rising(glances, targets, alone);
+            tally::series_of(target_records(table, glances, targets, alone, d, bits), 2)
         } else {
             tally::one_item(set, tag, size)
         };
-        let Walked::Good { sizes, held: m } = w else {
+        let Walked::Good { sizes, held } = w else {
             return tally::later(w, p);
         };
-        sum = tally::weights::plus(sum, sizes);
-        held = coding::either(held, m);
-        clear = repeats::clear::after(s, p, clear, top, low, tag, true, false, set, bits);
-        top = tally::larger(top, tag);
-        low = tally::smaller(low, tag);
-        p += sizes.sheet;
+        clear = repeats::clear::after(s, p, clear, q.top, q.low, tag, true, false, set, bits);
+        q = tally_records::after(q, tag, sizes, held);
     }
-    Walked::Good { sizes: sum, held }
+    tally::stages::walked(q)
 }
 
-// The targets of the series.
+// The targets of the series, from where the quick way over them ended.
 pub fn target_records(
     table: &[u32],
     glances: &[u32],
     s: &[u8],
     alone: bool,
+    from: Stage,
     bits: &mut [u64; 64],
 ) -> Walked
-    requires { ⌜ (now table ≡ itemTable) × (length (now s) ≤ 65536) × (now glances ≡ glanceTable) ⌝ }
+    requires { ⌜ (now table ≡ itemTable) × (length (now s) ≤ 65536) × (now glances ≡ glanceTable) × TargetsPassed (formOf alone) (now s) from ⌝ }
     ensures { λ r. ⌜ (r ≡ targetsWalk (formOf alone) (now (s .entry))) × Within r (length (now (s .entry))) ⌝ }
 {
-    let q = quick_records::targets::strewn(glances, s, alone, bits);
-    let mut p = q.at;
-    let mut sum = q.sizes;
-    let mut top = q.top;
-    let mut low = q.low;
+    let mut q = quick_records::targets::noted(glances, s, alone, from, bits);
     let mut clear: usize = 0;
-    while p < s.len() {
+    while q.at < s.len() {
+        let p = q.at;
         if !records::is_mark(s, p, records::TG) {
-            return Walked::Good {
-                sizes: sum,
-                held: false,
-            };
+            return tally::stages::walked(q);
         }
-        let a = target_at(s, p, clear, top, low);
+        let a = target_at(s, p, clear, q.top, q.low);
         let Piece::Whole {
             tag: id,
             from: _,
@@ -243,37 +223,28 @@ pub fn target_records(
         else {
             return tally::stop(a, p);
         };
-        let from = p + 10;
-        let items = &s[from..];
-        let q = quick_records::quick::glance_records(glances, items, false, alone);
-        let mut sizes = q.sizes;
-        let mut held = q.held;
-        if tally_records::goes_on(items, q.at, false) {
-            let w = item_records(table, glances, items, false, alone, bits);
+        let items = &s[p + 10..];
+        let d = quick_records::quick::glance_records(glances, items, false, alone);
+        let mut sizes = d.sizes;
+        let mut held = d.held;
+        // no enum goes through memory where all are told at a glance
+        if tally_records::goes_on(items, d.at, false) {
+            let w = item_records(table, glances, items, false, alone, d, bits);
             let Walked::Good { sizes: z, held: m } = w else {
-                return tally::later(w, from);
+                return tally::later(w, p + 10);
             };
             sizes = z;
             held = m;
         }
-        if coding::either(!alone, held) {
-            sum = tally::weights::plus(
-                sum,
-                tally::weights::pack_sizes(coding::widths::oid_width(id), sizes),
-            );
-            clear = repeats::clear::after(s, p, clear, top, low, id, true, true, false, bits);
-            top = higher(top, id);
-            low = tally::smaller(low, id);
-            p = from + sizes.sheet;
-        } else {
+        if !coding::either(!alone, held) {
             return Walked::Bad {
                 number: 14,
                 place: p,
             };
         }
+        let sum = tally::weights::pack_sizes(coding::widths::oid_width(id), sizes);
+        clear = repeats::clear::after(s, p, clear, q.top, q.low, id, true, true, false, bits);
+        q = tally_records::after(q, id, sum, false);
     }
-    Walked::Good {
-        sizes: sum,
-        held: false,
-    }
+    tally::stages::walked(q)
 }

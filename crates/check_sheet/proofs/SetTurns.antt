@@ -1,4 +1,4 @@
--- The quick way's turn over the series that ends the set: it is read as the walk over the set's records reads it.
+-- The turn over the series that stands next in the set: it is read as the walk over the set's records reads it.
 use mathlib.Core.Path.{_≡_, refl, sym, ap}
 use Prim.Native.Nat.{ℕ, _+_, _≤_, _<_}
 use native.Mathlib.Omega.{arith}
@@ -12,67 +12,64 @@ use Rattle.format.specs.Sheet.{IT, TS, TG, is}
 use Rattle.format.proofs.sheets.Values.{mark-says}
 use Rattle.coding.proofs.Rooms.{tail-part}
 use Rattle.items.proofs.Tests.{standing-0}
-use Rattle.heads.specs.Meet.{peek, Past}
 use Rattle.tally.specs.declared.Piece.the-variants as piece
-use Rattle.tally.specs.declared.Sizes.{Sizes}
 use Rattle.tally.specs.declared.stages.Stage.{Stage}
+use Rattle.tally.specs.declared.Walked.{Walked}
 use Rattle.tally.specs.declared.Walked.the-variants.{Good}
-use Rattle.tally.specs.Meet.{seriesSizes, plusSizes, Small}
-use Rattle.tally.specs.Going.{stageAt}
+use Rattle.tally.specs.Meet.{seriesSizes, seriesFrom, Small, Within}
 use Rattle.tally.proofs.Walks.{few-more}
-use Rattle.tally.proofs.Turns.{turn-done}
-use Rattle.tally.proofs.Begins.{begun-later, or-false}
-use Rattle.tally_records.specs.Meet.{partPiece}
-use Rattle.tally_records.specs.Going.{RecordsGoing}
-use Rattle.quick_records.specs.Going.{TargetsPassed}
+use Rattle.tally.proofs.Turns.{told-as, turn-done}
+use Rattle.tally.proofs.Begins.{begun-later}
+use Rattle.tally_records.specs.Meet.{IsPart, recordsWalk, targetsWalk}
+use Rattle.tally_records.specs.Going.{After}
 use Rattle.tally_records.proofs.Opens.{series-whole, part-series}
-use Rattle.tally_records.proofs.PartTurns.{ts-room, targetsAt, PartAt, PartTold, series-told, good-small, part-more}
+use Rattle.tally_records.proofs.PartTurns.{ts-room, targetsAt, PartAt, PartTold, series-told, part-asks, part-more}
+use Rattle.quick_records.specs.Going.{TargetsPassed}
+use Rattle.check_sheet.specs.Sets.{SetAsked, SeriesNext}
 
--- a `TS` that the code has found at p, told to be new
-pub record SeriesAt (f : Form) (s : List ℕ) (p : ℕ) (sum : Sizes) (held : Bool) (top low : ℕ) : Type 0 where
-  pub going : RecordsGoing true f s p sum held top low
-  pub marked : is TS (drop p s) ≡ true
-  pub later : 0 < p
-  pub above : top < 101
-  pub bytes : Bytes s
-  pub most : length s ≤ 65536
+module _ {f : Form} {glances s : List ℕ} {q : Stage} (k : SetAsked f glances s q) (n : SeriesNext s q) (bytes : Bytes s) where
+  pub room : q .at + 2 ≤ length s
+  room = ts-room s (q .at) (n .marked)
 
-module _ {f : Form} {s : List ℕ} {p : ℕ} {sum : Sizes} {held : Bool} {top low : ℕ} (i : SeriesAt f s p sum held top low) where
-  pub room : p + 2 ≤ length s
-  room = ts-room s p (i .marked)
+  targets-long : length (targetsAt s (q .at)) + (q .at + 2) ≡ length s
+  targets-long = omega (arith, ap length (tail-part (q .at + 2) s), length-drop (q .at + 2) s, room)
 
-  targets-long : length (targetsAt s p) + (p + 2) ≡ length s
-  targets-long = omega (arith, ap length (tail-part (p + 2) s), length-drop (p + 2) s, room)
+  pub targets-small : length (targetsAt s (q .at)) ≤ 65536
+  targets-small = omega (arith, targets-long, k .most)
 
-  -- all of them were walked
-  module _ (q : Stage) (g : TargetsPassed f (targetsAt s p) q) (all : (0 < q .at) × (q .at ≡ length (targetsAt s p))) where
-    series-piece : (seen : List ℕ) → Past (peek true false true) s p top low seen → piece.Whole 101 2 0 0 ≡ partPiece set f seen (drop p s)
-    unfolding mayStand
-    series-piece seen past =
-        part-series f seen (drop p s) {b = true} refl {x = is IT (drop p s)} refl (ap (is IT) (mark-says TS (drop p s) (i .marked))) {y = is TS (drop p s)} refl (i .marked)
-        (series-whole f s p {x = is TG (drop (p + 2) s)} refl seen (rw tail-part at (g .3 (all .0))) 0
-        (standing-0 set f seen 101 true (sym (past .under 101 (i .above))) refl (eqb p 0) (sym (past .first)) (sym (begun-later true f p 101 (i .later)))) refl)
+  series-piece : IsPart true f s (q .at) (q .top) (q .low) (piece.Whole 101 2 0 0)
+  unfolding mayStand
+  series-piece seen past =
+      part-series f seen (drop (q .at) s) {b = true} refl {x = is IT (drop (q .at) s)} refl (ap (is IT) (mark-says TS (drop (q .at) s) (n .marked))) {y = is TS (drop (q .at) s)} refl (n .marked)
+      (series-whole f s (q .at) {x = is TG (drop (q .at + 2) s)} refl seen (n .opens) 0
+      (standing-0 set f seen 101 true (sym (past .under 101 (n .above))) refl (eqb (q .at) 0) (sym (past .first)) (sym (begun-later true f (q .at) 101 (n .later)))) refl)
 
-    part : PartAt true f s p sum held top low 101 2 0 0
-    part = record {
-      going = i .going;
-      here = omega (arith, room);
-      more = refl;
-      it = piece.Whole 101 2 0 0;
-      told = series-piece;
-      whole = refl;
-      bytes = i .bytes;
-      most = i .most;
-    }
+  pub series-part : PartAt true f s q 101 2 0 0
+  series-part = record {
+    going = k .going;
+    here = omega (arith, room);
+    more = refl;
+    it = piece.Whole 101 2 0 0;
+    told = series-piece;
+    whole = refl;
+    bytes = bytes;
+    most = k .most;
+  }
 
-    told-so : PartTold part (Good (seriesSizes (q .sizes)) false)
-    told-so = series-told part {x = true} refl refl (turn-done (g .0) (omega (arith, all .1))) refl
+  -- y is the answer on its targets, w on it
+  pub series-is : {y : Walked} → (y ≡ targetsWalk f (targetsAt s (q .at))) × Within y (length (targetsAt s (q .at))) → {w : Walked} → w ≡ seriesFrom 2 y → PartTold series-part w
+  series-is ey ew = series-told series-part {x = true} refl refl ey ew
 
-    -- what `after_series` asks for, and what it hands back
-    pub series-asks : Small (q .sizes) × Small sum × Small (seriesSizes (q .sizes))
-    series-asks = let (a, b) = good-small part told-so refl in (few-more (q .sizes) (q .at) 65536 (omega (arith, all .1, targets-long, i .most)) (g .0 .few), a, b)
+  -- all its targets are told at a glance, to the set's end
+  module _ {d : Stage} (t : TargetsPassed f (targetsAt s (q .at)) d) (all : d .at ≡ length (targetsAt s (q .at))) where
+    told : PartTold series-part (Good (seriesSizes (d .sizes)) false)
+    told = series-is (turn-done (t .0) (omega (arith, all))) refl
 
-    pub series-goes : {r : Stage} → (r .low ≤ low) × (r .low ≤ 101) × (r ≡ stageAt (length s) (plusSizes sum (seriesSizes (q .sizes))) held 101 (r .low)) → RecordsGoing true f s (r .at) (r .sizes) (r .held) (r .top) (r .low)
-    series-goes (l, m, e) =
-        let n : length s ≡ p + seriesSizes (q .sizes) .sheet = omega (arith, g .2, all .1, targets-long) in
-        rw (e, n) (part-more part told-so refl refl (or-false held refl) (omega (arith, i .above), omega arith) (l, m))
+    pub all-small : Small (d .sizes)
+    all-small = few-more (d .sizes) (d .at) 65536 (omega (arith, all, targets-small)) (t .0 .few)
+
+    pub all-asks : Small (q .sizes) × Small (seriesSizes (d .sizes)) × (q .at + (2 + d .sizes .sheet) ≤ 65536)
+    all-asks = part-asks series-part told refl
+
+    pub all-walked : {r : Stage} → After q 101 (seriesSizes (d .sizes)) false r → {v : Walked} → v ≡ Good (r .sizes) (r .held) → (v ≡ recordsWalk set f s) × Within v (length s)
+    all-walked a ev = told-as (length s) ev (turn-done (part-more series-part told refl a) (omega (arith, a .at-is, t .2, all, targets-long)))

@@ -2,20 +2,22 @@
 ghost use mathlib.Core.Path.{_≡_};
 ghost use Prim.Native.Nat.{_≤_, _<_};
 ghost use mathlib.Core.Bool.{true};
-ghost use lib.ListN.{length, take, drop};
-ghost use Rattle.format.specs.Coding.{bytesNumber};
+ghost use lib.ListN.{length};
 ghost use Rattle.format.specs.Table.{set};
 ghost use Rattle.format.specs.Sheet.{unsheet};
 ghost use Rattle.items.specs.Meet.{formOf, glanceTable};
 ghost use Rattle.tally.specs.Meet.{Within};
 ghost use Rattle.tally.specs.Going.{Begun};
 ghost use Rattle.tally_records.specs.Meet.{recordsWalk};
-ghost use Rattle.tally_records.specs.Going.{RecordsGoing};
+ghost use Rattle.tally_records.specs.Going.{RecordsFrom};
+ghost use Rattle.quick_records.specs.Going.{TargetsPassed, firstTag};
 ghost use Rattle.check_sheet.specs.Meet.{sheetedOf, partsFault};
+ghost use Rattle.check_sheet.specs.Sets.{SetAsked, SeriesNext, targetsAfter};
 use heads::records;
 use quick_records::quick;
 use quick_records::targets;
 use tally::Walked;
+use tally::stages;
 use tally::stages::Stage;
 
 // Its form, the bytes of its packet's set but for the checksum, and those of the series' packs; or the refusal.
@@ -33,51 +35,9 @@ pub enum Sheeted {
 
 // ---- its set
 
-// Whether the quick way went over all of so many bytes of targets, and there are any.
-fn is_all(w: Stage, n: usize) -> bool
-    ensures { λ r. ⌜ (r ≡ true → (0 < w .at) × (w .at ≡ n)) ⌝ }
-{
-    if w.at == 0 {
-        return false;
-    }
-    w.at == n
-}
-
-// On over the series, if it ends the set and all its targets are told at a glance. It is told to be new: items stand before it, and none has
-// a tag so high.
-fn series(glances: &[u32], s: &[u8], alone: bool, q: Stage) -> Stage
-    requires { ⌜ (now glances ≡ glanceTable) × (length (now s) ≤ 65536) × RecordsGoing true (formOf alone) (now s) (q .at) (q .sizes) (q .held) (q .top) (q .low) ⌝ }
-    ensures { λ r. ⌜ RecordsGoing true (formOf alone) (now (s .entry)) (r .at) (r .sizes) (r .held) (r .top) (r .low) ⌝ }
-{
-    let p = q.at;
-    if !records::is_mark(s, p, records::TS) {
-        return q;
-    }
-    if p == 0 {
-        return q;
-    }
-    if 100 < q.top {
-        return q;
-    }
-    let t = &s[p + 2..];
-    let mut none = [0u64; 1];
-    let w = targets::many(glances, t, alone, &mut none[0..0]);
-    if is_all(w, t.len()) {
-        return tally::stages::after_series(q, s.len(), w.sizes);
-    }
-    if targets::is_between(t, w) {
-        let mut bits = [0u64; 64];
-        let d = targets::strewn(glances, &t[0..], alone, &mut bits);
-        if is_all(d, t.len()) {
-            return tally::stages::after_series(q, s.len(), d.sizes);
-        }
-    }
-    q
-}
-
 // Whether the first record may begin a set.
 fn starts(s: &[u8], alone: bool) -> bool
-    ensures { λ r. ⌜ (r ≡ true → Begun true (formOf alone) 0 (bytesNumber (take 2 (drop 2 (now (s .entry)))))) ⌝ }
+    ensures { λ r. ⌜ (r ≡ true → Begun true (formOf alone) 0 (firstTag (now (s .entry)))) ⌝ }
 {
     if s.len() < 4 {
         return false;
@@ -85,43 +45,94 @@ fn starts(s: &[u8], alone: bool) -> bool
     items::begins(true, alone, coding::number_of(&s[2..], 2), true)
 }
 
-// The set from its start, as far as it is told at a glance.
+// The set from its start, as far as its records are told at a glance.
 fn set_glanced(glances: &[u32], s: &[u8], alone: bool) -> Stage
     requires { ⌜ (now glances ≡ glanceTable) × (length (now s) ≤ 65536) ⌝ }
-    ensures { λ r. ⌜ RecordsGoing true (formOf alone) (now (s .entry)) (r .at) (r .sizes) (r .held) (r .top) (r .low) ⌝ }
+    ensures { λ r. ⌜ RecordsFrom true (formOf alone) (now (s .entry)) r ⌝ }
 {
-    if !starts(s, alone) {
-        return targets::passed(0, 0, 0, 0, 0);
+    if starts(s, alone) {
+        return quick::glance_records(glances, s, true, alone);
     }
-    series(
-        glances,
-        s,
-        alone,
-        quick::glance_records(glances, s, true, alone),
-    )
+    stages::stage_at(0, tally::weights::nothing(), false, 0, 18446744073709551615)
 }
 
-// The records of the set one by one, from its start: what the walks are lent is laid out here, so that a sheet passed at a glance has none of it.
-fn set_anew(glances: &[u32], s: &[u8], alone: bool) -> Walked
-    requires { ⌜ (now glances ≡ glanceTable) × (length (now s) ≤ 65536) ⌝ }
+// Whether the series stands next, a target in it, and is told to be new: items stand before it, and none has a tag so high.
+fn is_series_next(s: &[u8], q: Stage) -> bool
+    ensures { λ r. ⌜ (r ≡ true → SeriesNext (now (s .entry)) q) ⌝ }
+{
+    let p = q.at;
+    if p == 0 {
+        return false;
+    }
+    if 100 < q.top {
+        return false;
+    }
+    if !records::is_mark(s, p, records::TS) {
+        return false;
+    }
+    records::is_mark(s, p + 2, records::TG)
+}
+
+// The set from its series on, one by one from where the quick way over its targets ended: what the walks are lent is laid out here, so that a
+// sheet passed at a glance has none of it. A refusal among the targets is the set's.
+fn series_rest(glances: &[u32], s: &[u8], alone: bool, q: Stage, d: Stage) -> Walked
+    requires { ⌜ SetAsked (formOf alone) (now glances) (now s) q × SeriesNext (now s) q × TargetsPassed (formOf alone) (targetsAfter (now s) q) d ⌝ }
     ensures { λ r. ⌜ (r ≡ recordsWalk set (formOf alone) (now (s .entry))) × Within r (length (now (s .entry))) ⌝ }
 {
     let table = items::table();
     let mut bits = [0u64; 64];
-    check_records::item_records(&table, glances, s, true, alone, &mut bits)
+    let p = q.at;
+    let w = tally::series_of(
+        check_records::target_records(&table, glances, &s[p + 2..], alone, d, &mut bits),
+        2,
+    );
+    let Walked::Good { sizes, held } = w else {
+        return tally::later(w, p);
+    };
+    let after = tally_records::after(q, 101, sizes, held);
+    check_records::item_records(&table, glances, s, true, alone, after, &mut bits)
 }
 
-// The records of the set. Most sets are passed at a glance, to the end of their series; any other is walked from its start.
+// The set from its series on, which stands next. Most sets end with it, its targets all told at a glance.
+fn series(glances: &[u32], s: &[u8], alone: bool, q: Stage) -> Walked
+    requires { ⌜ SetAsked (formOf alone) (now glances) (now s) q × SeriesNext (now s) q ⌝ }
+    ensures { λ r. ⌜ (r ≡ recordsWalk set (formOf alone) (now (s .entry))) × Within r (length (now (s .entry))) ⌝ }
+{
+    let from = q.at + 2;
+    let t = &s[from..];
+    let d = targets::rising(glances, t, alone);
+    if d.at == t.len() {
+        let sizes = tally::weights::series_sizes(d.sizes);
+        return stages::walked(tally_records::after(q, 101, sizes, false));
+    }
+    // lent on as a part, so that the compiler keeps the slice itself in registers
+    series_rest(glances, &s[0..], alone, q, d)
+}
+
+// The records of the set one by one, from where the quick way over them ended; what they are lent is laid out here too.
+fn set_rest(glances: &[u32], s: &[u8], alone: bool, q: Stage) -> Walked
+    requires { ⌜ SetAsked (formOf alone) (now glances) (now s) q ⌝ }
+    ensures { λ r. ⌜ (r ≡ recordsWalk set (formOf alone) (now (s .entry))) × Within r (length (now (s .entry))) ⌝ }
+{
+    let table = items::table();
+    let mut bits = [0u64; 64];
+    check_records::item_records(&table, glances, s, true, alone, q, &mut bits)
+}
+
+// The records of the set. Most sets are passed at a glance, to the end of their series.
 fn set_records(glances: &[u32], s: &[u8], alone: bool) -> Walked
     requires { ⌜ (now glances ≡ glanceTable) × (length (now s) ≤ 65536) ⌝ }
     ensures { λ r. ⌜ (r ≡ recordsWalk set (formOf alone) (now (s .entry))) × Within r (length (now (s .entry))) ⌝ }
 {
     let q = set_glanced(glances, s, alone);
     if q.at == s.len() {
-        return tally::stages::walked(q);
+        return stages::walked(q);
     }
-    // lent on as a part, so that the compiler keeps the slice itself in registers
-    set_anew(glances, &s[0..], alone)
+    if is_series_next(s, q) {
+        return series(glances, s, alone, q);
+    }
+    // as a part here too
+    set_rest(glances, &s[0..], alone, q)
 }
 
 // ---- the whole

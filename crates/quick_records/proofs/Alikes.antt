@@ -76,10 +76,11 @@ pub laying-more : {f : Form} {m a : List ℕ} {p count : ℕ} {held : Bool} {top
     → Laying f m′ a next (count + 1) held′ tag
 laying-more {p = p} l {next = next} g bytes most long masked ey em = record {
   long = long;
-  own = glance-more g refl (l .own) (l .few) bytes most ey em;
+  own = glance-more g refl (l .own) (omega arith) (l .few) bytes most ey em;
   few = omega (arith, l .few, glance-next g);
   walked = λ r b by mo to h.
       let after = glance-next g in
       let k = masked (omega (arith, r, after)) in
-      glance-more (glance-alike (k .item) (after .0) h (omega (arith, after)) (omega (arith, after, to)) (k .any) (omega (arith, after, to)) g) refl (l .walked (omega (arith, r, after)) b by mo (omega (arith, after, to)) (masked-before (k .item) (after .0) h)) (l .few) by mo ey em;
+      let alike = glance-alike (k .item) (after .0) h (omega (arith, after)) (omega (arith, after, to)) (k .any) (omega (arith, after, to)) g in
+      glance-more alike refl (l .walked (omega (arith, r, after)) b by mo (omega (arith, after, to)) (masked-before (k .item) (after .0) h)) (omega arith) (l .few) by mo ey em;
 }

@@ -26,13 +26,13 @@ use Rattle.tally.specs.declared.Piece.{Piece}
 use Rattle.tally.specs.declared.Piece.the-variants as piece
 use Rattle.tally.specs.declared.Sizes.{Sizes}
 use Rattle.tally.specs.Meet.{sizes, itemSizes, packSizes, plusSizes, askedTag}
-use Rattle.tally.specs.Going.{Begun}
+use Rattle.tally.specs.Going.{Begun, stageAt}
 use Rattle.tally.proofs.Walks.{same-sizes}
 use Rattle.tally.proofs.Begins.{begun-later}
 use Rattle.tally.proofs.ItemTurns.{level-is}
 use Rattle.tally_records.specs.Meet.{pieceBy, valueWhole, partPiece, moreAt}
-use Rattle.tally_records.specs.Going.{RecordsGoing}
-use Rattle.quick_records.specs.Going.{RecordGlanced, wordOf}
+use Rattle.tally_records.specs.Going.{RecordsGoing, After}
+use Rattle.quick_records.specs.Going.{RecordGlanced, firstTag, wordOf}
 use Rattle.tally_records.proofs.Values.{value-within, value-whole}
 use Rattle.tally_records.proofs.Opens.{part-inner, part-value}
 use Rattle.tally_records.proofs.PartTurns.{item-is, PartAt, item-told, part-more}
@@ -141,9 +141,14 @@ glance-from b f s p top bytes {head} {word} {tag} eh ew et above th {n} en nh {n
     rw y (glance-of b f s p mark is-tag size (omega arith) above th nh q)
 
 -- the first may begin its level, and whatever comes later
-pub glance-begun : {b : Bool} {f : Form} {s : List ℕ} {p top tag n : ℕ} → RecordGlanced b f s p top tag n → Begun b f 0 (bytesNumber (take 2 (drop 2 s))) → Begun b f p tag
+pub glance-begun : {b : Bool} {f : Form} {s : List ℕ} {p top tag n : ℕ} → RecordGlanced b f s p top tag n → Begun b f 0 (firstTag s) → Begun b f p tag
 glance-begun {p = zero} g h = rw (g .tag-is) h
 glance-begun {b = b} {f = f} {p = suc p} {tag = tag} g h = begun-later b f (suc p) tag (omega arith)
+
+-- and whatever comes later has a tag above the first, which is the lowest
+pub first-least : {b : Bool} {f : Form} {s : List ℕ} {p top tag n : ℕ} → RecordGlanced b f s p top tag n → (0 < p → firstTag s ≤ top) → firstTag s ≤ tag
+first-least {p = zero} g h = omega (arith, g .tag-is)
+first-least {p = suc p} g h = omega (arith, h (omega arith), g .above)
 
 -- ---- the turn
 
@@ -182,13 +187,13 @@ module _ {b : Bool} {f : Form} {s : List ℕ} {p top tag n : ℕ} (g : RecordGla
 pub glance-next : {b : Bool} {f : Form} {s : List ℕ} {p top tag next : ℕ} → RecordGlanced b f s p top tag (next - (p + 6)) → (p + 6 < next) × (next ≤ length s)
 glance-next g = (omega (arith, g .quick .some), omega (arith, glance-room g, g .quick .some))
 
--- tags rise, and how low they were does not matter
+-- tags rise; none is below low
 pub glance-more : {b : Bool} {f : Form} {s : List ℕ} {p top tag next : ℕ} → RecordGlanced b f s p top tag (next - (p + 6)) → Begun b f p tag
-    → {count : ℕ} {held : Bool} → RecordsGoing b f s p (toldSizes count p) held top 0 → 4 * count ≤ p → Bytes s → length s ≤ 65536
-    → {y held′ : Bool} → y ≡ eqb tag (askedTag (levelOf b)) → held′ ≡ (held || y) → RecordsGoing b f s next (toldSizes (count + 1) next) held′ tag 0
-glance-more {b = b} {f = f} {s = s} {p = p} {top = top} {tag = tag} {next = next} g begins {count = count} {held = held} go few bytes most ey em =
+    → {count : ℕ} {held : Bool} {low : ℕ} → RecordsGoing b f s p (toldSizes count p) held top low → low ≤ tag → 4 * count ≤ p → Bytes s → length s ≤ 65536
+    → {y held′ : Bool} → y ≡ eqb tag (askedTag (levelOf b)) → held′ ≡ (held || y) → RecordsGoing b f s next (toldSizes (count + 1) next) held′ tag low
+glance-more {b = b} {f = f} {s = s} {p = p} {top = top} {tag = tag} {next = next} g begins {count = count} {held = held} {low = low} go above few bytes most {held′ = held′} ey em =
     let n : ℕ = next - (p + 6) in
-    let i : PartAt b f s p _ _ top 0 tag 6 n n = record {
+    let i : PartAt b f s (stageAt p (toldSizes count p) held top low) tag 6 n n = record {
       going = go;
       here = omega (arith, glance-next g);
       more = mark-more b (drop p s) (g .mark);
@@ -199,5 +204,11 @@ glance-more {b = b} {f = f} {s = s} {p = p} {top = top} {tag = tag} {next = next
       most = most;
     } in
     let at : next ≡ p + itemSizes (levelOf b) tag n .sheet = omega (arith, glance-next g, ap (λ (a : Sizes). a .sheet) (item-is (levelOf b) tag n (g .quick .no-seal))) in
-    rw at (part-more i (item-told i {x = b && eqb tag 101} refl (rw level-is at (g .quick .no-series)) refl) refl (quick-plus (levelOf b) tag n count p (g .quick .no-seal) (g .small) (g .few) few) (em ∙ ap (λ z. held || z) ey)
-    (omega (arith, g .above), omega arith) (omega arith, omega arith))
+    let after : After (stageAt p (toldSizes count p) held top low) tag (itemSizes (levelOf b) tag n) (eqb tag (askedTag (levelOf b))) (stageAt next (toldSizes (count + 1) next) held′ tag low) = record {
+      at-is = at;
+      sizes-are = ap (toldSizes (count + 1)) at ∙ quick-plus (levelOf b) tag n count p (g .quick .no-seal) (g .small) (g .few) few;
+      held-is = em ∙ ap (λ z. held || z) ey;
+      over = (omega (arith, g .above), omega arith);
+      under = (omega arith, omega arith);
+    } in
+    part-more i (item-told i {x = b && eqb tag 101} refl (rw level-is at (g .quick .no-series)) refl) refl after

@@ -1,3 +1,4 @@
 pub mod Glances
 pub mod Alikes
 pub mod Models
+pub mod Passings

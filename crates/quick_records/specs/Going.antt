@@ -6,17 +6,22 @@ use mathlib.Core.List.{List}
 use lib.ListN.{take, drop, getD}
 use Rattle.format.specs.Coding.{bytesNumber}
 use Rattle.format.specs.Table.{Form}
-use Rattle.format.specs.Sheet.{markNumber, markOf, IT, TG, TI, is, field}
+use Rattle.format.specs.Sheet.{markNumber, markOf, IT, TI, is, field}
 use Rattle.items.specs.Meet.{levelOf}
 use Rattle.items.specs.Quick as items
 use Rattle.heads.specs.Records.{fieldAnswer}
 use Rattle.heads.specs.declared.records.Field.the-variants.{Whole}
 use Rattle.tally.specs.declared.stages.Stage.{Stage}
+use Rattle.tally.specs.Going.{Begun}
 use Rattle.tally_records.specs.Going.{TargetsFrom}
 
--- the walk over targets as far as the quick way took it: a target takes as many bytes as it adds to the sheet, and where it passed any, a `TG` stands first
+-- the walk over targets as far as the quick way took it: a target takes as many bytes as it adds to the sheet
 abbrev pub TargetsPassed : Form → List ℕ → Stage → Type 0
-TargetsPassed f s q = TargetsFrom f s q × (q .top < 2 ^ 63) × (q .at ≡ q .sizes .sheet) × (0 < q .at → is TG s ≡ true)
+TargetsPassed f s q = TargetsFrom f s q × (q .top < 2 ^ 63) × (q .at ≡ q .sizes .sheet)
+
+-- the tag of the record that begins a level
+abbrev pub firstTag : List ℕ → ℕ
+firstTag s = bytesNumber (take 2 (drop 2 s))
 
 -- the mark of a level's records before a tag of 0, as one number
 abbrev pub wordOf : Bool → ℕ
@@ -33,3 +38,7 @@ pub record RecordGlanced (b : Bool) (f : Form) (s : List ℕ) (p top tag n : ℕ
   pub above : top < tag
   pub small : tag < 128
   pub few : n < 128
+
+-- the same, and it may begin its level where it does
+abbrev pub BegunGlanced : Bool → Form → List ℕ → ℕ → ℕ → ℕ → ℕ → Type 0
+BegunGlanced b f s p top tag n = RecordGlanced b f s p top tag n × Begun b f p tag

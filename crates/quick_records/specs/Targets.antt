@@ -12,12 +12,12 @@ use Rattle.items.specs.Meet.{formOf}
 use Rattle.tally.specs.declared.stages.Stage.{Stage}
 use Rattle.quick_packs.specs.declared.Model.{Model}
 use Rattle.tally.specs.Meet.{sizes}
-use Rattle.tally_records.specs.Going.{RecordsGoing}
+use Rattle.tally_records.specs.Going.{RecordsGoing, RecordsFrom}
 
 -- the records of a are walked so far; and if that is not too far for the masks, so is whatever is laid out as they are
 pub record Laid (f : Form) (masks a : List ℕ) (q : Stage) : Type 0 where
-  pub own : RecordsGoing false f a (q .at) (q .sizes) (q .held) (q .top) (q .low)
-  pub walked : q .at < 128 → (b : List ℕ) → Bytes b → length b ≤ 65536 → q .at ≤ length b → AlikeTo masks a b (q .at) → RecordsGoing false f b (q .at) (q .sizes) (q .held) (q .top) (q .low)
+  pub own : RecordsFrom false f a q
+  pub walked : q .at < 128 → (b : List ℕ) → Bytes b → length b ≤ 65536 → q .at ≤ length b → AlikeTo masks a b (q .at) → RecordsFrom false f b q
   pub sizes-are : q .sizes ≡ sizes (q .at) (q .sizes .rows) (q .at - 4 * (q .sizes .rows)) 0
   pub few : 4 * (q .sizes .rows) ≤ q .at
 
@@ -42,3 +42,10 @@ pub record Modelled (alone : Bool) (masks s : List ℕ) (m : Model) : Type 0 whe
   pub long : length masks ≡ 160
   pub within : m .from ≤ length s
   pub held : m .size < 128 → (b : List ℕ) → Bytes b → length b ≤ 65536 → m .size ≤ length b → AlikeTo masks (drop (m .from) s) b (m .size) → Held alone b (m .size) (m .rows)
+
+-- a model that the code has for the records from there on: these are laid out so, unless it has no rows
+pub record ModelAt (alone : Bool) (masks s : List ℕ) (from : ℕ) (m : Model) : Type 0 where
+  pub modelled : Modelled alone masks s m
+  pub before : m .from ≤ from
+  pub held : 0 < m .rows → Held alone (drop from s) (m .size) (m .rows)
+  pub over : 0 < m .rows → Over s (from + m .size)

@@ -1,4 +1,6 @@
-// The quick way over a level's records: told at a glance, tags rising, from its start. What stops it is left to the walks.
+// The quick way over a level's records, from its start: told at a glance, tags rising. It does not know tags that do not rise, or are above 127;
+// values that no row tells (of 30 bytes and more, or a number that begins with 0), or of 128 bytes and more where no table lists the tag; the
+// set's series. What stops it is left to the walks.
 ghost use mathlib.Core.Path.{_≡_};
 ghost use Prim.Native.Nat.{_+_, _*_, _-_, _≤_, _<_};
 ghost use lib.ListN.{length, take, drop};
@@ -6,8 +8,8 @@ ghost use Rattle.format.specs.Coding.{bytesNumber};
 ghost use Rattle.items.specs.Meet.{formOf, glanceTable};
 ghost use Rattle.tally.specs.Meet.{sizes};
 ghost use Rattle.tally.specs.Going.{Begun};
-ghost use Rattle.tally_records.specs.Going.{RecordsGoing};
-ghost use Rattle.quick_records.specs.Going.{RecordGlanced, wordOf};
+ghost use Rattle.tally_records.specs.Going.{RecordsFrom};
+ghost use Rattle.quick_records.specs.Going.{RecordGlanced, BegunGlanced, firstTag, wordOf};
 use heads::records;
 use tally::Sizes;
 use tally::stages::Stage;
@@ -68,7 +70,7 @@ pub fn glance_record(glances: &[u32], s: &[u8], p: usize, set: bool, alone: bool
 // Such a record, if it may begin its level where it does.
 pub fn glance_begun(glances: &[u32], s: &[u8], p: usize, set: bool, alone: bool, top: u64) -> Told
     requires { ⌜ (now glances ≡ glanceTable) × (length (now s) ≤ 65536) × (p ≤ length (now s)) ⌝ }
-    ensures { λ r. ⌜ (0 < r .next → RecordGlanced set (formOf alone) (now (s .entry)) p top (r .tag) (r .next - (p + 6)) × Begun set (formOf alone) p (r .tag)) ⌝ }
+    ensures { λ r. ⌜ (0 < r .next → BegunGlanced set (formOf alone) (now (s .entry)) p top (r .tag) (r .next - (p + 6))) ⌝ }
 {
     let g = glance_record(glances, s, p, set, alone, top);
     if items::begins(set, alone, g.tag, p == 0) {
@@ -90,11 +92,21 @@ pub fn told_sizes(count: usize, p: usize) -> Sizes
     }
 }
 
+// The first tag, which is the lowest where tags rise.
+fn first_tag(s: &[u8]) -> u64
+    ensures { λ r. ⌜ r ≤ firstTag (now (s .entry)) ⌝ }
+{
+    if s.len() < 4 {
+        return 0;
+    }
+    coding::number_of(&s[2..], 2)
+}
+
 // The records of a level told at a glance, one after another; the first may begin it. That is asked once, by the caller, as the compiler would
 // split the loop by it.
 pub fn glance_records(glances: &[u32], s: &[u8], set: bool, alone: bool) -> Stage
-    requires { ⌜ (now glances ≡ glanceTable) × (length (now s) ≤ 65536) × Begun set (formOf alone) 0 (bytesNumber (take 2 (drop 2 (now s)))) ⌝ }
-    ensures { λ r. ⌜ RecordsGoing set (formOf alone) (now (s .entry)) (r .at) (r .sizes) (r .held) (r .top) (r .low) × (r .at ≡ r .sizes .sheet) ⌝ }
+    requires { ⌜ (now glances ≡ glanceTable) × (length (now s) ≤ 65536) × Begun set (formOf alone) 0 (firstTag (now s)) ⌝ }
+    ensures { λ r. ⌜ RecordsFrom set (formOf alone) (now (s .entry)) r ⌝ }
 {
     let mut p: usize = 0;
     let mut count: usize = 0;
@@ -103,7 +115,7 @@ pub fn glance_records(glances: &[u32], s: &[u8], set: bool, alone: bool) -> Stag
     loop {
         let g = glance_record(glances, s, p, set, alone, top);
         if g.next == 0 {
-            return tally::stages::stage_at(p, told_sizes(count, p), held, top, 0);
+            return tally::stages::stage_at(p, told_sizes(count, p), held, top, first_tag(s));
         }
         held = coding::either(held, tally::is_asked(set, g.tag));
         top = g.tag;

@@ -1,5 +1,7 @@
 // The quick way over a series' targets, from its start: those whose records are all told at a glance. Most are laid out as the last that was
-// walked, their model, and are told by one comparison with it, as packs are.
+// walked, their model, and are told by one comparison with it, as packs are. It does not know ids above 16,383, or that neither rise nor fall,
+// but for the first 4,096 where bits are lent for them; targets whose pack has no byte alone for its length, or that something else follows
+// than another or the end.
 ghost use mathlib.Core.Path.{_≡_};
 ghost use mathlib.Core.Bool.{true, false};
 ghost use Prim.Native.Nat.{_+_, _≤_, _<_};
@@ -10,10 +12,12 @@ ghost use Rattle.tally.specs.Meet.{sizes};
 ghost use Rattle.tally.specs.Going.{stageAt};
 ghost use Rattle.quick_packs.specs.Packs.{As};
 ghost use Rattle.quick_records.specs.Going.{TargetsPassed};
-ghost use Rattle.quick_records.specs.Targets.{Laid, Held, Over, Modelled};
+ghost use Rattle.quick_records.specs.Targets.{Laid, Over, Modelled, ModelAt};
 use super::quick;
 use heads::records;
 use quick_packs::Model;
+use quick_packs::bounds;
+use quick_packs::bounds::Bounds;
 use tally::Sizes;
 use tally::stages::Stage;
 
@@ -67,7 +71,7 @@ fn is_target_as(m: Model, masks: &[u8], s: &[u8], from: usize) -> bool
 // These records as the model, if they are all told at a glance and hold what a target must.
 fn model_of(glances: &[u32], s: &[u8], from: usize, alone: bool, masks: &mut [u8; 160]) -> Model
     requires { ⌜ (now glances ≡ glanceTable) × (length (now s) ≤ 65536) × (from ≤ length (now s)) × (length (now masks) ≡ 160) ⌝ }
-    ensures { λ r. ⌜ Modelled alone (now (masks .exit)) (now (s .entry)) r × (r .from ≤ from) × (0 < r .rows → Held alone (drop from (now (s .entry))) (r .size) (r .rows) × Over (now (s .entry)) (from + r .size)) ⌝ }
+    ensures { λ r. ⌜ ModelAt alone (now (masks .exit)) (now (s .entry)) from r ⌝ }
 {
     *masks = [0; 160];
     let q = lay(glances, &s[from..], alone, masks);
@@ -85,9 +89,27 @@ fn model_of(glances: &[u32], s: &[u8], from: usize, alone: bool, masks: &mut [u8
     }
 }
 
+// The model of these records: the last, if they are laid out so, or else they themselves.
+fn model_at(
+    glances: &[u32],
+    s: &[u8],
+    from: usize,
+    alone: bool,
+    m: Model,
+    masks: &mut [u8; 160],
+) -> Model
+    requires { ⌜ (now glances ≡ glanceTable) × (length (now s) ≤ 65536) × (from ≤ length (now s)) × Modelled alone (now masks) (now s) m × (m .from ≤ from) ⌝ }
+    ensures { λ r. ⌜ ModelAt alone (now (masks .exit)) (now (s .entry)) from r ⌝ }
+{
+    if is_target_as(m, masks, s, from) {
+        return m;
+    }
+    model_of(glances, s, from, alone, masks)
+}
+
 // Where the target walk goes on after targets of p bytes, so many rows, and so many bytes in a packet.
-pub fn passed(p: usize, rows: usize, normal: usize, top: u64, low: u64) -> Stage
-    ensures { λ r. ⌜ r ≡ stageAt p (sizes p rows normal 0) false top low ⌝ }
+fn passed(p: usize, rows: usize, normal: usize, b: Bounds) -> Stage
+    ensures { λ r. ⌜ r ≡ stageAt p (sizes p rows normal 0) false (b .top) (b .low) ⌝ }
 {
     let sizes = Sizes {
         sheet: p,
@@ -95,65 +117,43 @@ pub fn passed(p: usize, rows: usize, normal: usize, top: u64, low: u64) -> Stage
         normal,
         inner: 0,
     };
-    Stage {
-        at: p,
-        sizes,
-        held: false,
-        top,
-        low,
-    }
+    tally::stages::stage_at(p, sizes, false, b.top, b.low)
 }
 
-// The targets whose ids have one or two bytes in a packet, whose records are all told at a glance, and whose packs have a byte for their length,
-// one after another, from the series' start: ids rising or falling, or noted in the bits lent, of which most series need none.
-pub fn many(glances: &[u32], s: &[u8], alone: bool, bits: &mut [u64]) -> Stage
+// Such targets, one after another, from the series' start: ids rising or falling, or noted in the bits lent, of which most series need none.
+fn many(glances: &[u32], s: &[u8], alone: bool, bits: &mut [u64]) -> Stage
     requires { ⌜ (now glances ≡ glanceTable) × (length (now s) ≤ 65536) ⌝ }
     ensures { λ r. ⌜ TargetsPassed (formOf alone) (now (s .entry)) r ⌝ }
 {
     let mut p: usize = 0;
     let mut rows: usize = 0;
     let mut normal: usize = 0;
-    let mut top: u64 = 0;
-    let mut low: u64 = 18446744073709551615;
+    let mut b = bounds::none();
     let mut masks: [u8; 160] = [0; 160];
     let mut m = quick_packs::no_model();
     if !records::is_mark(s, p, records::TG) {
-        return passed(p, rows, normal, top, low);
+        return passed(p, rows, normal, b);
     }
     loop {
         if s.len() - p < 10 {
-            return passed(p, rows, normal, top, low);
+            return passed(p, rows, normal, b);
         }
         let id = coding::eight_of(&s[p + 2..]);
         if 16383 < id {
-            return passed(p, rows, normal, top, low);
+            return passed(p, rows, normal, b);
         }
-        // an id above or below all before moves one bound, but for the first
-        if top < id {
-            top = id;
-            if p == 0 {
-                low = id;
-            }
-        } else {
-            if id < low {
-                low = id;
-            } else {
-                if !repeats::notes::is_unnoted(bits, id) {
-                    return passed(p, rows, normal, top, low);
-                }
-            }
+        b = bounds::reach(bits, p, b, id);
+        if !b.new {
+            return passed(p, rows, normal, b);
         }
-        repeats::notes::note(bits, id);
         let from = p + 10;
-        if !is_target_as(m, &masks, s, from) {
-            m = model_of(glances, s, from, alone, &mut masks);
-            if m.rows == 0 {
-                return passed(p, rows, normal, top, low);
-            }
+        m = model_at(glances, s, from, alone, m, &mut masks);
+        if m.rows == 0 {
+            return passed(p, rows, normal, b);
         }
         let body = coding::widths::oid_width(id) + (m.size + 4 - 4 * m.rows);
         if 127 < body {
-            return passed(p, rows, normal, top, low);
+            return passed(p, rows, normal, b);
         }
         rows = rows + m.rows;
         normal = normal + 1 + body;
@@ -161,17 +161,17 @@ pub fn many(glances: &[u32], s: &[u8], alone: bool, bits: &mut [u64]) -> Stage
     }
 }
 
-// The same where ids neither rise nor fall: the first 4,096 are noted in the bits lent, whatever these were.
-pub fn strewn(glances: &[u32], s: &[u8], alone: bool, bits: &mut [u64; 64]) -> Stage
+// Those whose ids rise or fall: nothing is noted for them.
+pub fn rising(glances: &[u32], s: &[u8], alone: bool) -> Stage
     requires { ⌜ (now glances ≡ glanceTable) × (length (now s) ≤ 65536) ⌝ }
     ensures { λ r. ⌜ TargetsPassed (formOf alone) (now (s .entry)) r ⌝ }
 {
-    *bits = [0; 64];
-    many(glances, s, alone, bits)
+    let mut none = [0u64; 1];
+    many(glances, s, alone, &mut none[0..0])
 }
 
-// Whether it was an id neither above nor below all before that ended the quick way.
-pub fn is_between(s: &[u8], q: Stage) -> bool
+// Whether it was an id neither above nor below all before that ended it.
+fn is_between(s: &[u8], q: Stage) -> bool
     requires { ⌜ q .at ≤ length (now s) ⌝ }
 {
     let at = q.at;
@@ -183,4 +183,16 @@ pub fn is_between(s: &[u8], q: Stage) -> bool
         return false;
     }
     id <= q.top
+}
+
+// The same from where that ended: if it was at an id that neither rises nor falls, anew, the first 4,096 noted in the bits lent, whatever these were.
+pub fn noted(glances: &[u32], s: &[u8], alone: bool, q: Stage, bits: &mut [u64; 64]) -> Stage
+    requires { ⌜ (now glances ≡ glanceTable) × (length (now s) ≤ 65536) × TargetsPassed (formOf alone) (now s) q ⌝ }
+    ensures { λ r. ⌜ TargetsPassed (formOf alone) (now (s .entry)) r ⌝ }
+{
+    if is_between(s, q) {
+        *bits = [0; 64];
+        return many(glances, s, alone, bits);
+    }
+    q
 }

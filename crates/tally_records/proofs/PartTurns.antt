@@ -25,6 +25,7 @@ use Rattle.heads.proofs.SheetRuns.{series-peek}
 use Rattle.tally.specs.declared.Piece.{Piece}
 use Rattle.tally.specs.declared.Piece.the-variants as piece
 use Rattle.tally.specs.declared.Sizes.{Sizes}
+use Rattle.tally.specs.declared.stages.Stage.{Stage}
 use Rattle.tally.specs.declared.Walked.{Walked}
 use Rattle.tally.specs.declared.Walked.the-variants.{Good, Bad}
 use Rattle.tally.specs.Meet.{sizes, noSizes, lengthened, itemSizes, seriesSizes, plusSizes, weightOfTarget, askedTag, seriesFrom, stopAt, laterBy, Few, Small, Within}
@@ -32,8 +33,8 @@ use Rattle.tally.proofs.Walks.{few-more, going-start}
 use Rattle.tally.proofs.Series.{after-not}
 use Rattle.tally.proofs.ItemTurns.{level-is}
 use Rattle.tally.proofs.Turns.{Reads, within-of, turn-bad, turn-more}
-use Rattle.tally_records.specs.Meet.{partPiece, moreAt, partStep, weightAt, recordsWalk, targetsWalk}
-use Rattle.tally_records.specs.Going.{RecordsGoing}
+use Rattle.tally_records.specs.Meet.{partPiece, IsPart, moreAt, partStep, weightAt, recordsWalk, targetsWalk}
+use Rattle.tally_records.specs.Going.{RecordsGoing, RecordsFrom, After}
 use Rattle.tally_records.proofs.Parts.{part-fault, ValueStood, value-stood, SeriesStood, series-stood}
 use Rattle.tally.proofs.Maps.{walked-good, walked-bad}
 use Rattle.tally_records.proofs.Runs.{targets-used, slim-targets, slim-series}
@@ -118,11 +119,11 @@ told-series f seen u k b (Good a c) e h =
 
 -- ---- the turn
 
-module _ (b : Bool) (f : Form) {s : List ℕ} {p : ℕ} {sum : Sizes} {held : Bool} {top low : ℕ} (g : RecordsGoing b f s p sum held top low) (h : p < length s) (o : moreAt (levelOf b) (drop p s) ≡ true)
-    {a : Piece} (ea : (seen : List ℕ) → Past (peek true false b) s p top low seen → a ≡ partPiece (levelOf b) f seen (drop p s)) where
-  pub piece-fault : {n : ℕ} {r : Walked} → a ≡ piece.Fault n → r ≡ stopAt p a → (r ≡ recordsWalk (levelOf b) f s) × Within r (length s)
+module _ (b : Bool) (f : Form) {s : List ℕ} {q : Stage} (g : RecordsFrom b f s q) (h : q .at < length s) (o : moreAt (levelOf b) (drop (q .at) s) ≡ true) {a : Piece}
+    (ea : IsPart b f s (q .at) (q .top) (q .low) a) where
+  pub piece-fault : {n : ℕ} {r : Walked} → a ≡ piece.Fault n → r ≡ stopAt (q .at) a → (r ≡ recordsWalk (levelOf b) f s) × Within r (length s)
   piece-fault {n = n} t e =
-      turn-bad g h o n 0 (e ∙ ap (stopAt p) t ∙ ap (Bad n) (sym (add-zero p))) (part-fault f (g .seen) (drop p s) n b (sym t ∙ ea (g .seen) (g .past))) (omega arith)
+      turn-bad g h o n 0 (e ∙ ap (stopAt (q .at)) t ∙ ap (Bad n) (sym (add-zero (q .at)))) (part-fault f (g .seen) (drop (q .at) s) n b (sym t ∙ ea (g .seen) (g .past))) (omega arith)
 
 -- a `TS` at p, and its targets as the code lends them
 pub ts-room : (s : List ℕ) (p : ℕ) → is TS (drop p s) ≡ true → p + 2 ≤ length s
@@ -131,78 +132,87 @@ ts-room s p m = omega (arith, is-room _ (drop p s) m, length-drop p s)
 abbrev pub targetsAt : List ℕ → ℕ → List ℕ
 targetsAt s p = take (length s - (p + 2)) (drop (p + 2) s)
 
--- a record that the code has read at p, in a level of no more bytes than a sheet's
-pub record PartAt (b : Bool) (f : Form) (s : List ℕ) (p : ℕ) (sum : Sizes) (held : Bool) (top low tag from size small : ℕ) : Type 0 where
-  pub going : RecordsGoing b f s p sum held top low
-  pub here : p < length s
-  pub more : moreAt (levelOf b) (drop p s) ≡ true
+-- a record that the code has read where the walk goes on, in a level of no more bytes than a sheet's
+pub record PartAt (b : Bool) (f : Form) (s : List ℕ) (q : Stage) (tag from size small : ℕ) : Type 0 where
+  pub going : RecordsFrom b f s q
+  pub here : q .at < length s
+  pub more : moreAt (levelOf b) (drop (q .at) s) ≡ true
   pub it : Piece
-  pub told : (seen : List ℕ) → Past (peek true false b) s p top low seen → it ≡ partPiece (levelOf b) f seen (drop p s)
+  pub told : IsPart b f s (q .at) (q .top) (q .low) it
   pub whole : it ≡ piece.Whole tag from size small
   pub bytes : Bytes s
   pub most : length s ≤ 65536
 
-module _ {b : Bool} {f : Form} {s : List ℕ} {p : ℕ} {sum : Sizes} {held : Bool} {top low tag from size small : ℕ} (i : PartAt b f s p sum held top low tag from size small) where
-  is-piece : piece.Whole tag from size small ≡ partPiece (levelOf b) f (i .going .seen) (drop p s)
+module _ {b : Bool} {f : Form} {s : List ℕ} {q : Stage} {tag from size small : ℕ} (i : PartAt b f s q tag from size small) where
+  abbrev here : List ℕ
+  here = drop (q .at) s
+
+  is-piece : piece.Whole tag from size small ≡ partPiece (levelOf b) f (i .going .seen) here
   is-piece = sym (i .whole) ∙ i .told (i .going .seen) (i .going .past)
 
   -- w is the code's answer on the part
   abbrev pub PartTold : Walked → Type 0
-  PartTold w = Told b f (i .going .seen) (drop p s) tag w
+  PartTold w = Told b f (i .going .seen) here tag w
 
   -- x: it is the series
   module _ {x : Bool} (ex : x ≡ (b && eqb tag 101)) where
     module _ (tx : x ≡ false) where
-      item-stood : ValueStood b f (i .going .seen) (drop p s) tag size
-      item-stood = value-stood b f (i .going .seen) (drop p s) tag from size small (i .more) is-piece (sym ex ∙ tx)
+      item-stood : ValueStood b f (i .going .seen) here tag size
+      item-stood = value-stood b f (i .going .seen) here tag from size small (i .more) is-piece (sym ex ∙ tx)
 
       pub item-small : (tag ≤ 16383) × (size ≤ 65536)
-      item-small = (item-stood .tag-small, omega (arith, item-stood .room, length-drop p s, i .most))
+      item-small = (item-stood .tag-small, omega (arith, item-stood .room, length-drop (q .at) s, i .most))
 
       pub item-told : {w : Walked} → w ≡ Good (itemSizes (levelOf b) tag size) (eqb tag (askedTag (levelOf b))) → PartTold w
-      item-told ew = subst PartTold (sym ew) (told-item b f (i .going .seen) (drop p s) tag size item-stood)
+      item-told ew = subst PartTold (sym ew) (told-item b f (i .going .seen) here tag size item-stood)
 
     module _ (tx : x ≡ true) where
-      ts-stood : (b ≡ true) × (tag ≡ 101) × SeriesStood f (i .going .seen) (drop p s)
-      ts-stood = series-stood b f (i .going .seen) (drop p s) tag from size small is-piece (sym ex ∙ tx)
+      ts-stood : (b ≡ true) × (tag ≡ 101) × SeriesStood f (i .going .seen) here
+      ts-stood = series-stood b f (i .going .seen) here tag from size small is-piece (sym ex ∙ tx)
 
-      pub series-room : p + 2 ≤ length s
-      series-room = ts-room s p (ts-stood .2 .mark)
+      pub series-room : q .at + 2 ≤ length s
+      series-room = ts-room s (q .at) (ts-stood .2 .mark)
 
       -- its targets, as document 01 has them
-      lent-is : targetsAt s p ≡ drop 2 (drop p s)
-      lent-is = tail-part (p + 2) s ∙ sym (drop-drop 2 p s)
+      lent-is : targetsAt s (q .at) ≡ drop 2 here
+      lent-is = tail-part (q .at + 2) s ∙ sym (drop-drop 2 (q .at) s)
 
-      pub lent-small : length (targetsAt s p) ≤ 65536
-      lent-small = omega (arith, ap length lent-is, length-drop 2 (drop p s), length-drop p s, i .most)
+      pub lent-small : length (targetsAt s (q .at)) ≤ 65536
+      lent-small = omega (arith, ap length lent-is, length-drop 2 here, length-drop (q .at) s, i .most)
 
-      pub series-told : {y : Walked} → (y ≡ targetsWalk f (targetsAt s p)) × Within y (length (targetsAt s p)) → {w : Walked} → w ≡ seriesFrom 2 y → PartTold w
+      pub series-told : {y : Walked} → (y ≡ targetsWalk f (targetsAt s (q .at))) × Within y (length (targetsAt s (q .at))) → {w : Walked} → w ≡ seriesFrom 2 y → PartTold w
       series-told {y = y} ey ew =
-          let told = told-series f (i .going .seen) (drop p s) (ts-stood .2) (bytes-drop p s (i .bytes)) y (rw lent-is at (ey .0)) (rw lent-is at (ey .1)) in
+          let told = told-series f (i .going .seen) here (ts-stood .2) (bytes-drop (q .at) s (i .bytes)) y (rw lent-is at (ey .0)) (rw lent-is at (ey .1)) in
           subst PartTold (sym ew)
-          (subst (λ c. Told c f (i .going .seen) (drop p s) tag (seriesFrom 2 y)) (sym (ts-stood .0))
-          (subst (λ t. Told true f (i .going .seen) (drop p s) t (seriesFrom 2 y)) (sym (ts-stood .1)) told))
+          (subst (λ c. Told c f (i .going .seen) here tag (seriesFrom 2 y)) (sym (ts-stood .0))
+          (subst (λ t. Told true f (i .going .seen) here t (seriesFrom 2 y)) (sym (ts-stood .1)) told))
 
   module _ {w : Walked} (k : PartTold w) where
-    pub part-bad : {n q : ℕ} {r : Walked} → w ≡ Bad n q → r ≡ laterBy p w → (r ≡ recordsWalk (levelOf b) f s) × Within r (length s)
-    part-bad {n = n} {q = q} t e =
-        let (j, l) = k .bad n q t in
-        turn-bad (i .going) (i .here) (i .more) n q (e ∙ ap (laterBy p) t) j (omega (arith, l, length-drop p s, i .here))
+    pub part-bad : {n j : ℕ} {r : Walked} → w ≡ Bad n j → r ≡ laterBy (q .at) w → (r ≡ recordsWalk (levelOf b) f s) × Within r (length s)
+    part-bad {n = n} {j = j} t e =
+        let (x, l) = k .bad n j t in
+        turn-bad (i .going) (i .here) (i .more) n j (e ∙ ap (laterBy (q .at)) t) x (omega (arith, l, length-drop (q .at) s, i .here))
 
-    pub bad-within : {n q : ℕ} → w ≡ Bad n q → Within w 65536 × (p ≤ 65536)
-    bad-within {n = n} {q = q} t = (within-of 65536 t (omega (arith, k .bad n q t .1, length-drop p s, i .most)), omega (arith, i .here, i .most))
+    pub bad-within : {n j : ℕ} → w ≡ Bad n j → Within w 65536 × (q .at ≤ 65536)
+    bad-within {n = n} {j = j} t = (within-of 65536 t (omega (arith, k .bad n j t .1, length-drop (q .at) s, i .most)), omega (arith, i .here, i .most))
 
     module _ {z : Sizes} {m : Bool} (t : w ≡ Good z m) where
-      read : PartReads b f (i .going .seen) (drop p s) tag z m
+      read : PartReads b f (i .going .seen) here tag z m
       read = k .good z m t
 
-      pub part-room : (p + z .sheet ≤ length s) × (0 < z .sheet)
-      part-room = (omega (arith, read .room, length-drop p s, i .here), read .some)
+      room : q .at + z .sheet ≤ length s
+      room = omega (arith, read .room, length-drop (q .at) s, i .here)
 
-      pub good-small : Small sum × Small z
-      good-small = (few-more sum p 65536 (omega (arith, i .here, i .most)) (i .going .few), few-more z (z .sheet) 65536 (omega (arith, part-room .0, i .most)) (read .reads .few))
+      -- what `after` asks for, and what it hands back
+      pub part-asks : Small (q .sizes) × Small z × (q .at + z .sheet ≤ 65536)
+      part-asks = (
+        few-more (q .sizes) (q .at) 65536 (omega (arith, i .here, i .most)) (i .going .few),
+        few-more z (z .sheet) 65536 (omega (arith, room, i .most)) (read .reads .few),
+        omega (arith, room, i .most),
+      )
 
-      pub part-more : {sum′ : Sizes} → sum′ ≡ plusSizes sum z → {held′ : Bool} → held′ ≡ (held || m)
-          → {top′ : ℕ} → (top ≤ top′) × (tag ≤ top′) → {low′ : ℕ} → (low′ ≤ low) × (low′ ≤ tag)
-          → RecordsGoing b f s (p + z .sheet) sum′ held′ top′ low′
-      part-more ea em et el = turn-more (i .going) (i .here) (i .more) (read .reads) (read .peeks) (read .some) (p + z .sheet) refl (part-room .0) ea em et el
+      pub part-less : {r : Stage} → After q tag z m r → length s - r .at < length s - q .at
+      part-less a = omega (arith, a .at-is, room, read .some)
+
+      pub part-more : {r : Stage} → After q tag z m r → RecordsFrom b f s r
+      part-more a = rw (a .at-is) (turn-more (i .going) (i .here) (i .more) (read .reads) (read .peeks) (read .some) (q .at + z .sheet) refl room (a .sizes-are) (a .held-is) (a .over) (a .under))

@@ -1,4 +1,5 @@
 -- Where the code that checks a sheet meets document 01: what its answers mean.
+use mathlib.Core.Path.{_≡_}
 use Prim.Native.Nat.{ℕ, _^_}
 use mathlib.Core.Bool.{Bool, true, false, not}
 use mathlib.Core.List.{List}
@@ -10,6 +11,8 @@ use Rattle.format.specs.Lists.{has}
 use Rattle.format.specs.Table.{Form, Level, set, pack, standing}
 use Rattle.format.specs.Run.{Step, run}
 use Rattle.format.specs.Sheet.{Val, Part, one, targets, tagOfPart, idOfTarget, IT, TS, TG, TI, is, valueAt, targetAt, partAt}
+use Rattle.items.specs.Meet.{levelOf}
+use Rattle.heads.specs.Meet.{peek, Past}
 use Rattle.tally.specs.declared.Piece.{Piece}
 use Rattle.tally.specs.declared.Piece.the-variants as piece
 use Rattle.tally.specs.declared.Sizes.{Sizes}
@@ -54,6 +57,19 @@ partPiece set f seen s =
       | false ↦ elim (is TS s) [ true ↦ pieceBy seriesWhole (seriesOpens f seen s) | false ↦ piece.Fault 17 ]
     ]
 partPiece pack f seen s = pieceBy valueWhole (valueAt pack f seen s)
+
+-- r is what the record at p is, whatever keys stood before: none of them is above top or below low
+abbrev pub IsValue : Bool → Form → List ℕ → ℕ → ℕ → ℕ → Piece → Type 0
+IsValue b f s p top low r = (seen : List ℕ) → Past (peek true false b) s p top low seen → r ≡ pieceBy valueWhole (valueAt (levelOf b) f seen (drop p s))
+
+abbrev pub IsSeries : Form → List ℕ → ℕ → ℕ → ℕ → Piece → Type 0
+IsSeries f s p top low r = (seen : List ℕ) → Past (peek true false true) s p top low seen → r ≡ pieceBy seriesWhole (seriesOpens f seen (drop p s))
+
+abbrev pub IsPart : Bool → Form → List ℕ → ℕ → ℕ → ℕ → Piece → Type 0
+IsPart b f s p top low r = (seen : List ℕ) → Past (peek true false b) s p top low seen → r ≡ partPiece (levelOf b) f seen (drop p s)
+
+abbrev pub IsTarget : List ℕ → ℕ → ℕ → ℕ → Piece → Type 0
+IsTarget s p top low r = (seen : List ℕ) → Past (peek true true false) s p top low seen → r ≡ pieceBy targetWhole (targetOpens seen (drop p s))
 
 -- ---- walks
 

@@ -25,7 +25,7 @@ is-mark-requires c κs = search needs
 value-at-requires : tie.Need-value-at-requires
 value-at-requires c κs =
     let k = c .before .before .before .before .before .before .before .before .before .pre in
-    (k .0, k .2, k .3, value-set _ (c .before .before .if2 .taken) (c .before .is-mark .ensures) (c .if3 .taken))
+    record { rows = k .rows; within = k .within; cleared = k .cleared; marked = value-set _ (c .before .before .if2 .taken) (c .before .is-mark .ensures) (c .if3 .taken) }
 
 returns-2 : tie.Need-returns-2
 returns-2 c = λ seen q. part-value _ seen _ (c .before .before .before .if2 .taken) (c .before .before .is-mark .ensures) (c .before .if3 .taken) (c .value-at .ensures seen q)
@@ -36,7 +36,7 @@ is-mark-requires-2 c κs = search needs
 series-at-requires : tie.Need-series-at-requires
 series-at-requires c κs =
     let k = c .before .before .before .before .before .before .before .before .before .before .before .pre in
-    (k .2, clear-set (c .before .before .before .before .if2 .taken) (k .3), sym (c .before .is-mark2 .ensures) ∙ c .if4 .taken)
+    (k .within, clear-set (c .before .before .before .before .if2 .taken) (k .cleared), sym (c .before .is-mark2 .ensures) ∙ c .if4 .taken)
 
 returns-3 : tie.Need-returns-3
 returns-3 c =
@@ -49,7 +49,7 @@ returns-4 c = λ seen q. part-unknown _ seen _ (c .before .before .before .befor
 value-at-requires-2 : tie.Need-value-at-requires-2
 value-at-requires-2 c κs =
     let k = c .before .before .before .before .before .before .before .pre in
-    (k .0, k .2, k .3, value-inner _ (c .if2 .left))
+    record { rows = k .rows; within = k .within; cleared = k .cleared; marked = value-inner _ (c .if2 .left) }
 
 returns-5 : tie.Need-returns-5
 returns-5 c = λ seen q. part-inner _ seen _ (c .before .if2 .left) (c .value-at2 .ensures seen q)

@@ -29,13 +29,13 @@ part-eight-of-end c = search needs
 eight-of-requires : tie.Need-eight-of-requires
 eight-of-requires c κs = search needs
 
-higher-requires : tie.Need-higher-requires
-higher-requires c κs = c .before .before .before .before .pre .2
+larger-requires : tie.Need-larger-requires
+larger-requires c κs = search needs
 
 returns-2 : tie.Need-returns-2
 returns-2 c =
     let a = c .before .before .before .before .before .before .args in
-    λ seen q. target-high (a .s .now) (a .p) seen (c .before .before .before .before .if1 .left) (c .before .before .eight-of .ensures) (c .before .higher .ensures .2) (c .if2 .taken)
+    λ seen q. target-high (a .s .now) (a .p) seen (c .before .before .before .before .if1 .left) (c .before .before .eight-of .ensures) (c .before .larger .ensures .below _ (c .before .before .before .before .before .before .pre .2)) (c .if2 .taken)
 
 is-seen-requires : tie.Need-is-seen-requires
 is-seen-requires c κs =
@@ -45,12 +45,12 @@ is-seen-requires c κs =
 returns-3 : tie.Need-returns-3
 returns-3 c =
     let a = c .before .before .before .before .before .before .before .before .args in
-    λ seen q. target-again (a .s .now) (a .p) seen (c .before .before .before .before .before .before .if1 .left) (c .before .before .before .before .eight-of .ensures) (omega (arith, c .before .before .before .higher .ensures .1, c .before .before .if2 .left)) (c .before .is-seen .ensures seen q) (c .if3 .taken)
+    λ seen q. target-again (a .s .now) (a .p) seen (c .before .before .before .before .before .before .if1 .left) (c .before .before .before .before .eight-of .ensures) (omega (arith, c .before .before .before .larger .ensures .over .1, c .before .before .if2 .left)) (c .before .is-seen .ensures seen q) (c .if3 .taken)
 
 returns-4 : tie.Need-returns-4
 returns-4 c =
     let a = c .before .before .before .before .before .before .before .before .args in
-    λ seen q. target-whole (a .s .now) (a .p) seen (c .before .before .before .before .before .before .if1 .left) (c .before .before .before .before .eight-of .ensures) (omega (arith, c .before .before .before .higher .ensures .1, c .before .before .if2 .left)) (c .before .is-seen .ensures seen q) (c .if3 .left)
+    λ seen q. target-whole (a .s .now) (a .p) seen (c .before .before .before .before .before .before .if1 .left) (c .before .before .before .before .eight-of .ensures) (omega (arith, c .before .before .before .larger .ensures .over .1, c .before .before .if2 .left)) (c .before .is-seen .ensures seen q) (c .if3 .left)
 
 pub target-at-spec : {M : Type 1} → statement M
 target-at-spec =
@@ -63,7 +63,7 @@ target-at-spec =
     part-eight-of-start
     part-eight-of-end
     eight-of-requires
-    higher-requires
+    larger-requires
     returns-2
     is-seen-requires
     returns-3

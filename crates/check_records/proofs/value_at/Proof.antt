@@ -40,7 +40,7 @@ is-seen-requires : tie.Need-is-seen-requires
 is-seen-requires c κs =
     let h = c .before .before in
     let q = h .before .before .before .before .before .before in
-    (search needs, q .pre .2, value-key _ (q .args .s .now) (q .args .p) (h .before .before .field-of .ensures) (h .h .given .1) (q .pre .3))
+    (search needs, q .pre .cleared, value-key _ (q .args .s .now) (q .args .p) (h .before .before .field-of .ensures) (h .h .given .1) (q .pre .marked))
 
 standing-of-requires : tie.Need-standing-of-requires
 standing-of-requires c κs = search needs

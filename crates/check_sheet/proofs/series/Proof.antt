@@ -1,125 +1,75 @@
--- `series` meets its contract: the turn over the series is a turn of the walk over the set. `j` is where it was found to be new.
+-- `check_sheet::series` meets its contract: all of its targets are told at a glance, or the walk over them goes on.
+use mathlib.Core.Path.{_∙_, ap}
 use native.Mathlib.Omega.{arith}
-use borrow.Author.Needs.{needs}
-use borrow.Author.Tests.{not-false}
-use mathlib.Core.Path.{sym, _∙_}
 use Rattle.coding.proofs.Rooms.{tail-part}
-use Rattle.items.specs.Meet.{formOf}
-use Rattle.check_sheet.proofs.SetTurns.{SeriesAt, room, series-asks, series-goes}
+use Rattle.check_sheet.proofs.SetTurns.{room, targets-small, all-small, all-asks, all-walked}
+use borrow.Author.Needs.{needs}
 use Rattle.check_sheet.proofs.series.Statement.{statement}
 use Rattle.check_sheet.proofs.series.Tie as tie
 
-here : (j : tie.Else3) → SeriesAt (formOf (j .before .before .before .before .before .before .before .args .alone)) (j .before .before .before .before .before .before .before .args .s .now) (j .before .before .before .before .before .before .before .args .q .at) (j .before .before .before .before .before .before .before .args .q .sizes) (j .before .before .before .before .before .before .before .args .q .held) (j .before .before .before .before .before .before .before .args .q .top) (j .before .before .before .before .before .before .before .args .q .low)
-here j = record {
-  going = j .before .before .before .before .before .before .before .pre .2;
-  marked = sym (j .before .before .before .before .is-mark .ensures) ∙ not-false _ (j .before .before .before .if1 .left);
-  later = omega (arith, j .before .before .if2 .left);
-  above = omega (arith, j .if3 .left);
-  bytes = λ i. j .before .before .before .before .before .shared-slice-known2 .given i .fits;
-  most = j .before .before .before .before .before .before .before .pre .1;
-}
-
-is-mark-requires : tie.Need-is-mark-requires
-is-mark-requires c κs = search needs
-
-returns : tie.Need-returns
-returns c = search needs
-
-returns-2 : tie.Need-returns-2
-returns-2 c = search needs
-
-returns-3 : tie.Need-returns-3
-returns-3 c = search needs
-
-add-t : tie.Need-add-t
-add-t c = search needs
+add-from : tie.Need-add-from
+add-from c = search needs
 
 sub-t : tie.Need-sub-t
-sub-t c = room (here c)
+sub-t c = omega (arith, room (c .before .before .before .pre .0) (c .before .before .before .pre .1) (λ i. c .before .shared-slice-known2 .given i .fits))
 
 part-t-start : tie.Need-part-t-start
-part-t-start c = omega (arith, room (here c))
+part-t-start c = omega (arith, room (c .before .before .before .pre .0) (c .before .before .before .pre .1) (λ i. c .before .shared-slice-known2 .given i .fits))
 
 part-t-end : tie.Need-part-t-end
 part-t-end c = search needs
 
-sub-many : tie.Need-sub-many
-sub-many c = search needs
+rising-requires : tie.Need-rising-requires
+rising-requires c κs = let k = c .before .before .before .before .pre in (k .0 .glanced, targets-small (k .0) (k .1) (λ i. c .before .before .shared-slice-known2 .given i .fits))
 
-part-none-start : tie.Need-part-none-start
-part-none-start c = search needs
+series-sizes-requires : tie.Need-series-sizes-requires
+series-sizes-requires c κs = let k = c .before .before .before .before .before .before .before .pre in all-small (k .0) (k .1) (λ i. c .before .before .before .before .before .shared-slice-known2 .given i .fits) (c .before .before .rising .ensures) (c .if1 .taken)
 
-part-none-end : tie.Need-part-none-end
-part-none-end c = search needs
+after-requires : tie.Need-after-requires
+after-requires c κs = let k = c .before .before .before .before .before .before .before .before .pre in rw (c .series-sizes .ensures) (all-asks (k .0) (k .1) (λ i. c .before .before .before .before .before .before .shared-slice-known2 .given i .fits) (c .before .before .before .rising .ensures) (c .before .if1 .taken))
 
-many-requires : tie.Need-many-requires
-many-requires c κs = search needs
+walked-requires : tie.Need-walked-requires
+walked-requires c κs = search needs
 
-is-all-requires : tie.Need-is-all-requires
-is-all-requires c κs = search needs
+returns : tie.Need-returns
+returns c =
+    let k = c .before .before .before .before .before .before .before .before .before .before .pre in
+    let after = rw (c .before .before .series-sizes .ensures) at (c .before .after .ensures .0) in
+    all-walked (k .0) (k .1) (λ i. c .before .before .before .before .before .before .before .before .shared-slice-known2 .given i .fits) (c .before .before .before .before .before .rising .ensures) (c .before .before .before .if1 .taken) after (c .walked .ensures)
 
-after-series-requires : tie.Need-after-series-requires
-after-series-requires c κs = series-asks (here (c .before .before .before .before .before .before)) (c .before .before .before .many .result) (c .before .before .before .many .ensures) (c .before .is-all .ensures (c .if4 .taken))
+sub-series-rest : tie.Need-sub-series-rest
+sub-series-rest c = search needs
 
-returns-4 : tie.Need-returns-4
-returns-4 c = series-goes (here (c .before .before .before .before .before .before .before)) (c .before .before .before .before .many .result) (c .before .before .before .before .many .ensures) (c .before .before .is-all .ensures (c .before .if4 .taken)) (c .after-series .ensures)
+part-series-rest-start : tie.Need-part-series-rest-start
+part-series-rest-start c = search needs
 
-is-between-requires : tie.Need-is-between-requires
-is-between-requires c κs = c .before .before .before .many .ensures .0 .to
+part-series-rest-end : tie.Need-part-series-rest-end
+part-series-rest-end c = search needs
 
-sub-strewn : tie.Need-sub-strewn
-sub-strewn c = search needs
+series-rest-requires : tie.Need-series-rest-requires
+series-rest-requires c κs =
+    let k = c .before .before .before .before .before .before .before .before .pre in
+    let d = rw tail-part at (c .before .before .before .rising .ensures) in
+    (record { glanced = k .0 .glanced; most = rw (tail-part 0) (k .0 .most); going = rw (tail-part 0) (k .0 .going) }, rw (tail-part 0) (k .1), rw (tail-part 0) d)
 
-part-strewn-start : tie.Need-part-strewn-start
-part-strewn-start c = search needs
-
-part-strewn-end : tie.Need-part-strewn-end
-part-strewn-end c = search needs
-
-strewn-requires : tie.Need-strewn-requires
-strewn-requires c κs = search needs
-
-is-all-requires-2 : tie.Need-is-all-requires-2
-is-all-requires-2 c κs = search needs
-
-after-series-requires-2 : tie.Need-after-series-requires-2
-after-series-requires-2 c κs = series-asks (here (c .before .before .before .before .before .before .before .before .before .before .before .before .before)) (c .before .before .strewn .result) (rw (tail-part 0) at (c .before .before .strewn .ensures)) (c .before .is-all2 .ensures (c .if6 .taken))
-
-returns-5 : tie.Need-returns-5
-returns-5 c = series-goes (here (c .before .before .before .before .before .before .before .before .before .before .before .before .before .before)) (c .before .before .before .strewn .result) (rw (tail-part 0) at (c .before .before .before .strewn .ensures)) (c .before .before .is-all2 .ensures (c .before .if6 .taken)) (c .after-series2 .ensures)
-
-returns-6 : tie.Need-returns-6
-returns-6 c = c .before .before .before .before .before .before .before .before .before .before .before .before .before .before .before .before .before .before .before .before .pre .2
-
-returns-7 : tie.Need-returns-7
-returns-7 c = c .before .before .before .before .before .before .before .before .before .before .before .before .before .before .before .pre .2
+returns-2 : tie.Need-returns-2
+returns-2 c = rw (tail-part 0) at (c .series-rest .ensures)
 
 pub series-spec : {M : Type 1} → statement M
 series-spec =
     tie.close
     (tie.spec
-    is-mark-requires
-    returns
-    returns-2
-    returns-3
-    add-t
+    add-from
     sub-t
     part-t-start
     part-t-end
-    sub-many
-    part-none-start
-    part-none-end
-    many-requires
-    is-all-requires
-    after-series-requires
-    returns-4
-    is-between-requires
-    sub-strewn
-    part-strewn-start
-    part-strewn-end
-    strewn-requires
-    is-all-requires-2
-    after-series-requires-2
-    returns-5
-    returns-6
-    returns-7)
+    rising-requires
+    series-sizes-requires
+    after-requires
+    walked-requires
+    returns
+    sub-series-rest
+    part-series-rest-start
+    part-series-rest-end
+    series-rest-requires
+    returns-2)

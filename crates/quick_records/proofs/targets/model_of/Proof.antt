@@ -4,7 +4,7 @@ use native.Mathlib.Omega.{arith}
 use lib.ListN.{length-drop}
 use borrow.Author.Tests.{not-false}
 use Rattle.coding.proofs.Rooms.{tail-part}
-use Rattle.quick_records.proofs.Models.{no-records, records-held, records-model}
+use Rattle.quick_records.proofs.Models.{no-model, records-held, records-model}
 use borrow.Author.Needs.{needs}
 use Rattle.quick_records.proofs.targets.model_of.Statement.{statement}
 use Rattle.quick_records.proofs.targets.model_of.Tie as tie
@@ -31,7 +31,7 @@ no-model-requires : tie.Need-no-model-requires
 no-model-requires c κs = search needs
 
 returns : tie.Need-returns
-returns c = let n = c .no-model .ensures in (no-records n (c .before .before .before .lay .ensures .1), omega (arith, n .0), λ h. absurd (omega (arith, h, n .2)))
+returns c = no-model (c .no-model .ensures) (c .before .before .before .lay .ensures .1)
 
 either-requires : tie.Need-either-requires
 either-requires c κs = search needs
@@ -40,7 +40,7 @@ no-model-requires-2 : tie.Need-no-model-requires-2
 no-model-requires-2 c κs = search needs
 
 returns-2 : tie.Need-returns-2
-returns-2 c = let n = c .no-model2 .ensures in (no-records n (c .before .before .before .before .before .lay .ensures .1), omega (arith, n .0), λ h. absurd (omega (arith, h, n .2)))
+returns-2 c = no-model (c .no-model2 .ensures) (c .before .before .before .before .before .lay .ensures .1)
 
 add-t9 : tie.Need-add-t9
 add-t9 c = search needs
@@ -50,11 +50,13 @@ returns-3 c =
     let a = c .before .before .before .before .before .before .before .before .before .before .before in
     let l = rw (tail-part (a .args .from) (a .args .s .now)) at (c .before .before .before .before .before .lay .ensures) in
     let located = sym (c .before .before .either .ensures) ∙ not-false _ (c .before .if2 .left) in
-    let over = c .before .before .before .before .is-over .ensures (not-false _ (c .before .before .before .if1 .left)) in (
-      records-model (a .args .alone) (a .args .s .now) (a .args .from) (l .0) located (l .1) (a .pre .2),
-      omega arith,
-      λ _. (records-held (a .args .alone) (a .args .s .now) (a .args .from) (l .0) located, record { within = omega (arith, l .0 .own .to, length-drop (a .args .from) (a .args .s .now), a .pre .2); next = over }),
-    )
+    let over = c .before .before .before .before .is-over .ensures (not-false _ (c .before .before .before .if1 .left)) in
+    record {
+      modelled = records-model (a .args .alone) (a .args .s .now) (a .args .from) (l .0) located (l .1) (a .pre .2);
+      before = omega arith;
+      held = λ _. records-held (a .args .alone) (a .args .s .now) (a .args .from) (l .0) located;
+      over = λ _. record { within = omega (arith, l .0 .own .to, length-drop (a .args .from) (a .args .s .now), a .pre .2); next = over };
+    }
 
 pub model-of-spec : {M : Type 1} → statement M
 model-of-spec =

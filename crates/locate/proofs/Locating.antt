@@ -20,9 +20,9 @@ use Rattle.check_packet.specs.declared.Checked.{Checked}
 use Rattle.check_packet.specs.declared.Checked.the-variants.{Fine, Wrong}
 use Rattle.check_packet.specs.Meet.{checkedOf}
 use Rattle.check_packet.proofs.Parsing.{wrong-parsed}
-use Rattle.check_packet.proofs.Opened.{fine, opened, start-is, lentSet, lent-is}
+use Rattle.check_packet.proofs.Opened.{fine, opened, start-is, lentSet, lent-is, set-ran, set-long}
 use Rattle.stores.proofs.Stores.{sets-start}
-use Rattle.write_rows.specs.Meet.{numbers, levelRows, levelNumbers}
+use Rattle.write_rows.specs.Meet.{numbers, levelRows, levelNumbers, LevelAsked, LevelLeft}
 use Rattle.write_rows.proofs.Numbers.{numbers-long, level-set}
 use Rattle.write_rows.proofs.Packet.{rows-whole}
 use Rattle.answers.specs.declared.Answer.{Answer}
@@ -70,13 +70,17 @@ module _ (f : Form) (s lent : List ℕ) {c : Checked} (ec : c ≡ checkedOf (par
         let o = opened f s ec b t in
         ap numbers (rows-whole o ∙ sym (level-set (start f (o .width)) (o .es .val))) ∙ rows-at f (o .es) (sym (start-is f s ec b t)) (sym (lent-is f s ec b t)) (o .runs)
 
-    pub found-size : length (levelNumbers set f 0 k (lentSet f s ec b t)) ≡ 4 * a .rows
+    found-size : length (levelNumbers set f 0 k (lentSet f s ec b t)) ≡ 4 * a .rows
     found-size = omega (arith, ap length found-is, numbers-long found, count-is)
 
-    pub locate-done : 4 * a .rows ≤ length lent → {out : List ℕ} → out ≡ sets lent 0 (levelNumbers set f 0 k (lentSet f s ec b t))
+    -- what the walk that writes is asked for
+    pub rows-asked : 4 * a .rows ≤ length lent → LevelAsked set 0 k (lentSet f s ec b t) (length lent) f
+    rows-asked h = record { few = set-long f s ec b t; ran = set-ran f s ec b t; fits = omega (arith, found-size) }
+
+    pub locate-done : 4 * a .rows ≤ length lent → {n : ℕ} {out : List ℕ} → LevelLeft set 0 k (lentSet f s ec b t) lent n out
         → {r : Answer} → r ≡ answerOf 0 (a .rows) → leftOf r out ≡ leavesRows lent (locate f s)
     locate-done h {out = out} eo {r = r} er =
-        let stored : out ≡ sets lent 0 (numbers found) = eo ∙ ap (sets lent 0) (sym found-is) in
+        let stored : out ≡ sets lent 0 (numbers found) = eo f (rows-asked h) .1 ∙ ap (sets lent 0) (sym found-is) in
         ap (leftOf r) stored
         ∙ ap (λ r. leftOf r (sets lent 0 (numbers found))) (er ∙ ap (answerOf 0) (sym count-is))
         ∙ rows-written lent found (omega (arith, count-is))

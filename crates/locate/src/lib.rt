@@ -19,7 +19,7 @@ pub fn locate_numbers(packet: &[u8], alone: bool, rows: &mut [u64]) -> Answer
     if rows.len() < 4 * sizes.rows {
         return answer_of(16, sizes.rows);
     }
-    write_rows::item_rows(&packet[from..], from, 0, true, alone, rows);
+    write_rows::item_rows(&packet[from..], from, 0, true, rows);
     answer_of(0, sizes.rows)
 }
 

@@ -4,7 +4,7 @@ use Prim.Native.Nat.{ℕ, _+_, _-_, _≤_}
 use native.Mathlib.Omega.{arith}
 use mathlib.Core.Bool.{Bool, true, false, _&&_}
 use mathlib.Core.List.{List, [], _∷_}
-use lib.ListN.{length, take, drop}
+use lib.ListN.{length, take, drop, length-append}
 use lib.Seq.{sets, length-sets}
 use lib.Dec.{eqb}
 use borrow.Author.Tests.{eqb-true}
@@ -19,8 +19,8 @@ use Rattle.format.proofs.sheets.Normal.{length-series}
 use Rattle.items.specs.Meet.{levelOf}
 use Rattle.tally.specs.Runs.{Ran, levelRun, madeOf}
 use Rattle.stores.proofs.Puts.{Puts, Parted, rest-room, rest-put}
-use Rattle.write_laws.proofs.Entries.{LevelWriting, EntryAt, level-start, entry, entry-stands, valueAt, value-long, stored, entry-fits, entry-more, one-is, packs-run}
-use Rattle.write_rows.specs.Meet.{numbers, seriesNumbers}
+use Rattle.write_laws.proofs.Entries.{LevelWriting, EntryAt, level-start, entry, entry-stands, entry-room, valueAt, value-long, stored, entry-fits, entry-more, one-is, packs-run, packs-asked}
+use Rattle.write_rows.specs.Meet.{numbers, seriesNumbers, SeriesAsked, SeriesLeft}
 use Rattle.write_rows.proofs.Numbers.{entryNumbers, entryNext, entries-emit, entry-four, same-row}
 
 -- the state is where the entry that comes stands
@@ -41,6 +41,7 @@ one-byte = refl
 -- what stands at p, by the head that the code read there
 pub record RowsEntry (b : Bool) (f : Form) (target at : ℕ) (s out₀ out : List ℕ) (p k key used width size : ℕ) : Type 0 where
   pub is : EntryAt b f s out₀ out p k key used width size (entries-emit target) at (at + p)
+  pub within : at + length s ≤ 8192
 
 module _ {b : Bool} {f : Form} {target at : ℕ} {s out₀ out : List ℕ} {p k key used width size : ℕ} (e : RowsEntry b f target at s out₀ out p k key used width size) where
   abbrev row : List ℕ
@@ -89,12 +90,19 @@ module _ {b : Bool} {f : Form} {target at : ℕ} {s out₀ out : List ℕ} {p k 
           record { is = ap (entryNumbers target (at + p)) v ∙ same-row (sym tag-is) o n (ap (λ j. numbers (packRows 1 j (ps .val))) o ∙ sym i); fits = entry-fits (e .is) }
 
       module _ {m : ℕ} {o : List ℕ} (q : Puts out k row m o) where
-        pub series-fits : length inside ≤ length (take (length o - m) (drop m o))
-        series-fits = rest-room series-is q
+        abbrev tail : List ℕ
+        tail = take (length o - m) (drop m o)
 
-        pub series-end : m + length inside ≤ length out₀
-        series-end = omega (arith, entry-fits (e .is), ap length (series-is .is), q .0, e .is .going .writes .same)
+        pub series-asked : SeriesAsked (at + (p + used + width)) (valueAt (e .is)) (length tail) f
+        series-asked = record {
+          few = omega (arith, value-long (e .is), entry-room (e .is) .0, e .within);
+          ran = packs-asked (e .is) ex tx .1;
+          fits = rest-room series-is q;
+        }
 
-        pub series-more : {n : ℕ} {o′ : List ℕ} → (n ≡ length inside) × (o′ ≡ sets (take (length o - m) (drop m o)) 0 inside)
-            → LevelRows b f target at s out₀ (putMid m (length o - m) o o′) (p + used + width + size) (m + n)
-        series-more r = stored-more (rest-put series-is q r)
+        module _ {n : ℕ} {o′ : List ℕ} (r : SeriesLeft (at + (p + used + width)) (valueAt (e .is)) tail n o′) where
+          pub series-end : m + n ≤ length out₀
+          series-end = omega (arith, entry-fits (e .is), ap length (series-is .is), length-append row inside, q .0, e .is .going .writes .same, r f series-asked .0)
+
+          pub series-more : LevelRows b f target at s out₀ (putMid m (length o - m) o o′) (p + used + width + size) (m + n)
+          series-more = stored-more (rest-put series-is q (r f series-asked))

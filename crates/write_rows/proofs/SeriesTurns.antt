@@ -4,7 +4,7 @@ use Prim.Native.Nat.{ℕ, _+_, _-_, _≤_}
 use native.Mathlib.Omega.{arith}
 use native.Mathlib.Numerals.{add-one}
 use mathlib.Core.List.{List, [], _∷_}
-use lib.ListN.{length, take, drop}
+use lib.ListN.{length, take, drop, length-append}
 use lib.Seq.{sets, length-sets}
 use borrow.Rule.Slice.PartMut.{putMid}
 use Rattle.format.specs.Coding.{oidBytes}
@@ -15,7 +15,7 @@ use Rattle.tally.specs.Runs.{Ran, seriesRun, madeOf}
 use Rattle.stores.proofs.Puts.{Puts, Parted, head-room, rest-room, rest-put}
 use Rattle.write_laws.proofs.Packs as Packs
 use Rattle.write_laws.proofs.Packs.{PackAt, one-pack, pack-stands, itemsAt, items-run, packed}
-use Rattle.write_rows.specs.Meet.{numbers, levelNumbers}
+use Rattle.write_rows.specs.Meet.{numbers, levelNumbers, LevelAsked, LevelLeft}
 use Rattle.write_rows.proofs.Numbers.{level-pack, entriesNumbers, packNumbers, packs-emit, same-row}
 
 -- n is the number of the pack that comes; as each takes a byte, it is small
@@ -32,6 +32,7 @@ series-rows f at s out h =
 pub record RowsPack (f : Form) (at : ℕ) (s out₀ out : List ℕ) (p k n key used width size : ℕ) : Type 0 where
   pub is : PackAt f s out₀ out p k key used width size packs-emit (1, at) (n, at + p)
   pub few : n ≤ p + 1
+  pub within : at + length s ≤ 8192
 
 module _ {f : Form} {at : ℕ} {s out₀ out : List ℕ} {p k n key used width size : ℕ} (e : RowsPack f at s out₀ out p k n key used width size) where
   abbrev held : List ℕ
@@ -56,20 +57,27 @@ module _ {f : Form} {at : ℕ} {s out₀ out : List ℕ} {p k n key used width s
   pack-fits = head-room packed-is
 
   module _ {m : ℕ} {o : List ℕ} (q : Puts out k row m o) where
-    pub items-fit : length held ≤ length (take (length o - m) (drop m o))
-    items-fit = rest-room packed-is q
+    abbrev tail : List ℕ
+    tail = take (length o - m) (drop m o)
+
+    pub level-asked : LevelAsked pack n (at + (p + width + used)) (itemsAt (e .is)) (length tail) f
+    level-asked = record {
+      few = omega (arith, Packs.items-long (e .is), Packs.pack-room (e .is), e .within);
+      ran = Packs.items-asked (e .is) .1;
+      fits = rest-room packed-is q;
+    }
 
     pub pack-end : (m ≤ length o) × (length o ≡ length out₀)
     pack-end =
         let z = ap length (q .1) ∙ length-sets out k row in
         (omega (arith, z, q .0, pack-fits), z ∙ e .is .going .writes .same)
 
-    pub items-end : m + length held ≤ length out₀
-    items-end = omega (arith, q .0, Packs.pack-fits (e .is), ap length (packed-is .is), e .is .going .writes .same)
+    module _ {j : ℕ} {o′ : List ℕ} (r : LevelLeft pack n (at + (p + width + used)) (itemsAt (e .is)) tail j o′) where
+      pub items-end : m + j ≤ length out₀
+      items-end = omega (arith, q .0, Packs.pack-fits (e .is), ap length (packed-is .is), length-append row held, e .is .going .writes .same, r f level-asked .0)
 
-    pub pack-more : {j : ℕ} {o′ : List ℕ} → (j ≡ length held) × (o′ ≡ sets (take (length o - m) (drop m o)) 0 held)
-        → SeriesRows f at s out₀ (putMid m (length o - m) o o′) (p + width + size) (m + j) (n + 1)
-    pack-more r =
-        let i = pack-stands (e .is) in
-        let z : at + (p + width + size) ≡ at + p + length (flatPack (one-pack (e .is) .it .val)) = omega (arith, i .flat-is, i .used-is) in
-        record { going = Packs.pack-more (e .is) (rest-put packed-is q r) (rw (z, add-one n)); few = omega (arith, e .few, i .len) }
+      pub pack-more : SeriesRows f at s out₀ (putMid m (length o - m) o o′) (p + width + size) (m + j) (n + 1)
+      pack-more =
+          let i = pack-stands (e .is) in
+          let z : at + (p + width + size) ≡ at + p + length (flatPack (one-pack (e .is) .it .val)) = omega (arith, i .flat-is, i .used-is) in
+          record { going = Packs.pack-more (e .is) (rest-put packed-is q (r f level-asked)) (rw (z, add-one n)); few = omega (arith, e .few, i .len) }

@@ -7,6 +7,8 @@ use Rattle.format.specs.Table.{Form, Level}
 use Rattle.format.specs.Packet.{Entry, plain, series, flatPack, flatEntry}
 use Rattle.format.specs.Rows.{Row, row, itemRow, packRows}
 use Rattle.tally.specs.Runs.{levelRun, seriesRun, madeOf}
+use Rattle.stores.specs.Puts.{Fills}
+use Rattle.write_laws.specs.Writing.{Asked}
 use Rattle.write_rows.specs.declared.table.Row as declared
 
 unfoldable pub numbers : List Row → List ℕ
@@ -26,6 +28,20 @@ levelNumbers l f k at s = madeOf (λ es. numbers (levelRows k at es)) (levelRun 
 
 abbrev pub seriesNumbers : Form → ℕ → List ℕ → List ℕ
 seriesNumbers f at s = madeOf (λ ps. numbers (packRows 1 at ps)) (seriesRun f s)
+
+-- What is asked of a walk that writes the rows of a level, and of a series, that begins at `at`, in a form that it was accepted in; and what it leaves,
+-- whatever the form.
+abbrev pub LevelAsked : Level → ℕ → ℕ → List ℕ → ℕ → Form → Type 0
+LevelAsked l k at s room f = Asked (levelRun l f s) (levelNumbers l f k at s) (at + length s) 8192 room
+
+abbrev pub SeriesAsked : ℕ → List ℕ → ℕ → Form → Type 0
+SeriesAsked at s room f = Asked (seriesRun f s) (seriesNumbers f at s) (at + length s) 8192 room
+
+abbrev pub LevelLeft : Level → ℕ → ℕ → List ℕ → List ℕ → ℕ → List ℕ → Type 0
+LevelLeft l k at s out r out′ = (f : Form) → LevelAsked l k at s (length out) f → Fills out (levelNumbers l f k at s) r out′
+
+abbrev pub SeriesLeft : ℕ → List ℕ → List ℕ → ℕ → List ℕ → Type 0
+SeriesLeft at s out r out′ = (f : Form) → SeriesAsked at s (length out) f → Fills out (seriesNumbers f at s) r out′
 
 -- ---- rows as structs
 

@@ -1,17 +1,14 @@
 // A packet's rows, written as numbers, four to a row, into a lent table as the item walk and the pack walk go over a packet that was checked.
-ghost use mathlib.Core.Path.{_≡_};
-ghost use Prim.Native.Nat.{_+_, _≤_};
 ghost use lib.ListN.{length};
-ghost use lib.Seq.{sets};
-ghost use Rattle.items.specs.Meet.{formOf, levelOf};
-ghost use Rattle.tally.specs.Runs.{Ran, levelRun, seriesRun};
-ghost use Rattle.write_rows.specs.Meet.{levelNumbers, seriesNumbers};
+ghost use Rattle.format.specs.Table.{Form};
+ghost use Rattle.items.specs.Meet.{levelOf};
+ghost use Rattle.write_rows.specs.Meet.{LevelAsked, SeriesAsked, LevelLeft, SeriesLeft};
 use heads::Head;
 
 // The items of a level that begins at an offset: the set, or a pack; how many numbers.
-pub fn item_rows(s: &[u8], at: usize, target: u64, set: bool, alone: bool, out: &mut [u64]) -> usize
-    requires { ⌜ (at + length (now s) ≤ 8192) × Ran (levelRun (levelOf set) (formOf alone) (now s)) × (length (levelNumbers (levelOf set) (formOf alone) target at (now s)) ≤ length (now out)) ⌝ }
-    ensures { λ r. ⌜ (r ≡ length (levelNumbers (levelOf set) (formOf alone) target at (now (s .entry)))) × (now (out .exit) ≡ sets (now (out .entry)) 0 (levelNumbers (levelOf set) (formOf alone) target at (now (s .entry)))) ⌝ }
+pub fn item_rows(s: &[u8], at: usize, target: u64, set: bool, out: &mut [u64]) -> usize
+    requires { ⌜ ((f : Form) × LevelAsked (levelOf set) target at (now s) (length (now out)) f) ⌝ }
+    ensures { λ r. ⌜ LevelLeft (levelOf set) target at (now (s .entry)) (now (out .entry)) r (now (out .exit)) ⌝ }
 {
     let mut p: usize = 0;
     let mut k: usize = 0;
@@ -30,7 +27,7 @@ pub fn item_rows(s: &[u8], at: usize, target: u64, set: bool, alone: bool, out: 
         let next = from + size;
         let m = stores::put_row(out, k, target, key, (at + from) as u64, size as u64);
         k = if tally::is_series(set, key) {
-            m + pack_rows(&s[from..next], at + from, alone, &mut out[m..])
+            m + pack_rows(&s[from..next], at + from, &mut out[m..])
         } else {
             m
         };
@@ -40,9 +37,9 @@ pub fn item_rows(s: &[u8], at: usize, target: u64, set: bool, alone: bool, out: 
 }
 
 // The packs of a series that begins at an offset; how many numbers.
-pub fn pack_rows(s: &[u8], at: usize, alone: bool, out: &mut [u64]) -> usize
-    requires { ⌜ (at + length (now s) ≤ 8192) × Ran (seriesRun (formOf alone) (now s)) × (length (seriesNumbers (formOf alone) at (now s)) ≤ length (now out)) ⌝ }
-    ensures { λ r. ⌜ (r ≡ length (seriesNumbers (formOf alone) at (now (s .entry)))) × (now (out .exit) ≡ sets (now (out .entry)) 0 (seriesNumbers (formOf alone) at (now (s .entry)))) ⌝ }
+pub fn pack_rows(s: &[u8], at: usize, out: &mut [u64]) -> usize
+    requires { ⌜ ((f : Form) × SeriesAsked at (now s) (length (now out)) f) ⌝ }
+    ensures { λ r. ⌜ SeriesLeft at (now (s .entry)) (now (out .entry)) r (now (out .exit)) ⌝ }
 {
     let mut p: usize = 0;
     let mut k: usize = 0;
@@ -61,7 +58,7 @@ pub fn pack_rows(s: &[u8], at: usize, alone: bool, out: &mut [u64]) -> usize
         let from = p + width + used;
         let next = p + width + size;
         let m = stores::put_row(out, k, n, 0, (at + p + width) as u64, size as u64);
-        k = m + item_rows(&s[from..next], at + from, n, false, alone, &mut out[m..]);
+        k = m + item_rows(&s[from..next], at + from, n, false, &mut out[m..]);
         n += 1;
         p = next;
     }

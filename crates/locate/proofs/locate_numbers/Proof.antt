@@ -1,42 +1,38 @@
 -- `locate::locate_numbers` meets its contract: each way out is a case of what is left behind.
--- In each answer a is where the check was found fine, and k where there is room.
+use mathlib.Core.Path.{_≡_}
 use native.Mathlib.Omega.{arith}
 use borrow.Author.Needs.{needs}
 use Rattle.format.specs.Coding.{Bytes}
-use Rattle.check_packet.proofs.Opened.{set-room, set-ran, set-long}
-use Rattle.locate.proofs.Locating.{locate-refused, found-few, locate-short, found-size, locate-done}
+use Rattle.format.specs.Read.{parse}
+use Rattle.items.specs.Meet.{formOf}
+use Rattle.check_packet.specs.declared.Checked.the-variants as Checked
+use Rattle.check_packet.specs.Meet.{checkedOf}
+use Rattle.check_packet.proofs.Opened.{set-room}
+use Rattle.locate.proofs.Locating.{locate-refused, found-few, locate-short, rows-asked, locate-done}
 use Rattle.locate.proofs.locate_numbers.Statement.{statement}
 use Rattle.locate.proofs.locate_numbers.Tie as tie
-use Rattle.locate.proofs.locate_numbers.Reads as reads
-use Rattle.locate.proofs.locate_numbers.Lts as lts
-use Rattle.items.proofs.quick.glances.Reads as glances-reads
-use Rattle.check_packet.proofs.check.Reads as check-reads
-use Rattle.write_rows.proofs.item_rows.Reads as item-rows-reads
-use Rattle.answers.proofs.refusal.Reads as refusal-reads
-use Rattle.answers.proofs.answer_of.Reads as answer-of-reads
 
-abbrev claims : lts.Claims
-claims = (
-  glances-reads.Asked,
-  glances-reads.Learnt,
-  check-reads.Asked,
-  check-reads.Learnt,
-  refusal-reads.Asked,
-  refusal-reads.Learnt,
-  answer-of-reads.Asked,
-  answer-of-reads.Learnt,
-  item-rows-reads.Asked,
-  item-rows-reads.Learnt,
-)
+-- ---- the places: the check found the packet fine, and there is room
 
-abbrev Found : Type 0
-Found = lts.After-c claims reads.Pre reads.Post
+abbrev Fine : Type 0
+Fine = tie.After-c
 
-abbrev start : Found → lts.Start claims reads.Pre reads.Post
+abbrev start : Fine → tie.Start
 start a = a .before .before .before .before .before .before .before
 
-bytes : (a : Found) → Bytes (start a .args .packet .now)
+checked : (a : Fine) → a .before .before .check .result ≡ checkedOf (parse (formOf (start a .args .alone)) (start a .args .packet .now))
+checked a = a .before .before .check .ensures
+
+bytes : (a : Fine) → Bytes (start a .args .packet .now)
 bytes a = λ i. a .before .before .before .before .before .before .shared-slice-known .given i .fits
+
+fine : (a : Fine) → a .before .before .check .result ≡ Checked.Fine (a .c .given .0 .0) (a .c .given .0 .1 .0)
+fine a = a .c .given .1
+
+abbrev found : tie.Else1 → Fine
+found k = k .before .before .before
+
+-- ---- the needs
 
 glances-requires : tie.Need-glances-requires
 glances-requires c κs = search needs
@@ -62,7 +58,7 @@ returns c = locate-refused _ _ _ (c .before .before .before .check .ensures) (c 
 mul-if1 : tie.Need-mul-if1
 mul-if1 c =
     let a = c .before .before in
-    omega (arith, found-few _ _ (start a .args .rows .now) (a .before .before .check .ensures) (bytes a) (a .c .given .1))
+    omega (arith, found-few _ _ (start a .args .rows .now) (checked a) (bytes a) (fine a))
 
 answer-of-requires : tie.Need-answer-of-requires
 answer-of-requires c κs = search needs
@@ -70,12 +66,12 @@ answer-of-requires c κs = search needs
 returns-2 : tie.Need-returns-2
 returns-2 c =
     let a = c .before .before .before .before in
-    locate-short _ _ _ (a .before .before .check .ensures) (bytes a) (a .c .given .1) (c .before .if1 .taken) (c .answer-of .ensures)
+    locate-short _ _ _ (checked a) (bytes a) (fine a) (c .before .if1 .taken) (c .answer-of .ensures)
 
 sub-item-rows : tie.Need-sub-item-rows
 sub-item-rows c =
     let a = c .before .before .before in
-    set-room _ _ (a .before .before .check .ensures) (bytes a) (a .c .given .1)
+    set-room _ _ (checked a) (bytes a) (fine a)
 
 part-item-rows-start : tie.Need-part-item-rows-start
 part-item-rows-start c = sub-item-rows c
@@ -86,11 +82,8 @@ part-item-rows-end c = search needs
 item-rows-requires : tie.Need-item-rows-requires
 item-rows-requires c κs =
     let k = c .before .before in
-    let a = k .before .before .before in (
-      set-long _ _ (a .before .before .check .ensures) (bytes a) (a .c .given .1),
-      set-ran _ _ (a .before .before .check .ensures) (bytes a) (a .c .given .1),
-      omega (arith, found-size _ _ (start a .args .rows .now) (a .before .before .check .ensures) (bytes a) (a .c .given .1), k .if1 .left),
-    )
+    let a = found k in
+    (formOf (start a .args .alone), rows-asked _ _ (start a .args .rows .now) (checked a) (bytes a) (fine a) (k .if1 .left))
 
 answer-of-requires-2 : tie.Need-answer-of-requires-2
 answer-of-requires-2 c κs = search needs
@@ -101,8 +94,8 @@ same-length c = search needs
 returns-3 : tie.Need-returns-3
 returns-3 c =
     let k = c .before .before .before .before .before .before in
-    let a = k .before .before .before in
-    locate-done _ _ _ (a .before .before .check .ensures) (bytes a) (a .c .given .1) (k .if1 .left) (c .before .before .before .item-rows .ensures .1) (c .answer-of2 .ensures)
+    let a = found k in
+    locate-done _ _ _ (checked a) (bytes a) (fine a) (k .if1 .left) (c .before .before .before .item-rows .ensures) (c .answer-of2 .ensures)
 
 pub locate-numbers-spec : {M : Type 1} → statement M
 locate-numbers-spec =

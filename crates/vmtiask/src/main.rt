@@ -1,229 +1,179 @@
-// Answers questions on standard input, locate and show, each in a frame. docs/QUESTIONS.md has the format.
-ghost use Prim.Native.Nat.{_*_, _≤_};
+// Answers questions on standard input, locate and show, each in a frame. docs/QUESTIONS.md has the format. Numbers go in and out as bytes, and each
+// function is short: what the check of a function costs grows with its statements times its variables.
+ghost use Prim.Native.Nat.{_≤_};
+ghost use mathlib.Core.Bool.{false};
+ghost use mathlib.Core.Path.{_≡_};
 ghost use lib.ListN.{length};
+use libc::STDIN_FILENO;
+use libc::STDOUT_FILENO;
 
-mod text; // text.rt: what is printed
+// The kinds of a question.
+const LOCATE: u64 = 0x4C;
 
-// How far the room of what is printed is filled after a question, and whether another may follow.
-struct Turn {
-    at: usize,
-    more: bool,
+const SHOW: u64 = 0x53;
+
+// Why no question follows; 0 as long as one may.
+const END: u64 = 1;
+
+const CUT_OFF: u64 = 2;
+
+const TOO_LONG: u64 = 3;
+
+const UNKNOWN: u64 = 4;
+
+// A number, eight bytes.
+fn number(n: u64) {
+    let mut out = [0u8; 8];
+    stores::put_number(&mut out, 0, n, 8);
+    io::write_all(STDOUT_FILENO, &out);
 }
 
-// Why a frame is no question.
-const CUT_OFF: u64 = 1;
-
-const TOO_LONG: u64 = 2;
-
-const UNKNOWN: u64 = 3;
-
-// The last line then.
-fn ends(out: &mut [u8; 4096], at: usize, why: u64) -> Turn {
-    let mut to = at;
-    if why == CUT_OFF {
-        to = text::word(out, to, b"cut off\n");
-    } else if why == TOO_LONG {
-        to = text::word(out, to, b"too long\n");
-    } else {
-        to = text::word(out, to, b"unknown kind\n");
-    }
-    Turn {
-        at: to,
-        more: false,
-    }
-}
-
-// Fills what is lent from standard input, if that has so much left.
-fn is_filled(part: &mut [u8]) -> bool {
-    io::read_full(0, part) == part.len()
-}
-
-// How many bytes of a packet were read, or why none: 0 if they were.
-struct Got {
-    why: u64,
-    size: usize,
-}
-
-// A packet, after its length (4), into the room that is lent.
-fn packet_in(room: &mut [u8]) -> Got
-    ensures { λ r. ⌜ r .size ≤ length (now (room .exit)) ⌝ }
+// Every number of a table, in one write.
+fn numbers(table: &[u64])
+    requires { ⌜ length (now table) ≤ 16384 ⌝ }
 {
-    let mut head = [0u8; 4];
-    if !is_filled(&mut head) {
-        return Got {
-            why: CUT_OFF,
-            size: 0,
-        };
-    }
-    let size = coding::number_of(&head, 4) as usize;
-    if room.len() < size {
-        return Got {
-            why: TOO_LONG,
-            size: 0,
-        };
-    }
-    if is_filled(&mut room[..size]) {
-        return Got { why: 0, size };
-    }
-    Got {
-        why: CUT_OFF,
-        size: 0,
-    }
-}
-
-// The first numbers, four to a line.
-fn rows(out: &mut [u8; 4096], at: usize, table: &[u64], count: usize) -> usize
-    requires { ⌜ count ≤ length (now table) ⌝ }
-{
-    let mut to = at;
+    let mut out = [0u8; 131072];
+    let mut to: usize = 0;
     let mut i: usize = 0;
-    while i < count {
-        let n = table[i];
-        i += 1;
-        if i % 4 == 0 {
-            to = text::number(out, to, n, b"\n");
-        } else {
-            to = text::number(out, to, n, b" ");
-        }
-    }
-    to
-}
-
-// Whether all from there on are 7, as they were before the call.
-fn are_kept(table: &[u64], from: usize) -> bool {
-    let mut i = from;
     while i < table.len() {
-        if table[i] != 7 {
-            return false;
-        }
+        to = stores::put_number(&mut out, to, table[i], 8);
         i += 1;
     }
-    true
+    io::write_all(STDOUT_FILENO, &out[..to]);
 }
 
-// The first rows, four numbers each, and whether the rest of the table is as it was.
-fn printed(out: &mut [u8; 4096], at: usize, table: &[u64], count: usize) -> usize
-    requires { ⌜ 4 * count ≤ length (now table) ⌝ }
+// The answer to locate: its number and place or count, then the whole table, written or not.
+fn located(packet: &[u8], alone: bool, table: &mut [u64])
+    requires { ⌜ length (now table) ≤ 16384 ⌝ }
 {
-    let end = 4 * count;
-    let to = rows(out, at, table, end);
-    if are_kept(table, end) {
-        return text::word(out, to, b"kept\n");
-    }
-    text::word(out, to, b"changed\n")
-}
-
-// The answer to locate: its number and place or count, then the table.
-fn located(
-    out: &mut [u8; 4096],
-    at: usize,
-    packet: &[u8],
-    alone: bool,
-    table: &mut [u64],
-) -> usize {
     let a = locate::locate_numbers(packet, alone, table);
-    let mut to = text::number(out, at, a.number, b" ");
-    to = text::number(out, to, a.place as u64, b"\n");
-    if a.number == 0 {
-        return printed(out, to, table, a.place);
-    }
-    printed(out, to, table, 0)
+    number(a.number);
+    number(a.place as u64);
+    numbers(table);
 }
 
-// Locate: form (1), room (2), packet.
-fn locate_asked(out: &mut [u8; 4096], at: usize, packet: &mut [u8], table: &mut [u64]) -> Turn {
-    let mut head = [0u8; 3];
-    if !is_filled(&mut head) {
-        return ends(out, at, CUT_OFF);
-    }
-    let room = coding::number_of(&head[1..], 2) as usize;
-    if table.len() / 4 < room {
-        return ends(out, at, TOO_LONG);
-    }
-    let p = packet_in(packet);
-    if p.why != 0 {
-        return ends(out, at, p.why);
-    }
-    let size = p.size;
+// The same, of a table of so many rows, each number 7.
+fn located_of(packet: &[u8], alone: bool, room: usize)
+    requires { ⌜ room ≤ 4096 ⌝ }
+{
+    let mut table = [7u64; 16384];
     let end = 4 * room;
-    let to = located(out, at, &packet[..size], head[0] != 0, &mut table[..end]);
-    Turn { at: to, more: true }
+    located(packet, alone, &mut table[..end]);
 }
 
 // The answer to show: whose packet, the offset and size of the part, and its bytes.
-fn shown<'a>(
-    out: &mut [u8; 4096],
-    at: usize,
-    reviewer: &'a [u8],
-    detector: &'a [u8],
-    head: [u8; 18],
-) -> usize {
-    let alone = head[0] != 0;
-    let set = head[1] == 0;
-    let id = coding::number_of(&head[2..], 8);
-    let tag = coding::number_of(&head[10..], 8);
+fn shown<'a>(reviewer: &'a [u8], detector: &'a [u8], alone: bool, set: bool, id: u64, tag: u64) {
     let p = show::shown(reviewer, detector, alone, set, id, tag);
-    let mut to = at;
-    if p.detectors {
-        to = text::word(out, to, b"detector ");
-    } else {
-        to = text::word(out, to, b"reviewer ");
-    }
-    to = text::number(out, to, p.offset as u64, b" ");
-    to = text::number(out, to, p.size as u64, b" ");
-    let v = show::show(reviewer, detector, alone, set, id, tag);
-    text::hex(out, to, v)
+    number(p.detectors as u64);
+    number(p.offset as u64);
+    number(p.size as u64);
+    io::write_all(
+        STDOUT_FILENO,
+        show::show(reviewer, detector, alone, set, id, tag),
+    );
 }
 
-// Show: form (1), level (1), target (8), tag (8), the reviewer's packet, the detector's.
-fn show_asked(out: &mut [u8; 4096], at: usize, reviewer: &mut [u8], detector: &mut [u8]) -> Turn {
-    let mut head = [0u8; 18];
-    if !is_filled(&mut head) {
-        return ends(out, at, CUT_OFF);
-    }
-    let r = packet_in(reviewer);
-    if r.why != 0 {
-        return ends(out, at, r.why);
-    }
-    let d = packet_in(detector);
-    if d.why != 0 {
-        return ends(out, at, d.why);
-    }
-    let n = r.size;
-    let m = d.size;
-    let to = shown(out, at, &reviewer[..n], &detector[..m], head);
-    Turn { at: to, more: true }
+// The number that the next bytes spell; those that the input has no more are as they were.
+fn spelled_in(bytes: &mut [u8]) -> u64
+    requires { ⌜ length (now bytes) ≤ 8 ⌝ }
+{
+    io::read_full(STDIN_FILENO, bytes);
+    coding::number_of(bytes, bytes.len())
 }
 
-// One question; the end of the input where one would begin is the last.
-fn question(out: &mut [u8; 4096], at: usize) -> Turn {
-    let mut kind = [0u8; 1];
-    let mut first = [0u8; 16384];
-    if !is_filled(&mut kind) {
-        return Turn { at, more: false };
+// The number that the next k bytes spell, as if 0 followed the input.
+fn number_in(k: usize) -> u64
+    requires { ⌜ k ≤ 8 ⌝ }
+{
+    let mut bytes = [0u8; 8];
+    spelled_in(&mut bytes[..k])
+}
+
+// What heads a frame.
+struct Head {
+    kind: u64,
+    alone: bool,
+    set: bool,
+    id: u64,
+    tag: u64,
+    room: usize,
+    reviewers: usize,
+    detectors: usize,
+}
+
+fn head_in() -> Head {
+    Head {
+        kind: number_in(1),
+        alone: number_in(1) != 0,
+        set: number_in(1) == 0,
+        id: number_in(8),
+        tag: number_in(8),
+        room: number_in(2) as usize,
+        reviewers: number_in(4) as usize,
+        detectors: number_in(4) as usize,
     }
-    if kind[0] == b'L' {
-        let mut table = [7u64; 16384];
-        return locate_asked(out, at, &mut first, &mut table);
+}
+
+fn is_long(room: usize, reviewers: usize, detectors: usize) -> bool
+    ensures { λ r. ⌜ (r ≡ false → (room ≤ 4096) × (reviewers ≤ 16384) × (detectors ≤ 16384)) ⌝ }
+{
+    if 4096 < room {
+        return true;
     }
-    if kind[0] == b'S' {
-        let mut second = [0u8; 16384];
-        return show_asked(out, at, &mut first, &mut second);
+    if 16384 < reviewers {
+        return true;
     }
-    ends(out, at, UNKNOWN)
+    16384 < detectors
+}
+
+// The answer to a question. The detector's packet follows the reviewer's; locate is asked of the reviewer's.
+fn answered(h: Head, packets: &[u8]) -> u64
+    requires { ⌜ (h .reviewers ≤ length (now packets)) × (h .room ≤ 4096) ⌝ }
+{
+    let n = h.reviewers;
+    if h.kind == LOCATE {
+        located_of(&packets[..n], h.alone, h.room);
+        return 0;
+    }
+    if h.kind == SHOW {
+        shown(&packets[..n], &packets[n..], h.alone, h.set, h.id, h.tag);
+        return 0;
+    }
+    UNKNOWN
+}
+
+// The packets, and the kind once more: where the input ended before, that is not there.
+fn packets_in(h: Head, packets: &mut [u8]) -> u64
+    requires { ⌜ (h .reviewers ≤ length (now packets)) × (h .room ≤ 4096) ⌝ }
+{
+    io::read_full(STDIN_FILENO, packets);
+    if number_in(1) != h.kind {
+        return CUT_OFF;
+    }
+    answered(h, packets)
+}
+
+// One question.
+fn question() -> u64 {
+    let mut packets = [0u8; 32768];
+    let h = head_in();
+    if h.kind == 0 {
+        return END;
+    }
+    if is_long(h.room, h.reviewers, h.detectors) {
+        return TOO_LONG;
+    }
+    let size = h.reviewers + h.detectors;
+    packets_in(h, &mut packets[..size])
 }
 
 // A proved loop has to end, and nothing says that the input does: it counts its turns down from a number that no run uses up.
 fn main() {
-    let mut out = [0u8; 4096];
-    let mut at: usize = 0;
     let mut turns = u64::MAX;
-    let mut more = true;
-    while turns > 0 && more {
-        let t = question(&mut out, at);
-        at = t.at;
-        more = t.more;
+    let mut why: u64 = 0;
+    while turns > 0 && why == 0 {
+        why = question();
         turns -= 1;
     }
-    text::flush(&out, at);
+    number(why);
 }

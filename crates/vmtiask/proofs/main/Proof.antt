@@ -4,10 +4,10 @@ use Rattle.vmtiask.proofs.main.Statement.{statement}
 use Rattle.vmtiask.proofs.main.Tie as tie
 
 abbrev Inv-loop : tie.InvT-loop
-Inv-loop out₀ at₀ turns₀ more₀ out at turns more = Unit {0}
+Inv-loop turns₀ why₀ turns why = Unit {0}
 
 abbrev μ-loop : tie.MeasureT-loop
-μ-loop out₀ at₀ turns₀ more₀ out at turns more = turns
+μ-loop turns₀ why₀ turns why = turns
 
 loop-holds : tie.Need-loop-holds Inv-loop μ-loop
 loop-holds c = tt
@@ -24,8 +24,8 @@ loop-less c = omega arith
 loop-again : tie.Need-loop-again Inv-loop μ-loop
 loop-again c = tt
 
-flush-requires : tie.Need-flush-requires Inv-loop μ-loop
-flush-requires c κs = tt
+number-requires : tie.Need-number-requires Inv-loop μ-loop
+number-requires c κs = tt
 
 returns : tie.Need-returns Inv-loop μ-loop
 returns c = tt
@@ -41,5 +41,5 @@ main-spec =
     sub-turns
     loop-less
     loop-again
-    flush-requires
+    number-requires
     returns)

@@ -1,13 +1,16 @@
 //! Writes questions for the program vmtiask, as docs/QUESTIONS.md has them,
-//! with what it is to answer by the second reader: `asks FOLDER SEED COUNT`,
-//! COUNT seeded ones of each kind after the chosen ones, in the files
-//! `questions` and `answers`.
+//! with what it is to answer by the second reader: `asks FOLDER SEED COUNT
+//! MOST`, COUNT seeded ones of each kind after the chosen ones, in the files
+//! `questions` and `answers`, and in `sizes` a line for each answer, its kind
+//! and how many bytes it has. A table that would bring the answers over MOST
+//! bytes is not asked for. Then `asks FOLDER` compares the file `printed` with
+//! the answers, one by one.
 
 use second::generate::limits::of_size;
 use second::generate::random::Random;
 use second::generate::{named, packet, show, PacketCase, ShowCase};
 use second::{locate, Form, Level, Refusal, Row, Shown, Side, PACKET_LIMIT, ROWS_LIMIT};
-use std::fmt::Write;
+use std::process::exit;
 
 /// The most bytes of a packet that the program has room for.
 const PACKET_ROOM: usize = 16_384;
@@ -18,9 +21,12 @@ const OTHER: [u8; 5] = [1, 2, 16, 128, 255];
 fn main() {
     let mut words = std::env::args().skip(1);
     let folder = words.next().expect("a folder");
+    if words.len() == 0 {
+        exit(i32::from(!is_as_printed(&folder)));
+    }
     let mut numbers = words.map(|word| word.parse().expect("a number"));
     let (seed, count) = (numbers.next().unwrap_or(1), numbers.next().unwrap_or(20_000));
-    let mut asked = Asked::default();
+    let mut asked = Asked { most: numbers.next().unwrap_or(u64::MAX) as usize, ..Asked::default() };
     for (index, case) in chosen_packets().iter().enumerate() {
         rooms(case, index).into_iter().for_each(|room| asked.locate(case, room, index));
     }
@@ -36,47 +42,81 @@ fn main() {
         case.detector.truncate(PACKET_ROOM);
         asked.show(&case, index);
     }
+    asked.number(ENDED);
     let file = |name: &str, bytes: &[u8]| std::fs::write(format!("{folder}/{name}"), bytes).expect("a file");
     file("questions", &asked.questions);
-    file("answers", asked.answers.as_bytes());
+    file("answers", &asked.answers);
+    file("sizes", asked.sizes.as_bytes());
 }
+
+/// What the program says at the end of its input.
+const ENDED: u64 = 1;
 
 /// The stream so far, and its answers.
 #[derive(Default)]
 struct Asked {
+    most: usize,
     questions: Vec<u8>,
-    answers: String,
+    answers: Vec<u8>,
+    sizes: String,
+}
+
+/// What heads a frame beside the packets.
+struct Head {
+    kind: u8,
+    form: u8,
+    level: u8,
+    target: u64,
+    tag: u64,
+    room: usize,
 }
 
 impl Asked {
     fn locate(&mut self, case: &PacketCase, room: usize, index: usize) {
-        self.questions.extend([b'L', form(case.form, index)]);
-        self.questions.extend((room as u16).to_be_bytes());
-        self.packet(&case.bytes);
+        if self.most < self.answers.len() + 32 * room {
+            return;
+        }
+        let (level, target, tag) = (OTHER[index / 5 % 5], index as u64, 19);
+        let head = Head { kind: b'L', form: form(case.form, index), level, target, tag, room };
+        let other = &case.bytes[..case.bytes.len().min(index % 3)];
+        self.frame(&head, &case.bytes, other);
+        let from = self.answers.len();
         self.located(case, room);
+        self.size("locate", from);
     }
 
-    fn packet(&mut self, packet: &[u8]) {
-        self.questions.extend((packet.len() as u32).to_be_bytes());
-        self.questions.extend(packet);
+    fn frame(&mut self, head: &Head, reviewer: &[u8], detector: &[u8]) {
+        let all = &mut self.questions;
+        all.extend([head.kind, head.form, head.level]);
+        all.extend(head.target.to_be_bytes());
+        all.extend(head.tag.to_be_bytes());
+        all.extend((head.room as u16).to_be_bytes());
+        all.extend((reviewer.len() as u32).to_be_bytes());
+        all.extend((detector.len() as u32).to_be_bytes());
+        all.extend([reviewer, detector, &[head.kind]].concat());
+    }
+
+    fn number(&mut self, number: u64) {
+        self.answers.extend(number.to_be_bytes());
+    }
+
+    fn size(&mut self, kind: &str, from: usize) {
+        self.sizes += &format!("{kind} {}\n", self.answers.len() - from);
     }
 
     fn located(&mut self, case: &PacketCase, room: usize) {
-        let seven = Row { target: 7, tag: 7, offset: 7, length: 7 };
-        let mut table = vec![seven; room];
-        let answer = locate(case.form, &case.bytes, &mut table);
-        let (number, place) = match answer {
+        let mut table = vec![Row { target: 7, tag: 7, offset: 7, length: 7 }; room];
+        let (number, place) = match locate(case.form, &case.bytes, &mut table) {
             Ok(count) => (0, count),
             Err(Refusal { number, place }) => (number, place),
         };
-        let text = &mut self.answers;
-        writeln!(text, "{number} {place}").expect("a line");
-        let count = answer.unwrap_or(0);
-        for row in &table[..count] {
-            writeln!(text, "{} {} {} {}", row.target, row.tag, row.offset, row.length).expect("a line");
+        self.number(u64::from(number));
+        self.number(place as u64);
+        for row in &table {
+            for number in [row.target, row.tag, row.offset, row.length] {
+                self.number(u64::from(number));
+            }
         }
-        let kept = table[count..].iter().all(|row| *row == seven);
-        self.answers += if kept { "kept\n" } else { "changed\n" };
     }
 
     fn show(&mut self, case: &ShowCase, index: usize) {
@@ -84,26 +124,60 @@ impl Asked {
             Level::Set => (0, index as u64),
             Level::Target(id) => (OTHER[index / 3 % 5], id),
         };
-        self.questions.extend([b'S', form(case.form, index), level]);
-        self.questions.extend(target.to_be_bytes());
-        self.questions.extend(case.tag.to_be_bytes());
-        self.packet(&case.reviewer);
-        self.packet(&case.detector);
+        let head = Head { kind: b'S', form: form(case.form, index), level, target, tag: case.tag, room: index % 4_097 };
+        self.frame(&head, &case.reviewer, &case.detector);
         let shown = second::show(case.form, &case.reviewer, &case.detector, case.level, case.tag);
+        let from = self.answers.len();
         self.shown(&shown, shown.part(&case.reviewer, &case.detector));
+        self.size("show", from);
     }
 
     fn shown(&mut self, shown: &Shown, part: &[u8]) {
         let side = match shown.side {
-            Side::Reviewer => "reviewer",
-            Side::Detector => "detector",
+            Side::Reviewer => 0,
+            Side::Detector => 1,
         };
-        write!(self.answers, "{side} {} {} ", shown.offset, shown.length).expect("a line");
-        for byte in part {
-            write!(self.answers, "{byte:02x}").expect("a byte");
+        for number in [side, shown.offset as u64, shown.length as u64] {
+            self.number(number);
         }
-        self.answers.push('\n');
+        self.answers.extend(part);
     }
+}
+
+/// Whether what was printed is what was to be answered; says how many of each
+/// kind were asked and how many differed, with the first of these.
+fn is_as_printed(folder: &str) -> bool {
+    let file = |name: &str| std::fs::read(format!("{folder}/{name}")).expect("a file");
+    let (answers, printed, sizes) = (file("answers"), file("printed"), file("sizes"));
+    let sizes = String::from_utf8(sizes).expect("lines");
+    let (mut at, mut asked, mut differed) = (0, [0; 2], [0; 2]);
+    for (index, line) in sizes.lines().enumerate() {
+        let (kind, size) = line.split_once(' ').expect("a kind and a size");
+        let to = at + size.parse::<usize>().expect("a size");
+        let which = usize::from(kind == "show");
+        let ours = &printed[at.min(printed.len())..to.min(printed.len())];
+        asked[which] += 1;
+        if ours != &answers[at..to] {
+            differed[which] += 1;
+            if differed[0] + differed[1] <= 5 {
+                println!("question {}, {kind}: expected\n  {}\nprinted\n  {}", index + 1, spelled(&answers[at..to]), spelled(ours));
+            }
+        }
+        at = to;
+    }
+    for (which, kind) in ["locate", "show"].iter().enumerate() {
+        println!("{kind}: {} asked, {} differed", asked[which], differed[which]);
+    }
+    answers == printed
+}
+
+/// The first numbers of an answer, and what is left over as bytes.
+fn spelled(answer: &[u8]) -> String {
+    let words = answer.chunks(8).take(24).map(|word| match word.try_into() {
+        Ok(word) => u64::from_be_bytes(word).to_string(),
+        Err(_) => format!("{word:02x?}"),
+    });
+    words.collect::<Vec<_>>().join(" ")
 }
 
 /// No room, one row too few, exactly enough, some more, and at times the most.

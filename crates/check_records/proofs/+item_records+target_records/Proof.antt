@@ -202,7 +202,10 @@ module _ (t : ℕ) where
   item-stop-requires c κs = search needs
 
   item-returns-2 : item-records-lts.Need-returns-2 item-claims (item-records-at t) item-records.Post item-Inv item-μ
-  item-returns-2 c = piece-fault _ _ (c .before .before .before .before .before .before .before .before .loop .inv .0) (c .before .before .before .before .before .before .if1 .taken) (sym (c .before .before .before .before .before .goes-on .ensures) ∙ not-false _ (c .before .before .before .before .if2 .left)) (c .before .before .before .part-at .ensures) (c .before .enum-told .given .1) (c .stop .ensures)
+  item-returns-2 c =
+      piece-fault _ _ (c .before .before .before .before .before .before .before .before .loop .inv .0) (c .before .before .before .before .before .before .if1 .taken) (sym
+      (c .before .before .before .before .before .goes-on .ensures) ∙ not-false _ (c .before .before .before .before .if2 .left)) (c .before .before .before .part-at .ensures)
+      (c .before .enum-told .given .1) (c .stop .ensures)
 
   item-is-series-requires : item-records-lts.Need-is-series-requires item-claims (item-records-at t) item-records.Post item-Inv item-μ
   item-is-series-requires c κs = search needs
@@ -397,7 +400,10 @@ module _ (t : ℕ) where
   target-stop-requires c κs = search needs
 
   target-returns-2 : target-records-lts.Need-returns-2 target-claims (target-records-at t) target-records.Post target-Inv target-μ
-  target-returns-2 c = head-fault _ (c .before .before .before .before .before .before .before .before .loop .inv .0) (c .before .before .before .before .before .before .if1 .taken) (sym (c .before .before .before .before .before .is-mark .ensures) ∙ not-false _ (c .before .before .before .before .if2 .left)) (c .before .before .before .target-at .ensures) (c .before .enum-told .given .1) (c .stop .ensures)
+  target-returns-2 c =
+      head-fault _ (c .before .before .before .before .before .before .before .before .loop .inv .0) (c .before .before .before .before .before .before .if1 .taken) (sym
+      (c .before .before .before .before .before .is-mark .ensures) ∙ not-false _ (c .before .before .before .before .if2 .left)) (c .before .before .before .target-at .ensures)
+      (c .before .enum-told .given .1) (c .stop .ensures)
 
   target-add-items : target-records-lts.Need-add-items target-claims (target-records-at t) target-records.Post target-Inv target-μ
   target-add-items c = let a = c .before in omega (arith, target-room (target-here a) .0, series-most (target-loop a))

@@ -45,12 +45,14 @@ is-seen-requires c κs =
 returns-3 : tie.Need-returns-3
 returns-3 c =
     let a = c .before .before .before .before .before .before .before .before .args in
-    λ seen q. target-again (a .s .now) (a .p) seen (c .before .before .before .before .before .before .if1 .left) (c .before .before .before .before .eight-of .ensures) (omega (arith, c .before .before .before .larger .ensures .over .1, c .before .before .if2 .left)) (c .before .is-seen .ensures seen q) (c .if3 .taken)
+    λ seen q. target-again (a .s .now) (a .p) seen (c .before .before .before .before .before .before .if1 .left) (c .before .before .before .before .eight-of .ensures) (omega
+    (arith, c .before .before .before .larger .ensures .over .1, c .before .before .if2 .left)) (c .before .is-seen .ensures seen q) (c .if3 .taken)
 
 returns-4 : tie.Need-returns-4
 returns-4 c =
     let a = c .before .before .before .before .before .before .before .before .args in
-    λ seen q. target-whole (a .s .now) (a .p) seen (c .before .before .before .before .before .before .if1 .left) (c .before .before .before .before .eight-of .ensures) (omega (arith, c .before .before .before .larger .ensures .over .1, c .before .before .if2 .left)) (c .before .is-seen .ensures seen q) (c .if3 .left)
+    λ seen q. target-whole (a .s .now) (a .p) seen (c .before .before .before .before .before .before .if1 .left) (c .before .before .before .before .eight-of .ensures) (omega
+    (arith, c .before .before .before .larger .ensures .over .1, c .before .before .if2 .left)) (c .before .is-seen .ensures seen q) (c .if3 .left)
 
 pub target-at-spec : {M : Type 1} → statement M
 target-at-spec =

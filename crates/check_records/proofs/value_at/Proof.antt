@@ -78,7 +78,9 @@ returns-4 : tie.Need-returns-4
 returns-4 c =
     let k = c .before .before .before .before in
     let h = k .before .before .before .before .before in
-    λ seen q. value-tail q _ _ (value-valued _ _ (h .before .before .field-of .ensures) (h .h .given .1) _ seen (k .before .before .before .if1 .left) (k .before .standing-of .ensures seen (k .before .before .is-seen .ensures seen q) (sym (q .first))) (k .if2 .left) (c .before .before .before .rule-of .ensures) (c .before .valued-of .ensures) (c .if3 .taken))
+    λ seen q. value-tail q _ _ (value-valued _ _ (h .before .before .field-of .ensures) (h .h .given .1) _ seen (k .before .before .before .if1 .left)
+    (k .before .standing-of .ensures seen (k .before .before .is-seen .ensures seen q) (sym (q .first))) (k .if2 .left) (c .before .before .before .rule-of .ensures) (c .before .valued-of .ensures)
+    (c .if3 .taken))
 
 short-size-requires : tie.Need-short-size-requires
 short-size-requires c κs = search needs
@@ -87,13 +89,17 @@ returns-5 : tie.Need-returns-5
 returns-5 c =
     let k = c .before .before .before .before .before .before in
     let h = k .before .before .before .before .before in
-    λ seen q. value-tail q _ _ (value-long _ _ (h .before .before .field-of .ensures) (h .h .given .1) _ seen (k .before .before .before .if1 .left) (k .before .standing-of .ensures seen (k .before .before .is-seen .ensures seen q) (sym (q .first))) (k .if2 .left) (c .before .before .before .before .before .rule-of .ensures) (c .before .before .before .valued-of .ensures) (c .before .before .if3 .left) (c .before .short-size .ensures) (c .if4 .taken))
+    λ seen q. value-tail q _ _ (value-long _ _ (h .before .before .field-of .ensures) (h .h .given .1) _ seen (k .before .before .before .if1 .left)
+    (k .before .standing-of .ensures seen (k .before .before .is-seen .ensures seen q) (sym (q .first))) (k .if2 .left) (c .before .before .before .before .before .rule-of .ensures)
+    (c .before .before .before .valued-of .ensures) (c .before .before .if3 .left) (c .before .short-size .ensures) (c .if4 .taken))
 
 returns-6 : tie.Need-returns-6
 returns-6 c =
     let k = c .before .before .before .before .before .before in
     let h = k .before .before .before .before .before in
-    λ seen q. value-tail q _ _ (value-whole _ _ (h .before .before .field-of .ensures) (h .h .given .1) _ seen (k .before .before .before .if1 .left) (k .before .standing-of .ensures seen (k .before .before .is-seen .ensures seen q) (sym (q .first))) (k .if2 .left) (c .before .before .before .before .before .rule-of .ensures) (c .before .before .before .valued-of .ensures) (c .before .before .if3 .left) (c .before .short-size .ensures) (c .if4 .left))
+    λ seen q. value-tail q _ _ (value-whole _ _ (h .before .before .field-of .ensures) (h .h .given .1) _ seen (k .before .before .before .if1 .left)
+    (k .before .standing-of .ensures seen (k .before .before .is-seen .ensures seen q) (sym (q .first))) (k .if2 .left) (c .before .before .before .before .before .rule-of .ensures)
+    (c .before .before .before .valued-of .ensures) (c .before .before .if3 .left) (c .before .short-size .ensures) (c .if4 .left))
 
 pub value-at-spec : {M : Type 1} → statement M
 value-at-spec =

@@ -70,7 +70,8 @@ wrong-parts-requires c κs = within-more (c .before .before .set-records .result
 returns-5 : tie.Need-returns-5
 returns-5 c =
     let k = c .before .before .before .before .before .before .before .before in
-    check-bad _ (k .before .before .before .before .before .if1 .left) (k .before .before .before .before .if2 .left) (k .before .before .before .is-mark .ensures) (k .before .before .if3 .left) (k .if4 .left) (c .before .before .before .set-records .ensures .0) (c .before .enum-told .given .1) (c .wrong-parts .ensures)
+    check-bad _ (k .before .before .before .before .before .if1 .left) (k .before .before .before .before .if2 .left) (k .before .before .before .is-mark .ensures) (k .before .before .if3 .left)
+    (k .if4 .left) (c .before .before .before .set-records .ensures .0) (c .before .enum-told .given .1) (c .wrong-parts .ensures)
 
 either-requires : tie.Need-either-requires
 either-requires c κs = search needs
@@ -78,7 +79,9 @@ either-requires c κs = search needs
 returns-6 : tie.Need-returns-6
 returns-6 c =
     let k = c .before .before .before .before .before .before .before .before .before .before .before in
-    check-good _ (k .before .before .before .before .before .if1 .left) (k .before .before .before .before .if2 .left) (k .before .before .before .is-mark .ensures) (k .before .before .if3 .left) (k .if4 .left) (c .before .before .before .before .before .before .set-records .ensures .0) (c .before .before .before .before .w .given .1) (c .before .either .ensures) (λ i. k .before .before .before .before .before .before .shared-slice-known .given i .fits) (c .if5 .taken)
+    check-good _ (k .before .before .before .before .before .if1 .left) (k .before .before .before .before .if2 .left) (k .before .before .before .is-mark .ensures) (k .before .before .if3 .left)
+    (k .if4 .left) (c .before .before .before .before .before .before .set-records .ensures .0) (c .before .before .before .before .w .given .1) (c .before .either .ensures)
+    (λ i. k .before .before .before .before .before .before .shared-slice-known .given i .fits) (c .if5 .taken)
 
 wrong-requires-5 : tie.Need-wrong-requires-5
 wrong-requires-5 c κs = search needs
@@ -86,7 +89,9 @@ wrong-requires-5 c κs = search needs
 returns-7 : tie.Need-returns-7
 returns-7 c =
     let k = c .before .before .before .before .before .before .before .before .before .before .before .before in
-    check-none _ (k .before .before .before .before .before .if1 .left) (k .before .before .before .before .if2 .left) (k .before .before .before .is-mark .ensures) (k .before .before .if3 .left) (k .if4 .left) (c .before .before .before .before .before .before .before .set-records .ensures .0) (c .before .before .before .before .before .w .given .1) (c .before .before .either .ensures) (c .wrong5 .ensures) (c .before .if5 .left)
+    check-none _ (k .before .before .before .before .before .if1 .left) (k .before .before .before .before .if2 .left) (k .before .before .before .is-mark .ensures) (k .before .before .if3 .left)
+    (k .if4 .left) (c .before .before .before .before .before .before .before .set-records .ensures .0) (c .before .before .before .before .before .w .given .1) (c .before .before .either .ensures)
+    (c .wrong5 .ensures) (c .before .if5 .left)
 
 pub check-spec : {M : Type 1} → statement M
 check-spec =

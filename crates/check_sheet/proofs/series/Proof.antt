@@ -26,7 +26,10 @@ series-sizes-requires : tie.Need-series-sizes-requires
 series-sizes-requires c κs = let k = c .before .before .before .before .before .before .before .pre in all-small (k .0) (k .1) (λ i. c .before .before .before .before .before .shared-slice-known2 .given i .fits) (c .before .before .rising .ensures) (c .if1 .taken)
 
 after-requires : tie.Need-after-requires
-after-requires c κs = let k = c .before .before .before .before .before .before .before .before .pre in rw (c .series-sizes .ensures) (all-asks (k .0) (k .1) (λ i. c .before .before .before .before .before .before .shared-slice-known2 .given i .fits) (c .before .before .before .rising .ensures) (c .before .if1 .taken))
+after-requires c κs =
+    let k = c .before .before .before .before .before .before .before .before .pre in
+    rw (c .series-sizes .ensures) (all-asks (k .0) (k .1) (λ i. c .before .before .before .before .before .before .shared-slice-known2 .given i .fits) (c .before .before .before .rising .ensures)
+    (c .before .if1 .taken))
 
 walked-requires : tie.Need-walked-requires
 walked-requires c κs = search needs

@@ -1,9 +1,12 @@
 -- `check_sheet::series_rest` meets its contract: the turn over the series is a turn of the walk over the set.
 use mathlib.Core.Bool.{true}
+use mathlib.Core.List.{List}
+use Prim.Native.Nat.{ℕ}
 use native.Mathlib.Omega.{arith}
 use Rattle.format.specs.Coding.{Bytes}
 use Rattle.coding.proofs.Rooms.{tail-part}
 use Rattle.items.specs.Meet.{formOf}
+use Rattle.tally.specs.declared.stages.Stage.{Stage}
 use Rattle.tally.proofs.Turns.{within-more}
 use Rattle.tally_records.proofs.PartTurns.{PartAt, PartTold, part-bad, bad-within, part-asks, part-more}
 use Rattle.check_sheet.specs.Sets.{SetAsked, SeriesNext}
@@ -13,17 +16,26 @@ use Rattle.check_sheet.proofs.series_rest.Statement.{statement}
 use Rattle.check_sheet.proofs.series_rest.Tie as tie
 
 -- where its targets were walked: the part that they are, and what it says
-abbrev start-pre : (r : tie.After-series-of) → SetAsked (formOf (r .before .before .before .before .before .before .before .before .args .alone)) (r .before .before .before .before .before .before .before .before .args .glances .now) (r .before .before .before .before .before .before .before .before .args .s .now) (r .before .before .before .before .before .before .before .before .args .q) × SeriesNext (r .before .before .before .before .before .before .before .before .args .s .now) (r .before .before .before .before .before .before .before .before .args .q)
-start-pre r = (r .before .before .before .before .before .before .before .before .pre .0, r .before .before .before .before .before .before .before .before .pre .1)
+abbrev level : tie.After-series-of → List ℕ
+level r = r .before .before .before .before .before .before .before .before .args .s .now
 
-abbrev bytes : (r : tie.After-series-of) → Bytes (r .before .before .before .before .before .before .before .before .args .s .now)
+abbrev stage : tie.After-series-of → Stage
+stage r = r .before .before .before .before .before .before .before .before .args .q
+
+abbrev asked : (r : tie.After-series-of) → SetAsked (formOf (r .before .before .before .before .before .before .before .before .args .alone)) (r .before .before .before .before .before .before .before .before .args .glances .now) (level r) (stage r)
+asked r = r .before .before .before .before .before .before .before .before .pre .0
+
+abbrev next : (r : tie.After-series-of) → SeriesNext (level r) (stage r)
+next r = r .before .before .before .before .before .before .before .before .pre .1
+
+abbrev bytes : (r : tie.After-series-of) → Bytes (level r)
 bytes r = λ i. r .before .before .before .before .before .before .shared-slice-known2 .given i .fits
 
-abbrev part : (r : tie.After-series-of) → PartAt true (formOf (r .before .before .before .before .before .before .before .before .args .alone)) (r .before .before .before .before .before .before .before .before .args .s .now) (r .before .before .before .before .before .before .before .before .args .q) 101 2 0 0
-part r = series-part (start-pre r .0) (start-pre r .1) (bytes r)
+abbrev part : (r : tie.After-series-of) → PartAt true (formOf (r .before .before .before .before .before .before .before .before .args .alone)) (level r) (stage r) 101 2 0 0
+part r = series-part (asked r) (next r) (bytes r)
 
 told : (r : tie.After-series-of) → PartTold (part r) (r .series-of .result)
-told r = series-is (start-pre r .0) (start-pre r .1) (bytes r) (r .before .target-records .ensures) (r .series-of .ensures)
+told r = series-is (asked r) (next r) (bytes r) (r .before .target-records .ensures) (r .series-of .ensures)
 
 table-requires : tie.Need-table-requires
 table-requires c κs = search needs
@@ -74,7 +86,7 @@ slice-aggregate-item-records c = search needs
 item-records-requires : tie.Need-item-records-requires
 item-records-requires c κs =
     let r = c .before .before .before .before .before .before in
-    let k = start-pre r .0 in
+    let k = asked r in
     (c .before .before .before .before .before .before .before .before .before .before .before .table .ensures, k .most, k .glanced, part-more (part r) (told r) (c .before .before .before .before .w .given .1) (c .before .before .after .ensures .0))
 
 returns-2 : tie.Need-returns-2

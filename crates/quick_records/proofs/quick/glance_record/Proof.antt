@@ -89,8 +89,13 @@ returns-5 : tie.Need-returns-5
 returns-5 c =
     let (small, few, q) = c .before .before .is-glanced .ensures (c .before .if4 .taken) in
     let a = c .before .before .before .before .before .before .before .before .before .before .before .before .before .before .before .before .args in
-    let size = size-from (a .s .now) (a .p) (omega (arith, c .before .before .before .before .before .before .before .before .before .before .before .before .before .if1 .left)) (omega (arith, c .before .before .before .before .before .before .if3 .left)) (c .before .before .before .before .wide .ensures .0) in
-    λ h. glance-from _ _ _ _ _ (λ i. c .before .before .before .before .before .before .before .before .before .before .before .before .before .before .shared-slice-known2 .given i .fits) (c .before .before .before .before .before .before .before .before .before .before .before .number-of .ensures) (c .before .before .before .before .before .before .before .before .before .before .word-of .ensures) (c .before .before .before .before .before .before .before .before .before .wrapping-sub-u32 .ensures) (omega (arith, c .before .before .before .before .before .before .before .before .if2 .left)) (omega (arith, small)) size (omega (arith, few)) refl (omega (arith, c .if5 .left)) q
+    let size = size-from (a .s .now) (a .p) (omega (arith, c .before .before .before .before .before .before .before .before .before .before .before .before .before .if1 .left)) (omega
+    (arith, c .before .before .before .before .before .before .if3 .left)) (c .before .before .before .before .wide .ensures .0) in
+    λ h. glance-from _ _ _ _ _ (λ i. c .before .before .before .before .before .before .before .before .before .before .before .before .before .before .shared-slice-known2 .given i .fits)
+    (c .before .before .before .before .before .before .before .before .before .before .before .number-of .ensures)
+    (c .before .before .before .before .before .before .before .before .before .before .word-of .ensures)
+    (c .before .before .before .before .before .before .before .before .before .wrapping-sub-u32 .ensures) (omega (arith, c .before .before .before .before .before .before .before .before .if2 .left))
+    (omega (arith, small)) size (omega (arith, few)) refl (omega (arith, c .if5 .left)) q
 
 nothing-requires-5 : tie.Need-nothing-requires-5
 nothing-requires-5 c κs = search needs

@@ -1,7 +1,6 @@
 -- `quick_records::targets::many` meets its contract: each turn is a turn of the target walk. `l` is where the loop stands, `j` where a target's id
 -- was found to be new, and `v` where it had a model.
 use mathlib.Core.Path.{_≡_, refl, sym, _∙_}
-use mathlib.Core.Bool.{Bool}
 use mathlib.Core.List.{List}
 use Prim.Native.Nat.{ℕ, _+_, _-_, _*_, _≤_, _<_}
 use native.Mathlib.Omega.{arith}
@@ -9,25 +8,11 @@ use lib.ListN.{length}
 use borrow.Author.Needs.{needs}
 use borrow.Author.Tests.{not-false}
 use Rattle.format.specs.Coding.{Bytes}
-use Rattle.quick_packs.specs.declared.Model.{Model}
-use Rattle.quick_packs.specs.declared.bounds.Bounds.{Bounds}
-use Rattle.quick_packs.specs.Ids.{IdNew, Bounding}
 use Rattle.tally_records.proofs.TargetTurns.{targets-start}
-use Rattle.quick_records.specs.Targets.{ModelAt}
 use Rattle.quick_records.proofs.Models.{model-room}
 use Rattle.quick_records.proofs.Passings.{Passing, passing-none, passing-stays, passing-wide, passing-more}
 use Rattle.quick_records.proofs.targets.many.Statement.{statement}
 use Rattle.quick_records.proofs.targets.many.Tie as tie
-use Rattle.quick_records.proofs.targets.many.Reads as reads
-use Rattle.quick_records.proofs.targets.many.Lts as lts
-use Rattle.coding.proofs.eight_of.Reads as eight-of-reads
-use Rattle.coding.proofs.widths.oid_width.Reads as oid-width-reads
-use Rattle.heads.proofs.records.is_mark.Reads as is-mark-reads
-use Rattle.quick_packs.proofs.bounds.none.Reads as none-reads
-use Rattle.quick_packs.proofs.bounds.reach.Reads as reach-reads
-use Rattle.quick_packs.proofs.no_model.Reads as no-model-reads
-use Rattle.quick_records.proofs.targets.model_at.Reads as model-at-reads
-use Rattle.quick_records.proofs.targets.passed.Reads as passed-reads
 
 abbrev Inv-loop : tie.InvT-loop
 Inv-loop glances s alone bits₀ p₀ rows₀ normal₀ b₀ masks₀ m₀ bits p rows normal b masks m = Passing alone s bits masks p rows normal b m × (length bits ≡ length bits₀)
@@ -35,30 +20,10 @@ Inv-loop glances s alone bits₀ p₀ rows₀ normal₀ b₀ masks₀ m₀ bits 
 abbrev μ-loop : tie.MeasureT-loop
 μ-loop glances s alone bits₀ p₀ rows₀ normal₀ b₀ masks₀ m₀ bits p rows normal b masks m = length s - p
 
-abbrev claims : lts.Claims
-claims = (
-  none-reads.Asked,
-  none-reads.Learnt,
-  no-model-reads.Asked,
-  no-model-reads.Learnt,
-  is-mark-reads.Asked,
-  is-mark-reads.Learnt,
-  passed-reads.Asked,
-  passed-reads.Learnt,
-  eight-of-reads.Asked,
-  eight-of-reads.Learnt,
-  reach-reads.Asked,
-  reach-reads.Learnt,
-  model-at-reads.Asked,
-  model-at-reads.Learnt,
-  oid-width-reads.Asked,
-  oid-width-reads.Learnt,
-)
-
 -- ---- where the loop stands
 
 abbrev At-loop : Type 0
-At-loop = lts.At-loop claims reads.Pre reads.Post Inv-loop μ-loop
+At-loop = tie.At-loop Inv-loop μ-loop
 
 abbrev series : At-loop → List ℕ
 series l = l .before .before .before .before .before .before .before .before .args .s .now
@@ -75,7 +40,7 @@ most l = l .before .before .before .before .before .before .before .before .pre 
 -- ---- an id that is new, and a model for the target's records
 
 abbrev Id-new : Type 0
-Id-new = lts.Else4 claims reads.Pre reads.Post Inv-loop μ-loop
+Id-new = tie.Else4 Inv-loop μ-loop
 
 abbrev from-id : Id-new → At-loop
 from-id j = j .before .before .before .before .before .before .before .before .before .before
@@ -83,8 +48,11 @@ from-id j = j .before .before .before .before .before .before .before .before .b
 ten : (j : Id-new) → 10 ≤ length (series (from-id j)) - place (from-id j)
 ten j = omega (arith, j .before .before .before .before .before .before .before .before .before .if2 .left)
 
+low : (j : Id-new) → j .before .before .before .before .before .before .before .eight-of .result ≤ 16383
+low j = omega (arith, j .before .before .before .before .before .before .if3 .left)
+
 abbrev Model-had : Type 0
-Model-had = lts.Else5 claims reads.Pre reads.Post Inv-loop μ-loop
+Model-had = tie.Else5 Inv-loop μ-loop
 
 abbrev from-model : Model-had → At-loop
 from-model v = from-id (v .before .before .before .before)
@@ -165,7 +133,9 @@ same-length-3 : tie.Need-same-length-3 Inv-loop μ-loop
 same-length-3 c = omega (arith, c .before .before .before .before .before .before .before .before .before .before .before .loop .inv .1, c .before .before .before .before .before .reach .ensures .long)
 
 returns-4 : tie.Need-returns-4 Inv-loop μ-loop
-returns-4 c = rw (c .passed4 .ensures) (passing-wide (c .before .before .before .before .before .before .before .before .before .before .before .loop .inv .0) (omega (arith, c .before .before .before .before .before .before .before .if3 .left)) (c .before .before .before .before .before .reach .ensures))
+returns-4 c =
+    rw (c .passed4 .ensures) (passing-wide (c .before .before .before .before .before .before .before .before .before .before .before .loop .inv .0)
+    (omega (arith, c .before .before .before .before .before .before .before .if3 .left)) (c .before .before .before .before .before .reach .ensures))
 
 add-from : tie.Need-add-from Inv-loop μ-loop
 add-from c = omega (arith, ten c, most (from-id c))
@@ -179,10 +149,10 @@ passed-requires-5 : tie.Need-passed-requires-5 Inv-loop μ-loop
 passed-requires-5 c κs = search needs
 
 same-length-4 : tie.Need-same-length-4 Inv-loop μ-loop
-same-length-4 c = omega (arith, c .before .before .before .before .before .before .before .before .before .before .before .before .before .before .before .loop .inv .1, c .before .before .before .before .before .before .before .before .before .reach .ensures .long)
+same-length-4 c = let j = c .before .before .before .before .before in omega (arith, from-id j .loop .inv .1, j .before .before .before .before .reach .ensures .long)
 
 returns-5 : tie.Need-returns-5 Inv-loop μ-loop
-returns-5 c = rw (c .passed5 .ensures) (passing-wide (c .before .before .before .before .before .before .before .before .before .before .before .before .before .before .before .loop .inv .0) (omega (arith, c .before .before .before .before .before .before .before .before .before .before .before .if3 .left)) (c .before .before .before .before .before .before .before .before .before .reach .ensures))
+returns-5 c = rw (c .passed5 .ensures) (let j = c .before .before .before .before .before in passing-wide (from-id j .loop .inv .0) (low j) (j .before .before .before .before .reach .ensures))
 
 oid-width-requires : tie.Need-oid-width-requires Inv-loop μ-loop
 oid-width-requires c κs = omega (arith, c .before .before .before .before .before .before .before .before .before .before .if3 .left)
@@ -203,19 +173,19 @@ passed-requires-6 : tie.Need-passed-requires-6 Inv-loop μ-loop
 passed-requires-6 c κs = search needs
 
 same-length-5 : tie.Need-same-length-5 Inv-loop μ-loop
-same-length-5 c = omega (arith, c .before .before .before .before .before .before .before .before .before .before .before .before .before .before .before .before .before .before .before .loop .inv .1, c .before .before .before .before .before .before .before .before .before .before .before .before .before .reach .ensures .long)
+same-length-5 c = let j = c .before .before .before .before .before .before .before .before .before in omega (arith, from-id j .loop .inv .1, j .before .before .before .before .reach .ensures .long)
 
 returns-6 : tie.Need-returns-6 Inv-loop μ-loop
-returns-6 c = rw (c .passed6 .ensures) (passing-wide (c .before .before .before .before .before .before .before .before .before .before .before .before .before .before .before .before .before .before .before .loop .inv .0) (omega (arith, c .before .before .before .before .before .before .before .before .before .before .before .before .before .before .before .if3 .left)) (c .before .before .before .before .before .before .before .before .before .before .before .before .before .reach .ensures))
+returns-6 c = rw (c .passed6 .ensures) (let j = c .before .before .before .before .before .before .before .before .before in passing-wide (from-id j .loop .inv .0) (low j) (j .before .before .before .before .reach .ensures))
 
 add-rows : tie.Need-add-rows Inv-loop μ-loop
-add-rows c = omega (arith, few (c .before .before .before .before .before .before .before .before .before .before .before .before .before .before .before .before .before .before .before), room (c .before .before .before .before .before))
+add-rows c = omega (arith, few (from-model (c .before .before .before .before .before)), room (c .before .before .before .before .before))
 
 add-normal : tie.Need-add-normal Inv-loop μ-loop
-add-normal c = omega (arith, few (c .before .before .before .before .before .before .before .before .before .before .before .before .before .before .before .before .before .before .before))
+add-normal c = omega (arith, few (from-model (c .before .before .before .before .before)))
 
 add-normal-2 : tie.Need-add-normal-2 Inv-loop μ-loop
-add-normal-2 c = omega (arith, few (c .before .before .before .before .before .before .before .before .before .before .before .before .before .before .before .before .before .before .before), c .before .if6 .left)
+add-normal-2 c = omega (arith, few (from-model (c .before .before .before .before .before)), c .before .if6 .left)
 
 add-p : tie.Need-add-p Inv-loop μ-loop
 add-p c = omega (arith, room (c .before .before .before .before .before .before))
@@ -229,8 +199,11 @@ loop-again c =
     let j = v .before .before .before .before in
     let l = from-id j in
     let h = j .before .before .before .before .reach .ensures in
-    let w = c .before .before .before .before .before .oid-width .ensures in
-    (passing-more (l .loop .inv .0) (omega (arith, j .before .before .before .before .before .before .if3 .left)) h (bytes l) (most l) (ten j) (j .before .before .before .before .before .before .before .eight-of .ensures) (h .told (not-false _ (j .if4 .left))) (v .before .before .model-at .ensures) (some v) (w .0, omega (arith, w .1)) refl (omega (arith, c .before .before .if6 .left)), omega (arith, l .loop .inv .1, h .long))
+    let w = c .before .before .before .before .before .oid-width .ensures in (
+      passing-more (l .loop .inv .0) (low j) h (bytes l) (most l) (ten j) (j .before .before .before .before .before .before .before .eight-of .ensures) (h .told (not-false _ (j .if4 .left)))
+          (v .before .before .model-at .ensures) (some v) (w .0, omega (arith, w .1)) refl (omega (arith, c .before .before .if6 .left)),
+      omega (arith, l .loop .inv .1, h .long),
+    )
 
 pub many-spec : {M : Type 1} → statement M
 many-spec =

@@ -74,7 +74,7 @@ pub fn item_head(s: &[u8], set: bool) -> Head
     }
 }
 
-// The same for a tag and a length in one byte each, as most are; a fault says nothing.
+// The same for a tag and a length in one byte each, as most are. It knows neither longer ones nor any refusal: a fault says nothing.
 fn short_item_head(s: &[u8]) -> Head
     ensures { λ r. ⌜ ItemHeadIf r (now (s .entry)) ⌝ }
 {
@@ -104,7 +104,7 @@ fn short_item_head(s: &[u8]) -> Head
     }
 }
 
-// The same as `item_head`, the quick way first: for who reads item after item.
+// The same as `item_head`, the quick way first: for who reads item after item. What `short_item_head` does not know, `item_head` tells.
 pub fn quick_item_head(s: &[u8], set: bool) -> Head
     ensures { λ r. ⌜ itemHeadOf r ≡ headOf (levelOf set) (now (s .entry)) ⌝ }
 {
@@ -154,7 +154,7 @@ pub fn pack_head(s: &[u8]) -> Head
     }
 }
 
-// The same for a length in one byte and an id in one or two, as most are; a fault says nothing.
+// The same for a length in one byte and an id in one or two, as most are. It knows neither longer ones nor any refusal: a fault says nothing.
 pub fn short_pack_head(s: &[u8]) -> Head
     ensures { λ r. ⌜ PackHeadIf r (now (s .entry)) ⌝ }
 {
@@ -199,7 +199,7 @@ pub fn short_pack_head(s: &[u8]) -> Head
     }
 }
 
-// The same as `pack_head`, the quick way first: for who reads pack after pack.
+// The same as `pack_head`, the quick way first: for who reads pack after pack. What `short_pack_head` does not know, `pack_head` tells.
 pub fn quick_pack_head(s: &[u8]) -> Head
     ensures { λ r. ⌜ packHeadOf r ≡ packHead (now (s .entry)) ⌝ }
 {

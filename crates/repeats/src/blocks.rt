@@ -1,4 +1,5 @@
-// Ids told apart in blocks of 64, where their bits are not enough: what stands before a block is gone over once for all of it.
+// Ids told apart in blocks of 64, where their bits are not enough: what stands before a block is gone over once for all of it. Of what stands after
+// the first that may repeat it is not known.
 ghost use mathlib.Core.Path.{_≡_};
 ghost use Prim.Native.Nat.{_≤_};
 ghost use mathlib.Core.Bool.{true, false};

@@ -1,4 +1,5 @@
-// How far no key of a level repeats, told by four passes: so that keys that neither rise nor fall are not looked back for one by one.
+// How far no key of a level repeats, told by four passes: so that keys that neither rise nor fall are not looked back for one by one. Of what stands
+// further on it is not known, and two ids with one bit end it too.
 ghost use mathlib.Core.Path.{_≡_};
 ghost use Prim.Native.Nat.{_≤_};
 ghost use mathlib.Core.Bool.{false};

@@ -1,4 +1,5 @@
-// Keys that are noted: a bit for each of the first keys, in words of 64, for as many as are lent.
+// Keys that are noted: a bit for each of the first keys, in words of 64, for as many as are lent. Of a key beyond these it is not known whether it
+// stood before.
 ghost use mathlib.Core.Path.{_≡_};
 ghost use Prim.Native.Nat.{_/_, _<_};
 ghost use mathlib.Core.Bool.{true, false};
@@ -13,7 +14,7 @@ pub fn is_noted(bits: &[u64], key: u64) -> bool
     (bits[i] >> key % 64) % 2 == 1
 }
 
-// Whether a key has a bit, and is not noted.
+// Whether a key has a bit, and is not noted. No says nothing of a key that has no bit.
 pub fn is_unnoted(bits: &[u64], key: u64) -> bool
     ensures { λ r. ⌜ (r ≡ true → (key / 64 < length (now (bits .entry))) × (noted (now (bits .entry)) key ≡ false)) ⌝ }
 {

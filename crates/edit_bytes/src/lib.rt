@@ -67,7 +67,8 @@ pub fn edited_size(set: bool, p: Place, n: usize) -> usize
 
 // What stands before the item, of n bytes; where it ends.
 fn put_front(s: &[u8], set: bool, p: Place, n: usize, out: &mut [u8]) -> usize
-    requires { ⌜ (length (now s) ≤ 8192) × Ordered (length (now s)) p × (n ≤ 16384) × (length (frontOf (levelOf set) (now s) p n) ≤ length (now out)) ⌝ }
+    requires { ⌜ (length (now s) ≤ 8192) × Ordered (length (now s)) p × (n ≤ 16384)
+        × (length (frontOf (levelOf set) (now s) p n) ≤ length (now out)) ⌝ }
     ensures { λ r. ⌜ StoredAt (now (out .entry)) 0 (frontOf (levelOf set) (now (s .entry)) p n) r (now (out .exit)) ⌝ }
 {
     let at = p.at;

@@ -274,7 +274,8 @@ pub fn begins(set: bool, alone: bool, tag: u64, first: bool) -> bool
 
 // 9, 13, 14 or 0; dup: the tag stands before, first: nothing stands before.
 pub fn standing_of(set: bool, alone: bool, dup: bool, first: bool, tag: u64, last: bool) -> u64
-    ensures { λ r. ⌜ ((seen : List ℕ) → dup ≡ has tag seen → first ≡ none? seen → answerOf r ≡ standing (levelOf set) (formOf alone) seen tag last) ⌝ }
+    ensures { λ r. ⌜ ((seen : List ℕ) → dup ≡ has tag seen → first ≡ none? seen
+        → answerOf r ≡ standing (levelOf set) (formOf alone) seen tag last) ⌝ }
 {
     if dup {
         return 9;

@@ -147,7 +147,8 @@ fn choose(
     c: Choice,
     masks: &mut [u8; 160],
 ) -> Choice
-    requires { ⌜ ItemsAsked (now glances) (now s) from next × Modelled alone (now masks) (now s) (c .model) × (c .model .from ≤ from) × (c .misses ≤ 8192) ⌝ }
+    requires { ⌜ ItemsAsked (now glances) (now s) from next × Modelled alone (now masks) (now s) (c .model)
+        × (c .model .from ≤ from) × (c .misses ≤ 8192) ⌝ }
     ensures { λ r. ⌜ Chosen alone (now (masks .exit)) (now (s .entry)) from next (r .model) × (r .misses ≤ 1 + c .misses) ⌝ }
 {
     let m = c.model;

@@ -98,7 +98,8 @@ fn model_at(
     m: Model,
     masks: &mut [u8; 160],
 ) -> Model
-    requires { ⌜ (now glances ≡ glanceTable) × (length (now s) ≤ 65536) × (from ≤ length (now s)) × Modelled alone (now masks) (now s) m × (m .from ≤ from) ⌝ }
+    requires { ⌜ (now glances ≡ glanceTable) × (length (now s) ≤ 65536) × (from ≤ length (now s))
+        × Modelled alone (now masks) (now s) m × (m .from ≤ from) ⌝ }
     ensures { λ r. ⌜ ModelAt alone (now (masks .exit)) (now (s .entry)) from r ⌝ }
 {
     if is_target_as(m, masks, s, from) {

@@ -58,7 +58,8 @@ pub fn put_oid(out: &mut [u8], at: usize, n: u64) -> usize
 // An item under its shortest length; where it ends.
 pub fn put_short(out: &mut [u8], at: usize, tag: u64, v: &[u8]) -> usize
     requires { ⌜ (tag ≤ 16383) × (length (now v) ≤ 65536) × (at + length (shortItem tag (now v)) ≤ length (now out)) ⌝ }
-    ensures { λ r. ⌜ (r ≡ at + length (shortItem tag (now (v .entry)))) × (now (out .exit) ≡ sets (now (out .entry)) at (shortItem tag (now (v .entry)))) ⌝ }
+    ensures { λ r. ⌜ (r ≡ at + length (shortItem tag (now (v .entry))))
+        × (now (out .exit) ≡ sets (now (out .entry)) at (shortItem tag (now (v .entry)))) ⌝ }
 {
     let a = put_oid(out, at, tag);
     let b = put_len(out, a, v.len());

@@ -26,7 +26,9 @@ same-length : tie.Need-same-length
 same-length c = search needs
 
 returns : tie.Need-returns
-returns c = opened (c .before .before .before .before .before .before .before .before .before .before .if1 .taken) _ _ (c .before .before .before .before .before .before .before .before .before .key .ensures) (c .before .before .before .before .before .before .copy .ensures) (c .before .before .put-len .ensures)
+returns c =
+    let k = c .before .before .before .before .before .before .before .before .before in
+    opened (k .before .if1 .taken) _ _ (k .key .ensures) (c .before .before .before .before .before .before .copy .ensures) (c .before .before .put-len .ensures)
 
 returns-2 : tie.Need-returns-2
 returns-2 c = not-opened (c .if1 .left) _ _

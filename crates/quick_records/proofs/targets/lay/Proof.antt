@@ -29,17 +29,50 @@ Inv-loop glances s alone masks₀ p₀ count₀ held₀ top₀ masks p count hel
 abbrev μ-loop : tie.MeasureT-loop
 μ-loop glances s alone masks₀ p₀ count₀ held₀ top₀ masks p count held top = length s - p
 
--- its tag, and its length, as the code found them
-told : (j : lts.Joined2 (glance-record-reads.Asked, glance-record-reads.Learnt, told-sizes-reads.Asked, told-sizes-reads.Learnt, stage-at-reads.Asked, stage-at-reads.Learnt, first-mask-reads.Asked, first-mask-reads.Learnt, mask-item-reads.Asked, mask-item-reads.Learnt, is-asked-reads.Asked, is-asked-reads.Learnt, either-reads.Asked, either-reads.Learnt) reads.Pre reads.Post Inv-loop μ-loop) → RecordGlanced false (formOf (j .before .before .before .before .before .before .before .args .alone)) (j .before .before .before .before .before .before .before .args .s .now) (j .before .before .before .before .loop .p) (j .before .before .before .before .loop .top) (j .before .before .before .glance-record .result .tag) (j .before .before .before .glance-record .result .next - (j .before .before .before .before .loop .p + 6))
-told j = j .before .before .before .glance-record .ensures (omega (arith, j .before .if1 .left))
+-- where a record was told at a glance, and masked if there is room; what is known there of the record
+abbrev claims : _
+claims = (
+  glance-record-reads.Asked,
+  glance-record-reads.Learnt,
+  told-sizes-reads.Asked,
+  told-sizes-reads.Learnt,
+  stage-at-reads.Asked,
+  stage-at-reads.Learnt,
+  first-mask-reads.Asked,
+  first-mask-reads.Learnt,
+  mask-item-reads.Asked,
+  mask-item-reads.Learnt,
+  is-asked-reads.Asked,
+  is-asked-reads.Learnt,
+  either-reads.Asked,
+  either-reads.Learnt,
+)
 
--- it was masked, if there is room
-masked : (j : lts.Joined2 (glance-record-reads.Asked, glance-record-reads.Learnt, told-sizes-reads.Asked, told-sizes-reads.Learnt, stage-at-reads.Asked, stage-at-reads.Learnt, first-mask-reads.Asked, first-mask-reads.Learnt, mask-item-reads.Asked, mask-item-reads.Learnt, is-asked-reads.Asked, is-asked-reads.Learnt, either-reads.Asked, either-reads.Learnt) reads.Pre reads.Post Inv-loop μ-loop) → (length (j .if2 .masks) ≡ 160) × (j .before .before .before .before .loop .p < 128 → Remasked (formOf (j .before .before .before .before .before .before .before .args .alone)) (j .before .before .before .before .loop .masks) (j .if2 .masks) (j .before .before .before .before .loop .p) (j .before .before .before .glance-record .result .tag) (j .before .before .before .glance-record .result .next - (j .before .before .before .before .loop .p + 6)))
-masked j =
-    ⊎-elim
-    (λ x. rw (x .5) (x .4 .ensures .long ∙ j .before .before .before .before .loop .inv .long, λ _. record { first = _; item = x .4 .ensures; any = x .2 .ensures }))
-    (λ y. rw (y .1) (j .before .before .before .before .loop .inv .long, λ h. absurd (omega (arith, h, y .0 .left))))
-    (j .if2 .came)
+abbrev Joined : Type 0
+Joined = lts.Joined2 claims reads.Pre reads.Post Inv-loop μ-loop
+
+module _ (j : Joined) where
+  abbrev seen : _
+  seen = j .before .before .before .glance-record
+
+  abbrev turn : _
+  turn = j .before .before .before .before .loop
+
+  abbrev asked : _
+  asked = j .before .before .before .before .before .before .before .args
+
+  -- its tag, and its length, as the code found them
+  told : RecordGlanced false (formOf (asked .alone)) (asked .s .now) (turn .p) (turn .top) (seen .result .tag) (seen .result .next - (turn .p + 6))
+  told = seen .ensures (omega (arith, j .before .if1 .left))
+
+  -- it was masked, if there is room
+  masked : (length (j .if2 .masks) ≡ 160)
+      × (turn .p < 128 → Remasked (formOf (asked .alone)) (turn .masks) (j .if2 .masks) (turn .p) (seen .result .tag) (seen .result .next - (turn .p + 6)))
+  masked =
+      ⊎-elim
+      (λ x. rw (x .5) (x .4 .ensures .long ∙ turn .inv .long, λ _. record { first = _; item = x .4 .ensures; any = x .2 .ensures }))
+      (λ y. rw (y .1) (turn .inv .long, λ h. absurd (omega (arith, h, y .0 .left))))
+      (j .if2 .came)
 
 loop-holds : tie.Need-loop-holds Inv-loop μ-loop
 loop-holds c = record { long = c .before .before .pre .2; own = records-start _ _ _; few = omega arith; walked = λ _ b _ _ _ _. records-start _ _ _ }
@@ -81,7 +114,12 @@ loop-less : tie.Need-loop-less Inv-loop μ-loop
 loop-less c = omega (arith, glance-next (told (c .before .before)))
 
 loop-again : tie.Need-loop-again Inv-loop μ-loop
-loop-again c = laying-more (c .before .before .before .before .before .before .loop .inv) (told (c .before .before)) (λ i. c .before .before .before .before .before .before .before .shared-slice-known2 .given i .fits) (c .before .before .before .before .before .before .before .before .before .pre .1) (masked (c .before .before) .0) (masked (c .before .before) .1) (c .before .is-asked .ensures) (c .either .ensures)
+loop-again c =
+    let j = c .before .before in
+    let l = j .before .before .before .before in
+    let (long, m) = masked j in
+    laying-more (l .loop .inv) (told j) (λ i. l .before .shared-slice-known2 .given i .fits) (l .before .before .before .pre .1) long m (c .before .is-asked .ensures)
+    (c .either .ensures)
 
 pub lay-spec : {M : Type 1} → statement M
 lay-spec =

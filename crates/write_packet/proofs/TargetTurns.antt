@@ -26,11 +26,10 @@ use Rattle.write_laws.proofs.Writing.{each, writing-begins, none-over, writing-
 use Rattle.write_laws.proofs.Entries.{ran, ran-ok}
 use Rattle.store_coded.specs.Fronts.{packFront}
 use Rattle.write_packet.specs.Meet.{usedOf, recordsRun, targetsRun, targetNormal, partNormal, recordsNormal, targetsNormal}
-use Rattle.write_packet.specs.Writing.{RecordsAsked}
+use Rattle.write_packet.specs.Writing.{RecordsAsked, ValsLeft, TargetsAsked, TargetsLeft}
 use Rattle.write_packet.proofs.Steps.{mark-room, TargetHere, target-here, vals-read}
 use Rattle.write_packet.proofs.Forms.{target-normal, len-some, vals-normal, no-inner}
 use Rattle.store_coded.proofs.Fronts.{pack-long}
-use Rattle.write_packet.proofs.Turns.{TargetsAsked}
 
 pub record TargetsWriting (f : Form) (s out₀ out : List ℕ) (p k : ℕ) : Type 0 where
   pub writes : Writing (is TG) (λ (_ : Unit {0}). flatAll targetNormal) idOfTarget (targetAt f) (targetsNormal f s) s out₀ out tt p k
@@ -45,7 +44,7 @@ module _ {f : Form} {s out₀ : List ℕ} where
       record { writes = w; passed = omega (arith, u, ap usedOf e) }
 
   module _ {out : List ℕ} {p k : ℕ} (g : TargetsWriting f s out₀ out p k) where
-    pub targets-over : is TG (drop p s) ≡ false → (p ≡ usedOf (targetsRun f s)) × (k ≡ length (targetsNormal f s)) × (out ≡ sets out₀ 0 (targetsNormal f s))
+    pub targets-over : is TG (drop p s) ≡ false → TargetsLeft f s out₀ p k out
     targets-over m =
         let (wrote, left) = writing-over (each targetNormal) _ _ _ _ _ _ (g .writes) m in
         (omega (arith, g .passed, none-over (each targetNormal) _ _ _ _ _ _ (g .writes) m), wrote, left)
@@ -148,7 +147,7 @@ module _ {f : Form} {s out₀ out : List ℕ} {p k : ℕ} (i : TargetAt f s out�
       )
 
       -- the items are stored there, n bytes of u
-      module _ {u n : ℕ} {o : List ℕ} (ed : (u ≡ usedOf (recordsRun pack f valsLent)) × (n ≡ length normal) × (o ≡ sets (take (length out - (k + 1 + w)) (drop (k + 1 + w) out)) 0 normal)) where
+      module _ {u n : ℕ} {o : List ℕ} (ed : ValsLeft f valsLent (take (length out - (k + 1 + w)) (drop (k + 1 + w) out)) u n o) where
         abbrev out₁ : List ℕ
         out₁ = putMid (k + 1 + w) (length out - (k + 1 + w)) out o
 

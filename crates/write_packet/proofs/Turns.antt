@@ -26,13 +26,9 @@ use Rattle.write_laws.proofs.Writing.{each, writing-begins, none-over, writing-
 use Rattle.write_laws.proofs.Entries.{ran, ran-ok}
 use Rattle.store_coded.specs.Fronts.{seriesFront}
 use Rattle.write_packet.specs.Meet.{usedOf, recordsRun, targetsRun, targetNormal, recordsNormal, targetsNormal}
-use Rattle.write_packet.specs.Writing.{partBytes, RecordsAsked, RecordsWriting, Small}
+use Rattle.write_packet.specs.Writing.{partBytes, RecordsAsked, RecordsWriting, Small, TargetsAsked, TargetsLeft}
 use Rattle.write_packet.proofs.Steps.{tagAt, sizeAt, OneHere, one-here, mark-room, SeriesHere, series-here}
 use Rattle.write_packet.proofs.Forms.{run-bytes}
-
--- what is asked of the targets
-abbrev pub TargetsAsked : Form → List ℕ → ℕ → Type 0
-TargetsAsked f s n = (length s ≤ 65536) × Ran (targetsRun f s) × (length (targetsNormal f s) ≤ n) × (length (targetsNormal f s) ≤ 8192)
 
 -- ---- the records of a level
 
@@ -222,7 +218,7 @@ module _ {inner : ℕ} {b : Bool} {f : Form} {s out₀ out : List ℕ} {p k : �
         omega (arith, ap length (series-stored .is), length-append (seriesFront inner) (targetsNormal f lent), stored-few),
       )
 
-      module _ {u r : ℕ} {o : List ℕ} (q : (u ≡ usedOf (targetsRun f lent)) × (r ≡ length (targetsNormal f lent)) × (o ≡ sets (take (length out₁ - m) (drop m out₁)) 0 (targetsNormal f lent))) where
+      module _ {u r : ℕ} {o : List ℕ} (q : TargetsLeft f lent (take (length out₁ - m) (drop m out₁)) u r o) where
         used-is : u ≡ series .ts .used
         used-is = q .0 ∙ ap usedOf runs
 

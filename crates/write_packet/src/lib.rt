@@ -1,18 +1,15 @@
 // The entries of a packet's set in normal form, written into a lent output from a sheet that was checked, record by record.
 ghost use mathlib.Core.Path.{_≡_};
-ghost use Prim.Native.Nat.{ℕ, _+_, _≤_, _<_};
+ghost use Prim.Native.Nat.{_+_, _≤_, _<_};
 ghost use mathlib.Core.Bool.{true, false};
-ghost use mathlib.Core.List.{List, [], _∷_};
+ghost use mathlib.Core.List.{[], _∷_};
 ghost use lib.ListN.{length, take, drop};
-ghost use lib.Seq.{sets};
-ghost use Rattle.items.specs.Meet.{formOf, levelOf};
-ghost use Rattle.tally.specs.Runs.{Ran};
 ghost use Rattle.format.specs.Coding.{bytesNumber};
-ghost use Rattle.format.specs.Table.{pack};
-ghost use Rattle.format.specs.Packet.{flatItem};
-ghost use Rattle.format.specs.Calls.{itemOf};
-ghost use Rattle.write_packet.specs.Meet.{usedOf, recordsRun, targetsRun, recordsNormal, targetsNormal};
-ghost use Rattle.write_packet.specs.Writing.{RecordsAsked, RecordsWriting, Small};
+ghost use Rattle.format.specs.Table.{set};
+ghost use Rattle.items.specs.Meet.{formOf};
+ghost use Rattle.stores.specs.Puts.{Puts, Fills};
+ghost use Rattle.write_packet.specs.Meet.{recordsNormal};
+ghost use Rattle.write_packet.specs.Writing.{itemCoded, RecordsAsked, Small, RestAsked, RestLeft, ValsLeft, TargetsAsked, TargetsLeft};
 use heads::records;
 use stores::Passed;
 
@@ -39,8 +36,8 @@ fn is_small(s: &[u8], p: usize) -> bool
 
 // The item of such a record; where it ends.
 fn put_small(out: &mut [u8], at: usize, tag: u8, v: &[u8]) -> usize
-    requires { ⌜ (tag < 128) × (length (now v) < 128) × (at + length (flatItem (itemOf (record { tag = tag; value = now v }))) ≤ length (now out)) ⌝ }
-    ensures { λ r. ⌜ (r ≡ at + length (flatItem (itemOf (record { tag = tag; value = now (v .entry) })))) × (now (out .exit) ≡ sets (now (out .entry)) at (flatItem (itemOf (record { tag = tag; value = now (v .entry) })))) ⌝ }
+    requires { ⌜ (tag < 128) × (length (now v) < 128) × (at + length (itemCoded tag (now v)) ≤ length (now out)) ⌝ }
+    ensures { λ r. ⌜ Puts (now (out .entry)) at (itemCoded tag (now (v .entry))) r (now (out .exit)) ⌝ }
 {
     out[at] = tag;
     let a = at + 1;
@@ -50,8 +47,8 @@ fn put_small(out: &mut [u8], at: usize, tag: u8, v: &[u8]) -> usize
 
 // The item of such a record whose value has one byte, as most have: where it ends is told without waiting for the length.
 fn put_one(out: &mut [u8], at: usize, tag: u8, v: u8) -> usize
-    requires { ⌜ (tag < 128) × (at + length (flatItem (itemOf (record { tag = tag; value = v ∷ [] }))) ≤ length (now out)) ⌝ }
-    ensures { λ r. ⌜ (r ≡ at + length (flatItem (itemOf (record { tag = tag; value = v ∷ [] })))) × (now (out .exit) ≡ sets (now (out .entry)) at (flatItem (itemOf (record { tag = tag; value = v ∷ [] })))) ⌝ }
+    requires { ⌜ (tag < 128) × (at + length (itemCoded tag (v ∷ [])) ≤ length (now out)) ⌝ }
+    ensures { λ r. ⌜ Puts (now (out .entry)) at (itemCoded tag (v ∷ [])) r (now (out .exit)) ⌝ }
 {
     out[at] = tag;
     out[at + 1] = 1;
@@ -61,8 +58,8 @@ fn put_one(out: &mut [u8], at: usize, tag: u8, v: u8) -> usize
 
 // The records of a target from a place on, where at bytes are written for those before it.
 fn rest_vals(s: &[u8], from: usize, at: usize, alone: bool, out: &mut [u8]) -> Passed
-    requires { ⌜ RecordsAsked 0 false (formOf alone) (now s) (length (now out)) × ((o : List ℕ) × RecordsWriting 0 false (formOf alone) (now s) o (now out) from at) ⌝ }
-    ensures { λ r. ⌜ (r .used ≡ usedOf (recordsRun pack (formOf alone) (now (s .entry)))) × (r .wrote ≡ length (recordsNormal pack (formOf alone) (now (s .entry)))) × ((o : List ℕ) → RecordsWriting 0 false (formOf alone) (now (s .entry)) o (now (out .entry)) from at → now (out .exit) ≡ sets o 0 (recordsNormal pack (formOf alone) (now (s .entry)))) ⌝ }
+    requires { ⌜ RestAsked (formOf alone) (now s) (now out) from at ⌝ }
+    ensures { λ r. ⌜ RestLeft (formOf alone) (now (s .entry)) (now (out .entry)) from at (r .used) (r .wrote) (now (out .exit)) ⌝ }
 {
     let mut p = from;
     let mut k = at;
@@ -81,7 +78,7 @@ fn rest_vals(s: &[u8], from: usize, at: usize, alone: bool, out: &mut [u8]) -> P
 // The records of a target, the small ones one after another: what stops them is left to the rest, which is kept out of the loop over the targets.
 fn put_vals(s: &[u8], alone: bool, out: &mut [u8]) -> Passed
     requires { ⌜ RecordsAsked 0 false (formOf alone) (now s) (length (now out)) ⌝ }
-    ensures { λ r. ⌜ (r .used ≡ usedOf (recordsRun pack (formOf alone) (now (s .entry)))) × (r .wrote ≡ length (recordsNormal pack (formOf alone) (now (s .entry)))) × (now (out .exit) ≡ sets (now (out .entry)) 0 (recordsNormal pack (formOf alone) (now (s .entry)))) ⌝ }
+    ensures { λ r. ⌜ ValsLeft (formOf alone) (now (s .entry)) (now (out .entry)) (r .used) (r .wrote) (now (out .exit)) ⌝ }
 {
     let mut p: usize = 0;
     let mut k: usize = 0;
@@ -104,17 +101,14 @@ fn put_vals(s: &[u8], alone: bool, out: &mut [u8]) -> Passed
     }
 }
 
-// The records of a level: the set, whose series has `inner` bytes of packs, or a target; how many bytes they write.
-pub fn item_packet(s: &[u8], set: bool, alone: bool, inner: usize, out: &mut [u8]) -> usize
-    requires { ⌜ RecordsAsked inner set (formOf alone) (now s) (length (now out)) ⌝ }
-    ensures { λ r. ⌜ (r ≡ length (recordsNormal (levelOf set) (formOf alone) (now (s .entry)))) × (now (out .exit) ≡ sets (now (out .entry)) 0 (recordsNormal (levelOf set) (formOf alone) (now (s .entry)))) ⌝ }
+// The records of the set, whose series has `inner` bytes of packs; how many bytes they write.
+pub fn item_packet(s: &[u8], alone: bool, inner: usize, out: &mut [u8]) -> usize
+    requires { ⌜ RecordsAsked inner true (formOf alone) (now s) (length (now out)) ⌝ }
+    ensures { λ r. ⌜ Fills (now (out .entry)) (recordsNormal set (formOf alone) (now (s .entry))) r (now (out .exit)) ⌝ }
 {
     let mut p: usize = 0;
     let mut k: usize = 0;
     while p < s.len() {
-        if !tally_records::goes_on(s, p, set) {
-            return k;
-        }
         if records::is_mark(s, p, records::TS) {
             let m = store_coded::put_series(out, k, inner);
             let d = target_packet(&s[p + 2..], alone, &mut out[m..]);
@@ -133,8 +127,8 @@ pub fn item_packet(s: &[u8], set: bool, alone: bool, inner: usize, out: &mut [u8
 
 // The targets of the series.
 fn target_packet(s: &[u8], alone: bool, out: &mut [u8]) -> Passed
-    requires { ⌜ (length (now s) ≤ 65536) × Ran (targetsRun (formOf alone) (now s)) × (length (targetsNormal (formOf alone) (now s)) ≤ length (now out)) × (length (targetsNormal (formOf alone) (now s)) ≤ 8192) ⌝ }
-    ensures { λ r. ⌜ (r .used ≡ usedOf (targetsRun (formOf alone) (now (s .entry)))) × (r .wrote ≡ length (targetsNormal (formOf alone) (now (s .entry)))) × (now (out .exit) ≡ sets (now (out .entry)) 0 (targetsNormal (formOf alone) (now (s .entry)))) ⌝ }
+    requires { ⌜ TargetsAsked (formOf alone) (now s) (length (now out)) ⌝ }
+    ensures { λ r. ⌜ TargetsLeft (formOf alone) (now (s .entry)) (now (out .entry)) (r .used) (r .wrote) (now (out .exit)) ⌝ }
 {
     let mut p: usize = 0;
     let mut k: usize = 0;

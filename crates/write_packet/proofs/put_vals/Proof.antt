@@ -21,23 +21,37 @@ Inv-loop s alone out₀ p₀ k₀ out p k = RecordsWriting 0 false (formOf alone
 abbrev μ-loop : tie.MeasureT-loop
 μ-loop s alone out₀ p₀ k₀ out p k = length s - p
 
--- a `TI` stands there, and no `TS`
-marked : (a : tie.Else1 Inv-loop μ-loop) → is TI (drop (a .before .before .loop .p) (a .before .before .before .before .before .args .s .now)) ≡ true
+-- a turn: a `TI` stands there, and no `TS`
+abbrev Marked : Type 0
+Marked = tie.Else1 Inv-loop μ-loop
+
+abbrev start : Marked → tie.Start Inv-loop μ-loop
+start a = a .before .before .before .before .before
+
+marked : (a : Marked) → is TI (drop (a .before .before .loop .p) (start a .args .s .now)) ≡ true
 marked a = sym (a .before .is-mark .ensures) ∙ not-false _ (a .if1 .left)
 
-no-series : (a : tie.Else1 Inv-loop μ-loop) → is TS (drop (a .before .before .loop .p) (a .before .before .before .before .before .args .s .now)) ≡ false
-no-series a = ti-no-ts (drop (a .before .before .loop .p) (a .before .before .before .before .before .args .s .now)) (marked a)
+no-series : (a : Marked) → is TS (drop (a .before .before .loop .p) (start a .args .s .now)) ≡ false
+no-series a = ti-no-ts (drop (a .before .before .loop .p) (start a .args .s .now)) (marked a)
 
-here : (a : tie.Else1 Inv-loop μ-loop)
-    → RecordAt 0 false (formOf (a .before .before .before .before .before .args .alone)) (a .before .before .before .before .before .args .s .now) (a .before .before .before .before .before .args .out .now) (a .before .before .loop .out) (a .before .before .loop .p) (a .before .before .loop .k)
-here a = val-here (a .before .before .loop .inv) (marked a) (λ i. a .before .before .before .before .shared-slice-known .given i .fits) (a .before .before .before .before .before .pre)
+here : (a : Marked)
+    → RecordAt 0 false (formOf (start a .args .alone)) (start a .args .s .now) (start a .args .out .now) (a .before .before .loop .out) (a .before .before .loop .p) (a .before .before .loop .k)
+here a = val-here (a .before .before .loop .inv) (marked a) (λ i. a .before .before .before .before .shared-slice-known .given i .fits) (start a .pre)
 
-small : (a : tie.Else2 Inv-loop μ-loop) → Small (a .before .before .before .before .before .before .before .args .s .now) (a .before .before .before .before .loop .p)
+small : (a : tie.Else2 Inv-loop μ-loop) → Small (start (a .before .before) .args .s .now) (a .before .before .before .before .loop .p)
 small a = a .before .is-small .ensures (not-false _ (a .if2 .left))
 
+-- its value's length was read
+abbrev Sized : Type 0
+Sized = tie.After-wide Inv-loop μ-loop
+
+abbrev marked-of : Sized → Marked
+marked-of a = a .before .before .before .before
+
 -- the value lies in the sheet
-room : (a : tie.After-wide Inv-loop μ-loop) → (a .before .before .before .before .before .before .loop .p + 6 + a .wide .result ≤ length (a .before .before .before .before .before .before .before .before .before .args .s .now)) × (length (a .before .before .before .before .before .before .before .before .before .args .s .now) ≤ 65536)
-room a = let r = small-room (here (a .before .before .before .before)) (no-series (a .before .before .before .before)) (small (a .before .before)) (a .wide .ensures .0) in (r .1, r .2)
+room : (a : Sized)
+    → (marked-of a .before .before .loop .p + 6 + a .wide .result ≤ length (start (marked-of a) .args .s .now)) × (length (start (marked-of a) .args .s .now) ≤ 65536)
+room a = let r = small-room (here (marked-of a)) (no-series (marked-of a)) (small (a .before .before)) (a .wide .ensures .0) in (r .1, r .2)
 
 loop-holds : tie.Need-loop-holds Inv-loop μ-loop
 loop-holds c = records-start (c .before .before .pre)
@@ -58,7 +72,9 @@ is-small-requires : tie.Need-is-small-requires Inv-loop μ-loop
 is-small-requires c κs = omega (arith, fields-room (here c) (no-series c))
 
 rest-vals-requires : tie.Need-rest-vals-requires Inv-loop μ-loop
-rest-vals-requires c κs = (asked-now (c .before .before .before .before .before .loop .inv) (c .before .before .before .before .before .before .before .before .pre), (c .before .before .before .before .before .before .before .before .args .out .now, c .before .before .before .before .before .loop .inv))
+rest-vals-requires c κs =
+    let a = c .before .before .before in
+    (asked-now (a .before .before .loop .inv) (start a .pre), (start a .args .out .now, a .before .before .loop .inv))
 
 same-length-2 : tie.Need-same-length-2 Inv-loop μ-loop
 same-length-2 c = ap length (c .before .before .rest-vals .ensures .2 _ (c .before .before .before .before .before .before .before .before .loop .inv)) ∙ simp length-sets
@@ -90,7 +106,9 @@ shared-slice-read-put-one-2 : tie.Need-shared-slice-read-put-one-2 Inv-loop μ-l
 shared-slice-read-put-one-2 c = omega (arith, room (c .before .before .before .before))
 
 put-one-requires : tie.Need-put-one-requires Inv-loop μ-loop
-put-one-requires c κs = one-asked (here (c .before .before .before .before .before .before .before .before)) (no-series (c .before .before .before .before .before .before .before .before)) (small (c .before .before .before .before .before .before)) (c .before .before .before .before .wide .ensures .0) (c .before .before .before .if3 .taken)
+put-one-requires c κs =
+    let a = c .before .before .before .before in
+    one-asked (here (marked-of a)) (no-series (marked-of a)) (small (a .before .before)) (a .wide .ensures .0) (c .before .before .before .if3 .taken)
 
 add-p : tie.Need-add-p Inv-loop μ-loop
 add-p c = omega (arith, room (c .before .before .before .before .before .before .before))
@@ -99,7 +117,9 @@ loop-less : tie.Need-loop-less Inv-loop μ-loop
 loop-less c = omega (arith, room (c .before .before .before .before .before .before .before))
 
 loop-again : tie.Need-loop-again Inv-loop μ-loop
-loop-again c = one-more (here (c .before .before .before .before .before .before .before .before .before .before .before)) (no-series (c .before .before .before .before .before .before .before .before .before .before .before)) (small (c .before .before .before .before .before .before .before .before .before)) (c .before .before .before .before .before .before .before .wide .ensures .0) (c .before .before .before .before .before .before .if3 .taken) (c .before .before .put-one .ensures)
+loop-again c =
+    let a = c .before .before .before .before .before .before .before in
+    one-more (here (marked-of a)) (no-series (marked-of a)) (small (a .before .before)) (a .wide .ensures .0) (c .before .before .before .before .before .before .if3 .taken) (c .before .before .put-one .ensures)
 
 -- ---- any other
 
@@ -128,13 +148,17 @@ part-put-small-end : tie.Need-part-put-small-end Inv-loop μ-loop
 part-put-small-end c = omega (arith, room (c .before .before .before))
 
 put-small-requires : tie.Need-put-small-requires Inv-loop μ-loop
-put-small-requires c κs = small-asked (here (c .before .before .before .before .before .before .before .before)) (no-series (c .before .before .before .before .before .before .before .before)) (small (c .before .before .before .before .before .before)) (c .before .before .before .before .wide .ensures .0)
+put-small-requires c κs =
+    let a = c .before .before .before .before in
+    small-asked (here (marked-of a)) (no-series (marked-of a)) (small (a .before .before)) (a .wide .ensures .0)
 
 loop-less-2 : tie.Need-loop-less-2 Inv-loop μ-loop
 loop-less-2 c = omega (arith, room (c .before .before .before .before .before .before .before))
 
 loop-again-2 : tie.Need-loop-again-2 Inv-loop μ-loop
-loop-again-2 c = small-more (here (c .before .before .before .before .before .before .before .before .before .before .before)) (no-series (c .before .before .before .before .before .before .before .before .before .before .before)) (small (c .before .before .before .before .before .before .before .before .before)) (c .before .before .before .before .before .before .before .wide .ensures .0) (c .before .before .put-small .ensures)
+loop-again-2 c =
+    let a = c .before .before .before .before .before .before .before in
+    small-more (here (marked-of a)) (no-series (marked-of a)) (small (a .before .before)) (a .wide .ensures .0) (c .before .before .put-small .ensures)
 
 pub put-vals-spec : {M : Type 1} → statement M
 put-vals-spec =

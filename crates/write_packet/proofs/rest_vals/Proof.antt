@@ -14,11 +14,6 @@ use Rattle.write_packet.proofs.Steps.{ti-no-ts}
 use Rattle.write_packet.proofs.Turns.{asked-first, records-over, records-passed, RecordAt, val-here, fields-room, item-room, item-asked, item-more}
 use Rattle.write_packet.proofs.rest_vals.Statement.{statement}
 use Rattle.write_packet.proofs.rest_vals.Tie as tie
-use Rattle.write_packet.proofs.rest_vals.Reads as reads
-use Rattle.write_packet.proofs.rest_vals.Lts as lts
-use Rattle.heads.proofs.records.is_mark.Reads as is-mark-reads
-use Rattle.write_packet.proofs.two_at.Reads as two-at-reads
-use Rattle.store_coded.proofs.put_short.Reads as put-short-reads
 
 abbrev Inv-loop : tie.InvT-loop
 Inv-loop s from at alone out₀ p₀ k₀ out p k = (o : List ℕ) → RecordsWriting 0 false (formOf alone) s o out₀ from at → RecordsWriting 0 false (formOf alone) s o out p k
@@ -26,22 +21,28 @@ Inv-loop s from at alone out₀ p₀ k₀ out p k = (o : List ℕ) → RecordsWr
 abbrev μ-loop : tie.MeasureT-loop
 μ-loop s from at alone out₀ p₀ k₀ out p k = length s - p
 
--- a `TI` stands there, and no `TS`
-marked : (a : lts.Else1 (is-mark-reads.Asked, is-mark-reads.Learnt, two-at-reads.Asked, two-at-reads.Learnt, put-short-reads.Asked, put-short-reads.Learnt) reads.Pre reads.Post Inv-loop μ-loop) → is TI (drop (a .before .before .loop .p) (a .before .before .before .before .before .args .s .now)) ≡ true
+-- a turn: a `TI` stands there, and no `TS`
+abbrev Marked : Type 0
+Marked = tie.Else1 Inv-loop μ-loop
+
+abbrev start : Marked → tie.Start Inv-loop μ-loop
+start a = a .before .before .before .before .before
+
+marked : (a : Marked) → is TI (drop (a .before .before .loop .p) (start a .args .s .now)) ≡ true
 marked a = sym (a .before .is-mark .ensures) ∙ not-false _ (a .if1 .left)
 
-no-series : (a : lts.Else1 (is-mark-reads.Asked, is-mark-reads.Learnt, two-at-reads.Asked, two-at-reads.Learnt, put-short-reads.Asked, put-short-reads.Learnt) reads.Pre reads.Post Inv-loop μ-loop) → is TS (drop (a .before .before .loop .p) (a .before .before .before .before .before .args .s .now)) ≡ false
-no-series a = ti-no-ts (drop (a .before .before .loop .p) (a .before .before .before .before .before .args .s .now)) (marked a)
+no-series : (a : Marked) → is TS (drop (a .before .before .loop .p) (start a .args .s .now)) ≡ false
+no-series a = ti-no-ts (drop (a .before .before .loop .p) (start a .args .s .now)) (marked a)
 
 -- whatever was lent first
-here-of : (a : lts.Else1 (is-mark-reads.Asked, is-mark-reads.Learnt, two-at-reads.Asked, two-at-reads.Learnt, put-short-reads.Asked, put-short-reads.Learnt) reads.Pre reads.Post Inv-loop μ-loop) (o : List ℕ)
-    → RecordsWriting 0 false (formOf (a .before .before .before .before .before .args .alone)) (a .before .before .before .before .before .args .s .now) o (a .before .before .before .before .before .args .out .now) (a .before .before .before .before .before .args .from) (a .before .before .before .before .before .args .at)
-    → RecordAt 0 false (formOf (a .before .before .before .before .before .args .alone)) (a .before .before .before .before .before .args .s .now) o (a .before .before .loop .out) (a .before .before .loop .p) (a .before .before .loop .k)
-here-of a o g = val-here (a .before .before .loop .inv o g) (marked a) (λ i. a .before .before .before .before .shared-slice-known .given i .fits) (asked-first g (a .before .before .before .before .before .pre .0))
+here-of : (a : Marked) (o : List ℕ)
+    → RecordsWriting 0 false (formOf (start a .args .alone)) (start a .args .s .now) o (start a .args .out .now) (start a .args .from) (start a .args .at)
+    → RecordAt 0 false (formOf (start a .args .alone)) (start a .args .s .now) o (a .before .before .loop .out) (a .before .before .loop .p) (a .before .before .loop .k)
+here-of a o g = val-here (a .before .before .loop .inv o g) (marked a) (λ i. a .before .before .before .before .shared-slice-known .given i .fits) (asked-first g (start a .pre .0))
 
-here : (a : lts.Else1 (is-mark-reads.Asked, is-mark-reads.Learnt, two-at-reads.Asked, two-at-reads.Learnt, put-short-reads.Asked, put-short-reads.Learnt) reads.Pre reads.Post Inv-loop μ-loop)
-    → RecordAt 0 false (formOf (a .before .before .before .before .before .args .alone)) (a .before .before .before .before .before .args .s .now) (a .before .before .before .before .before .pre .1 .0) (a .before .before .loop .out) (a .before .before .loop .p) (a .before .before .loop .k)
-here a = here-of a (a .before .before .before .before .before .pre .1 .0) (a .before .before .before .before .before .pre .1 .1)
+here : (a : Marked)
+    → RecordAt 0 false (formOf (start a .args .alone)) (start a .args .s .now) (start a .pre .1 .0) (a .before .before .loop .out) (a .before .before .loop .p) (a .before .before .loop .k)
+here a = here-of a (start a .pre .1 .0) (start a .pre .1 .1)
 
 loop-holds : tie.Need-loop-holds Inv-loop μ-loop
 loop-holds c = λ o g. g
@@ -95,10 +96,14 @@ put-short-requires : tie.Need-put-short-requires Inv-loop μ-loop
 put-short-requires c κs = item-asked (here (c .before .before .before .before)) (no-series (c .before .before .before .before)) (c .before .before .before .two-at .ensures) (c .before .before .two-at2 .ensures)
 
 loop-less : tie.Need-loop-less Inv-loop μ-loop
-loop-less c = omega (arith, item-room (here (c .before .before .before .before .before .before .before)) (no-series (c .before .before .before .before .before .before .before)) (c .before .before .before .before .before .before .two-at .ensures) (c .before .before .before .before .before .two-at2 .ensures))
+loop-less c =
+    let a = c .before .before .before .before .before in
+    omega (arith, item-room (here (a .before .before)) (no-series (a .before .before)) (a .before .two-at .ensures) (a .two-at2 .ensures))
 
 loop-again : tie.Need-loop-again Inv-loop μ-loop
-loop-again c = λ o q. item-more (here-of (c .before .before .before .before .before .before .before) o q) (no-series (c .before .before .before .before .before .before .before)) (c .before .before .before .before .before .before .two-at .ensures) (c .before .before .before .before .before .two-at2 .ensures) (c .before .before .put-short .ensures)
+loop-again c = λ o q.
+    let a = c .before .before .before .before .before in
+    item-more (here-of (a .before .before) o q) (no-series (a .before .before)) (a .before .two-at .ensures) (a .two-at2 .ensures) (c .before .before .put-short .ensures)
 
 pub rest-vals-spec : {M : Type 1} → statement M
 rest-vals-spec =

@@ -10,15 +10,6 @@ use Rattle.items.specs.Meet.{formOf}
 use Rattle.write_packet.proofs.TargetTurns.{TargetsWriting, targets-start, targets-over, TargetAt, target-room, id-asked, id-low, behind, vals-asked, target-next, body-few, Placed, vals-stay, wide-some, move-asked, vals-move, pack-asked, ends-few, target-more}
 use Rattle.write_packet.proofs.target_packet.Statement.{statement}
 use Rattle.write_packet.proofs.target_packet.Tie as tie
-use Rattle.write_packet.proofs.target_packet.Reads as reads
-use Rattle.write_packet.proofs.target_packet.Lts as lts
-use Rattle.coding.proofs.number_of.Reads as number-of-reads
-use Rattle.coding.proofs.widths.len_width.Reads as len-width-reads
-use Rattle.heads.proofs.records.is_mark.Reads as is-mark-reads
-use Rattle.coding.proofs.widths.oid_width.Reads as oid-width-reads
-use Rattle.store_coded.proofs.put_pack.Reads as put-pack-reads
-use Rattle.write_packet.proofs.put_vals.Reads as put-vals-reads
-use Rattle.stores.proofs.shift.Reads as shift-reads
 
 abbrev Inv-loop : tie.InvT-loop
 Inv-loop s alone out₀ p₀ k₀ out p k = TargetsWriting (formOf alone) s out₀ out p k
@@ -26,23 +17,45 @@ Inv-loop s alone out₀ p₀ k₀ out p k = TargetsWriting (formOf alone) s out�
 abbrev μ-loop : tie.MeasureT-loop
 μ-loop s alone out₀ p₀ k₀ out p k = length s - p
 
--- the target whose mark was seen
-target-at : (a : lts.Else1 (is-mark-reads.Asked, is-mark-reads.Learnt, number-of-reads.Asked, number-of-reads.Learnt, oid-width-reads.Asked, oid-width-reads.Learnt, put-vals-reads.Asked, put-vals-reads.Learnt, len-width-reads.Asked, len-width-reads.Learnt, shift-reads.Asked, shift-reads.Learnt, put-pack-reads.Asked, put-pack-reads.Learnt) reads.Pre reads.Post Inv-loop μ-loop)
-    → TargetAt (formOf (a .before .before .before .before .before .args .alone)) (a .before .before .before .before .before .args .s .now) (a .before .before .before .before .before .args .out .now) (a .before .before .loop .out) (a .before .before .loop .p) (a .before .before .loop .k)
+-- ---- the places: a target's mark seen, its values stored, and these behind where its head goes
+
+abbrev Marked : Type 0
+Marked = tie.Else1 Inv-loop μ-loop
+
+abbrev start : Marked → tie.Start Inv-loop μ-loop
+start a = a .before .before .before .before .before
+
+target-at : (a : Marked) → TargetAt (formOf (start a .args .alone)) (start a .args .s .now) (start a .args .out .now) (a .before .before .loop .out) (a .before .before .loop .p) (a .before .before .loop .k)
 target-at a = record {
   going = a .before .before .loop .inv;
   more = sym (a .before .is-mark .ensures) ∙ not-false _ (a .if1 .left);
   bytes = λ i. a .before .before .before .before .shared-slice-known .given i .fits;
-  asked = a .before .before .before .before .before .pre;
+  asked = start a .pre;
 }
 
--- its items, behind where its head goes
-placed : (a : lts.Joined2 (is-mark-reads.Asked, is-mark-reads.Learnt, number-of-reads.Asked, number-of-reads.Learnt, oid-width-reads.Asked, oid-width-reads.Learnt, put-vals-reads.Asked, put-vals-reads.Learnt, len-width-reads.Asked, len-width-reads.Learnt, shift-reads.Asked, shift-reads.Learnt, put-pack-reads.Asked, put-pack-reads.Learnt) reads.Pre reads.Post Inv-loop μ-loop)
-    → Placed (target-at (a .before .before .before .before .before .before .before .before .before .before .before)) (a .before .before .before .before .before .before .before .before .before .number-of .ensures) (a .before .before .before .before .before .before .before .before .oid-width .ensures) (a .before .before .before .before .before .put-vals .ensures) (a .if2 .out)
+abbrev Wide : Type 0
+Wide = tie.After-oid-width Inv-loop μ-loop
+
+abbrev marked-of : Wide → Marked
+marked-of a = a .before .before .before
+
+abbrev Stored : Type 0
+Stored = tie.After-put-vals Inv-loop μ-loop
+
+abbrev wide-of : Stored → Wide
+wide-of a = a .before .before .before
+
+placed : (a : tie.Joined2 Inv-loop μ-loop)
+    → Placed (target-at (marked-of (wide-of (a .before .before .before .before .before)))) (wide-of (a .before .before .before .before .before) .before .number-of .ensures)
+    (wide-of (a .before .before .before .before .before) .oid-width .ensures) (a .before .before .before .before .before .put-vals .ensures) (a .if2 .out)
 placed a = ⊎-elim
-    (λ m. rw (m .6) (vals-move (target-at (a .before .before .before .before .before .before .before .before .before .before .before)) (a .before .before .before .before .before .before .before .before .before .number-of .ensures) (a .before .before .before .before .before .before .before .before .oid-width .ensures) (a .before .before .before .before .before .put-vals .ensures) (m .1 .ensures) (m .3 .ensures)))
-    (λ h. rw (h .1) (vals-stay (target-at (a .before .before .before .before .before .before .before .before .before .before .before)) (a .before .before .before .before .before .before .before .before .before .number-of .ensures) (a .before .before .before .before .before .before .before .before .oid-width .ensures) (a .before .before .before .before .before .put-vals .ensures) (omega (arith, h .0 .left))))
+    (λ m. rw (m .6) (vals-move (target-at (marked-of (wide-of (a .before .before .before .before .before)))) (wide-of (a .before .before .before .before .before) .before .number-of .ensures)
+    (wide-of (a .before .before .before .before .before) .oid-width .ensures) (a .before .before .before .before .before .put-vals .ensures) (m .1 .ensures) (m .3 .ensures)))
+    (λ h. rw (h .1) (vals-stay (target-at (marked-of (wide-of (a .before .before .before .before .before)))) (wide-of (a .before .before .before .before .before) .before .number-of .ensures)
+    (wide-of (a .before .before .before .before .before) .oid-width .ensures) (a .before .before .before .before .before .put-vals .ensures) (omega (arith, h .0 .left))))
     (a .if2 .came)
+
+-- ---- the needs
 
 loop-holds : tie.Need-loop-holds Inv-loop μ-loop
 loop-holds c = targets-start (c .before .before .pre)
@@ -105,31 +118,55 @@ put-vals-requires : tie.Need-put-vals-requires Inv-loop μ-loop
 put-vals-requires c κs = vals-asked (target-at (c .before .before .before .before .before)) (c .before .before .before .number-of .ensures) (c .before .before .oid-width .ensures)
 
 add-next : tie.Need-add-next Inv-loop μ-loop
-add-next c = omega (arith, target-next (target-at (c .before .before .before .before .before .before .before .before .before)) (c .before .before .before .before .before .before .before .number-of .ensures) (c .before .before .before .before .before .before .oid-width .ensures) (c .before .before .before .put-vals .ensures))
+add-next c =
+    let d = c .before .before .before in
+    let w = wide-of d in
+    omega (arith, target-next (target-at (marked-of w)) (w .before .number-of .ensures) (w .oid-width .ensures) (d .put-vals .ensures))
 
 add-body : tie.Need-add-body Inv-loop μ-loop
-add-body c = omega (arith, body-few (target-at (c .before .before .before .before .before .before .before .before .before .before)) (c .before .before .before .before .before .before .before .before .number-of .ensures) (c .before .before .before .before .before .before .before .oid-width .ensures) (c .before .before .before .before .put-vals .ensures))
+add-body c =
+    let d = c .before .before .before .before in
+    let w = wide-of d in
+    omega (arith, body-few (target-at (marked-of w)) (w .before .number-of .ensures) (w .oid-width .ensures) (d .put-vals .ensures))
 
 len-width-requires : tie.Need-len-width-requires Inv-loop μ-loop
 len-width-requires c κs = search needs
 
 sub-by : tie.Need-sub-by Inv-loop μ-loop
-sub-by c = wide-some (target-at (c .before .before .before .before .before .before .before .before .before .before .before .before)) (c .before .before .before .before .before .before .before .before .before .before .number-of .ensures) (c .before .before .before .before .before .before .before .before .before .oid-width .ensures) (c .before .before .before .before .before .before .put-vals .ensures) (c .len-width .ensures)
+sub-by c =
+    let d = c .before .before .before .before .before .before in
+    let w = wide-of d in
+    wide-some (target-at (marked-of w)) (w .before .number-of .ensures) (w .oid-width .ensures) (d .put-vals .ensures) (c .len-width .ensures)
 
 shift-requires : tie.Need-shift-requires Inv-loop μ-loop
-shift-requires c κs = move-asked (target-at (c .before .before .before .before .before .before .before .before .before .before .before .before .before)) (c .before .before .before .before .before .before .before .before .before .before .before .number-of .ensures) (c .before .before .before .before .before .before .before .before .before .before .oid-width .ensures) (c .before .before .before .before .before .before .before .put-vals .ensures) (c .before .len-width .ensures)
+shift-requires c κs =
+    let d = c .before .before .before .before .before .before .before in
+    let w = wide-of d in
+    move-asked (target-at (marked-of w)) (w .before .number-of .ensures) (w .oid-width .ensures) (d .put-vals .ensures) (c .before .len-width .ensures)
 
 put-pack-requires : tie.Need-put-pack-requires Inv-loop μ-loop
-put-pack-requires c κs = pack-asked (target-at (c .before .before .before .before .before .before .before .before .before .before .before .before)) (c .before .before .before .before .before .before .before .before .before .before .number-of .ensures) (c .before .before .before .before .before .before .before .before .before .oid-width .ensures) (c .before .before .before .before .before .before .put-vals .ensures) (placed (c .before))
+put-pack-requires c κs =
+    let d = c .before .before .before .before .before .before in
+    let w = wide-of d in
+    pack-asked (target-at (marked-of w)) (w .before .number-of .ensures) (w .oid-width .ensures) (d .put-vals .ensures) (placed (c .before))
 
 add-k : tie.Need-add-k Inv-loop μ-loop
-add-k c = omega (arith, ends-few (target-at (c .before .before .before .before .before .before .before .before .before .before .before .before .before .before .before .before)) (c .before .before .before .before .before .before .before .before .before .before .before .before .before .before .number-of .ensures) (c .before .before .before .before .before .before .before .before .before .before .before .before .before .oid-width .ensures) (c .before .before .before .before .before .before .before .before .before .before .put-vals .ensures) (placed (c .before .before .before .before .before)) (c .before .before .before .put-pack .ensures))
+add-k c =
+    let d = c .before .before .before .before .before .before .before .before .before .before in
+    let w = wide-of d in
+    omega (arith, ends-few (target-at (marked-of w)) (w .before .number-of .ensures) (w .oid-width .ensures) (d .put-vals .ensures) (placed (c .before .before .before .before .before)) (c .before .before .before .put-pack .ensures))
 
 loop-less : tie.Need-loop-less Inv-loop μ-loop
-loop-less c = omega (arith, target-next (target-at (c .before .before .before .before .before .before .before .before .before .before .before .before .before .before .before .before)) (c .before .before .before .before .before .before .before .before .before .before .before .before .before .before .number-of .ensures) (c .before .before .before .before .before .before .before .before .before .before .before .before .before .oid-width .ensures) (c .before .before .before .before .before .before .before .before .before .before .put-vals .ensures))
+loop-less c =
+    let d = c .before .before .before .before .before .before .before .before .before .before in
+    let w = wide-of d in
+    omega (arith, target-next (target-at (marked-of w)) (w .before .number-of .ensures) (w .oid-width .ensures) (d .put-vals .ensures))
 
 loop-again : tie.Need-loop-again Inv-loop μ-loop
-loop-again c = target-more (target-at (c .before .before .before .before .before .before .before .before .before .before .before .before .before .before .before .before)) (c .before .before .before .before .before .before .before .before .before .before .before .before .before .before .number-of .ensures) (c .before .before .before .before .before .before .before .before .before .before .before .before .before .oid-width .ensures) (c .before .before .before .before .before .before .before .before .before .before .put-vals .ensures) (placed (c .before .before .before .before .before)) (c .before .before .before .put-pack .ensures)
+loop-again c =
+    let d = c .before .before .before .before .before .before .before .before .before .before in
+    let w = wide-of d in
+    target-more (target-at (marked-of w)) (w .before .number-of .ensures) (w .oid-width .ensures) (d .put-vals .ensures) (placed (c .before .before .before .before .before)) (c .before .before .before .put-pack .ensures)
 
 pub target-packet-spec : {M : Type 1} → statement M
 target-packet-spec =

@@ -236,11 +236,9 @@ pub fn target_records(
             sizes = z;
             held = m;
         }
-        if !coding::either(!alone, held) {
-            return Walked::Bad {
-                number: 14,
-                place: p,
-            };
+        let number = tally::ended_of(alone, held);
+        if number != 0 {
+            return Walked::Bad { number, place: p };
         }
         let sum = tally::weights::pack_sizes(coding::widths::oid_width(id), sizes);
         clear = repeats::clear::after(s, p, clear, q.top, q.low, id, true, true, false, bits);

@@ -2,6 +2,7 @@
 ghost use mathlib.Core.Path.{_≡_};
 ghost use Prim.Native.Nat.{_-_, _≤_};
 ghost use lib.ListN.{length};
+ghost use Rattle.format.specs.Table.{Form};
 ghost use Rattle.format.specs.Edit.{target};
 ghost use Rattle.items.specs.Meet.{formOf, levelOf};
 ghost use Rattle.tally.specs.Runs.{Ran, levelRun, seriesRun};
@@ -30,10 +31,10 @@ fn no_spot(at: usize) -> Spot
     }
 }
 
-// The item with this tag in a level: the set, or a pack's items.
-pub fn item_spot(s: &[u8], set: bool, alone: bool, tag: u64) -> Spot
-    requires { ⌜ (length (now s) ≤ 8192) × Ran (levelRun (levelOf set) (formOf alone) (now s)) ⌝ }
-    ensures { λ r. ⌜ r ≡ entrySpot (levelOf set) (formOf alone) tag (now (s .entry)) ⌝ }
+// The item with this tag in a level: the set, or a pack's items. The same for every form under which the level was accepted.
+pub fn item_spot(s: &[u8], set: bool, tag: u64) -> Spot
+    requires { ⌜ (length (now s) ≤ 8192) × ((f : Form) × Ran (levelRun (levelOf set) f (now s))) ⌝ }
+    ensures { λ r. ⌜ ((f : Form) → Ran (levelRun (levelOf set) f (now (s .entry))) → r ≡ entrySpot (levelOf set) f tag (now (s .entry))) ⌝ }
 {
     let mut p: usize = 0;
     while p < s.len() {
@@ -62,10 +63,10 @@ pub fn item_spot(s: &[u8], set: bool, alone: bool, tag: u64) -> Spot
     no_spot(p)
 }
 
-// The pack with this id in a series.
-pub fn pack_spot(s: &[u8], alone: bool, id: u64) -> Spot
-    requires { ⌜ (length (now s) ≤ 8192) × Ran (seriesRun (formOf alone) (now s)) ⌝ }
-    ensures { λ r. ⌜ r ≡ packSpot (formOf alone) id (now (s .entry)) ⌝ }
+// The pack with this id in a series, the same way.
+pub fn pack_spot(s: &[u8], id: u64) -> Spot
+    requires { ⌜ (length (now s) ≤ 8192) × ((f : Form) × Ran (seriesRun f (now s))) ⌝ }
+    ensures { λ r. ⌜ ((f : Form) → Ran (seriesRun f (now (s .entry))) → r ≡ packSpot f id (now (s .entry))) ⌝ }
 {
     let mut p: usize = 0;
     while p < s.len() {
@@ -154,7 +155,7 @@ fn set_place(s: &[u8], alone: bool, tag: u64) -> Place
     ensures { λ r. ⌜ SetPlaced (formOf alone) tag (now (s .entry)) r ⌝ }
 {
     let stop = stop_of(s, alone);
-    let a = item_spot(s, true, alone, tag);
+    let a = item_spot(s, true, tag);
     if a.at < a.next {
         return place_in(a, stop);
     }
@@ -166,20 +167,20 @@ fn target_place(s: &[u8], alone: bool, id: u64, tag: u64) -> Found
     requires { ⌜ SetOf (formOf alone) (now s) ⌝ }
     ensures { λ r. ⌜ FoundIs (formOf alone) (target id) tag (now (s .entry)) r ⌝ }
 {
-    let a = item_spot(s, true, alone, 101);
+    let a = item_spot(s, true, 101);
     if a.at == a.next {
         return Found::Nowhere;
     }
     let packs = a.from;
     let tail = a.next;
     let inner = &s[packs..tail];
-    let b = pack_spot(inner, alone, id);
+    let b = pack_spot(inner, id);
     if b.at == b.next {
         return Found::Nowhere;
     }
     let items = b.from;
     let end = b.next;
-    let c = item_spot(&inner[items..end], false, alone, tag);
+    let c = item_spot(&inner[items..end], false, tag);
     let base = packs + items;
     let stop = stop_of(s, alone);
     Found::There(Place {

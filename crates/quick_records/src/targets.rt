@@ -79,7 +79,7 @@ fn model_of(glances: &[u32], s: &[u8], from: usize, alone: bool, masks: &mut [u8
     if !is_over(s, from + size) {
         return quick_packs::no_model();
     }
-    if !coding::either(!alone, q.held) {
+    if tally::ended_of(alone, q.held) != 0 {
         return quick_packs::no_model();
     }
     Model {

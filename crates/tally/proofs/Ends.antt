@@ -30,3 +30,16 @@ pub ended-some : (alone held : Bool) {v : Bool} → v ≡ (not alone || held) �
 unfolding endedBy
 ended-some true held e t = let z : held ≡ false = sym e ∙ t in rw z
 ended-some false held e t = absurd (no-bool (sym t ∙ e))
+
+-- as a target's laws ask it: whether it holds what it must
+pub ended-held : (alone held : Bool) {n : ℕ} → n ≡ endedBy (formOf alone) held → n ≡ 0 → not alone || held ≡ true
+unfolding endedBy
+ended-held true true e z = refl
+ended-held true false e z = absurd (omega (arith, e, z))
+ended-held false held e z = refl
+
+pub ended-unheld : (alone held : Bool) {n : ℕ} → n ≡ endedBy (formOf alone) held → (n ≡ 0 → ⊥) → (not (isAlone (formOf alone)) || held ≡ false) × (n ≡ 14)
+unfolding endedBy
+ended-unheld true true e z = absurd (z e)
+ended-unheld true false e z = (refl, e)
+ended-unheld false held e z = absurd (z e)

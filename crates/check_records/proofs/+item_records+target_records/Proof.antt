@@ -16,10 +16,11 @@ use Rattle.format.specs.Table.{Form, pack}
 use Rattle.items.specs.Meet.{formOf}
 use Rattle.heads.specs.Meet.{peek, Clear}
 use Rattle.repeats.proofs.Clears.{clear-none}
-use Rattle.tally.specs.declared.Walked.the-variants.{Good}
+use Rattle.tally.specs.declared.Walked.the-variants.{Bad, Good}
 use Rattle.tally.specs.Meet.{Within}
 use Rattle.tally.proofs.Turns.{within-more, told-as, turn-done, turn-over}
 use Rattle.tally.proofs.ItemTurns.{depth, series-deep}
+use Rattle.tally.proofs.Ends.{ended-held, ended-unheld}
 use Rattle.tally.proofs.PackTurns.{either-is}
 use Rattle.tally_records.specs.Meet.{recordsWalk}
 use Rattle.tally_records.specs.Going.{RecordsFrom, TargetsFrom}
@@ -34,7 +35,7 @@ use Rattle.check_records.proofs.target_records.Kinds as target-records-
 use Rattle.check_records.proofs.+item_records+target_records.Lts-target_records as target-records-lts
 use Rattle.check_records.proofs.part_at.Reads as part-at-reads
 use Rattle.check_records.proofs.target_at.Reads as target-at-reads
-use Rattle.coding.proofs.either.Reads as either-reads
+use Rattle.tally.proofs.ended_of.Reads as ended-of-reads
 use Rattle.coding.proofs.widths.oid_width.Reads as oid-width-reads
 use Rattle.heads.proofs.records.is_mark.Reads as is-mark-reads
 use Rattle.quick_records.proofs.quick.glance_records.Reads as glance-records-reads
@@ -312,8 +313,8 @@ module _ (t : ℕ) where
     item-records.Post,
     later-reads.Asked,
     later-reads.Learnt,
-    either-reads.Asked,
-    either-reads.Learnt,
+    ended-of-reads.Asked,
+    ended-of-reads.Learnt,
     oid-width-reads.Asked,
     oid-width-reads.Learnt,
     pack-sizes-reads.Asked,
@@ -444,13 +445,15 @@ module _ (t : ℕ) where
   target-returns-3 : target-records-lts.Need-returns-3 target-claims (target-records-at t) target-records.Post target-Inv target-μ
   target-returns-3 c = vals-fault (target-here (c .before .before .before .before .before .before .before .before .before .before .before)) (c .before .before .before .item-records .ensures) (c .before .enum-told2 .given .1) (c .later .ensures)
 
-  target-either-requires : target-records-lts.Need-either-requires target-claims (target-records-at t) target-records.Post target-Inv target-μ
-  target-either-requires c κs = search needs
+  target-ended-of-requires : target-records-lts.Need-ended-of-requires target-claims (target-records-at t) target-records.Post target-Inv target-μ
+  target-ended-of-requires c κs = search needs
 
   target-returns-4 : target-records-lts.Need-returns-4 target-claims (target-records-at t) target-records.Post target-Inv target-μ
   target-returns-4 c =
       let j = c .before .before in
-      no-location (target-here (walked-target j)) (target-told j) refl (either-is (target-loop (walked-target j) .before .before .before .before .before .before .args .alone) _ (c .before .either .ensures)) (not-true _ (c .if4 .taken)) refl
+      let l = target-loop (walked-target j) in
+      let (bare, is-14) = ended-unheld (l .before .before .before .before .before .before .args .alone) _ (c .before .ended-of .ensures) (c .if4 .taken) in
+      no-location (target-here (walked-target j)) (target-told j) refl refl bare (ap (λ n. Bad n (l .loop .q .at)) is-14)
 
   target-oid-width-requires : target-records-lts.Need-oid-width-requires target-claims (target-records-at t) target-records.Post target-Inv target-μ
   target-oid-width-requires c κs = target-room (target-here (c .before .before .before .before .before .before .before .before)) .1
@@ -472,9 +475,12 @@ module _ (t : ℕ) where
       let j = c .before .before .before .before .before .before .before in
       let i = target-here (walked-target j) in
       let l = target-loop (walked-target j) in
-      let some = either-is (l .before .before .before .before .before .before .args .alone) _ (c .before .before .before .before .before .before .either .ensures) in
+      let alone = l .before .before .before .before .before .before .args .alone in
+      let e = c .before .before .before .before .before .before .ended-of in
+      let none : e .result ≡ 0 = omega (arith, c .before .before .before .before .before .if4 .left) in
+      let some = either-is alone _ (sym (ended-held alone _ (e .ensures) none)) in
       let (after, top) = c .after2 .ensures in (
-        target-more i (target-told j) refl (c .before .before .before .before .oid-width .ensures) (c .before .before .before .pack-sizes .ensures) some (not-false _ (c .before .before .before .before .before .if4 .left)) after,
+        target-more i (target-told j) refl (c .before .before .before .before .oid-width .ensures) (c .before .before .before .pack-sizes .ensures) some refl after,
         c .before .after .ensures,
         top .below _ (l .loop .inv .2) (target-room i .1),
       )
@@ -499,5 +505,5 @@ pub +item-records+target-records-spec : {M : Type 1} → statement M
     (target-target-at-requires t) (target-enum-known-a t) (target-enum-told t) (target-stop-requires t) (target-returns-2 t) (target-add-items t)
     (target-sub-items t) (target-part-items-start t) (target-part-items-end t) (target-glance-records-requires t) (target-goes-on-requires t)
     (target-item-records-requires t) (target-enum-known-w t) (target-enum-told-2 t) (target-add-later t) (target-later-requires t)
-    (target-returns-3 t) (target-either-requires t) (target-returns-4 t) (target-oid-width-requires t) (target-pack-sizes-requires t)
+    (target-returns-3 t) (target-ended-of-requires t) (target-returns-4 t) (target-oid-width-requires t) (target-pack-sizes-requires t)
     (target-after-requires t) (target-after-requires-2 t) (target-loop-less t) (target-loop-again t) (target-walked-requires-2 t) (target-returns-5 t))

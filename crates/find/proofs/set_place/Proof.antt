@@ -12,7 +12,7 @@ stop-of-requires : tie.Need-stop-of-requires
 stop-of-requires c κs = seal-room (formOf (c .before .args .alone)) _ (λ n. c .shared-slice-known .given n .fits) (c .before .pre)
 
 item-spot-requires : tie.Need-item-spot-requires
-item-spot-requires c κs = (c .before .before .pre .short, c .before .before .pre .ran)
+item-spot-requires c κs = let i = c .before .before in (i .pre .short, (formOf (i .args .alone), i .pre .ran))
 
 place-in-requires : tie.Need-place-in-requires
 place-in-requires c κs = search needs
@@ -22,7 +22,7 @@ returns c =
     let a = c .before .before .before in
     let g = a .before .before in
     let i = g .before in
-    set-there (formOf (i .args .alone)) (i .args .tag) (i .args .s .now) (a .item-spot .ensures)
+    set-there (formOf (i .args .alone)) (i .args .tag) (i .args .s .now) (a .item-spot .ensures (formOf (i .args .alone)) (i .pre .ran))
     (set-stop (formOf (i .args .alone)) _ (λ n. g .shared-slice-known .given n .fits) (i .pre) (a .before .stop-of .ensures)) (c .before .if1 .taken) (c .place-in .ensures)
 
 no-spot-requires : tie.Need-no-spot-requires
@@ -36,7 +36,7 @@ returns-2 c =
     let a = c .before .before .before .before in
     let g = a .before .before in
     let i = g .before in
-    set-added (formOf (i .args .alone)) (i .args .tag) (i .args .s .now) (a .item-spot .ensures)
+    set-added (formOf (i .args .alone)) (i .args .tag) (i .args .s .now) (a .item-spot .ensures (formOf (i .args .alone)) (i .pre .ran))
     (set-stop (formOf (i .args .alone)) _ (λ n. g .shared-slice-known .given n .fits) (i .pre) (a .before .stop-of .ensures)) (c .before .before .if1 .left)
     (c .place-in2 .ensures ∙ ap (λ x. placeIn x (a .before .stop-of .result)) (c .before .no-spot .ensures))
 

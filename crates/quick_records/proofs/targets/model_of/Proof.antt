@@ -1,9 +1,10 @@
 -- `quick_records::targets::model_of` meets its contract.
-use mathlib.Core.Path.{sym, _∙_}
+use mathlib.Core.Path.{_≡_}
 use native.Mathlib.Omega.{arith}
 use lib.ListN.{length-drop}
 use borrow.Author.Tests.{not-false}
 use Rattle.coding.proofs.Rooms.{tail-part}
+use Rattle.tally.proofs.Ends.{ended-held}
 use Rattle.quick_records.proofs.Models.{no-model, records-held, records-model}
 use borrow.Author.Needs.{needs}
 use Rattle.quick_records.proofs.targets.model_of.Statement.{statement}
@@ -33,8 +34,8 @@ no-model-requires c κs = search needs
 returns : tie.Need-returns
 returns c = no-model (c .no-model .ensures) (c .before .before .before .lay .ensures .1)
 
-either-requires : tie.Need-either-requires
-either-requires c κs = search needs
+ended-of-requires : tie.Need-ended-of-requires
+ended-of-requires c κs = search needs
 
 no-model-requires-2 : tie.Need-no-model-requires-2
 no-model-requires-2 c κs = search needs
@@ -49,7 +50,8 @@ returns-3 : tie.Need-returns-3
 returns-3 c =
     let a = c .before .before .before .before .before .before .before .before .before .before .before in
     let l = rw (tail-part (a .args .from) (a .args .s .now)) at (c .before .before .before .before .before .lay .ensures) in
-    let located = sym (c .before .before .either .ensures) ∙ not-false _ (c .before .if2 .left) in
+    let none : c .before .before .ended-of .result ≡ 0 = omega (arith, c .before .if2 .left) in
+    let located = ended-held (a .args .alone) _ (c .before .before .ended-of .ensures) none in
     let over = c .before .before .before .before .is-over .ensures (not-false _ (c .before .before .before .if1 .left)) in
     record {
       modelled = records-model (a .args .alone) (a .args .s .now) (a .args .from) (l .0) located (l .1) (a .pre .2);
@@ -70,7 +72,7 @@ model-of-spec =
     is-over-requires
     no-model-requires
     returns
-    either-requires
+    ended-of-requires
     no-model-requires-2
     returns-2
     add-t9

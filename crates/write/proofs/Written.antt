@@ -2,7 +2,7 @@
 use mathlib.Core.Path.{_≡_, refl, sym, ap, _∙_}
 use Prim.Native.Nat.{ℕ, _-_, _≤_}
 use native.Mathlib.Omega.{arith}
-use mathlib.Core.Bool.{Bool}
+use mathlib.Core.Bool.{Bool, true}
 use mathlib.Core.List.{List, map}
 use lib.ListN.{length, take, drop, length-drop}
 use Rattle.format.specs.Answer.{Ans, ok, refused}
@@ -18,13 +18,13 @@ use Rattle.items.specs.Meet.{formOf}
 use Rattle.items.proofs.Tests.{bind-so, bind-not}
 use Rattle.coding.proofs.Rooms.{tail-part}
 use Rattle.tally.specs.Meet.{total, weightOfPart}
-use Rattle.tally.specs.Runs.{Ran}
 use Rattle.check_sheet.specs.declared.Sheeted.{Sheeted}
 use Rattle.check_sheet.specs.declared.Sheeted.the-variants.{Fine, Wrong}
 use Rattle.check_sheet.specs.Meet.{sheetedOf}
 use Rattle.check_sheet.proofs.Sizings.{packet-large, inner-less}
 use Rattle.frames.specs.Meet.{frameSize}
-use Rattle.write_packet.specs.Meet.{recordsRun, recordsNormal, InnerParts}
+use Rattle.write_packet.specs.Meet.{recordsNormal}
+use Rattle.write_packet.specs.Writing.{RecordsAsked}
 use Rattle.write_packet.proofs.Sheet.{SheetRead, sheet-read, packet-whole, parts-ran, inner-parts}
 use Rattle.answers.specs.declared.Answer.{Answer}
 use Rattle.answers.specs.Meet.{leftOf}
@@ -98,7 +98,7 @@ module _ {s : List ℕ} (w : FoundFine s) where
   write-packs ez = record { packet = packetOf sheet; answers = packed-of; closes = packet-is; entries = entries; frame = ez }
 
   -- what the walk that writes is asked for: the parts begin at 3
-  abbrev lentParts : List ℕ
+  abbrev pub lentParts : List ℕ
   lentParts = take (length s - 3) (drop 3 s)
 
   parts-read : SheetRead s sheet
@@ -111,13 +111,12 @@ module _ {s : List ℕ} (w : FoundFine s) where
   written-is = rw (tail-part 3 s, form-is) (sym (packet-whole parts-read))
 
   module _ (small : w .normal ≤ 8192) where
-    pub written-small : length (recordsNormal set (formOf (w .alone)) lentParts) ≤ 8192
-    written-small = omega (arith, ap length written-is, entries)
-
-    pub parts-asked : (length lentParts ≤ 65536) × Ran (recordsRun set (formOf (w .alone)) lentParts) × (w .inner ≤ 65536) × InnerParts (w .inner) (recordsRun set (formOf (w .alone)) lentParts)
-    parts-asked = (
+    pub parts-asked : {n : ℕ} → length (recordsNormal set (formOf (w .alone)) lentParts) ≤ n → RecordsAsked (w .inner) true (formOf (w .alone)) lentParts n
+    parts-asked h = (
       rw (tail-part 3 s, length-drop) (omega (arith, parts-read .most)),
       rw (tail-part 3 s, form-is) (parts-ran parts-read),
       omega (arith, inner-is, inner-less s sheet (w .bytes) read, entries),
       rw (tail-part 3 s, form-is) (inner-parts parts-read inner-is),
+      h,
+      omega (arith, ap length written-is, entries),
     )

@@ -41,7 +41,7 @@ pub fn write(sheet: &[u8], packet: &mut [u8]) -> Answer
         return answer_of(16, size);
     }
     let a = frames::open(packet, alone, normal);
-    let n = write_packet::item_packet(&sheet[3..], alone, inner, &mut packet[a..]);
+    let n = write_packet::item_packet(&sheet[3..], inner, &mut packet[a..]);
     frames::close(packet, alone, a + n);
     answer_of(0, size)
 }

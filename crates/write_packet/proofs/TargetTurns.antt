@@ -26,7 +26,7 @@ use Rattle.write_laws.proofs.Writing.{each, writing-begins, none-over, writing-
 use Rattle.write_laws.proofs.Entries.{ran, ran-ok}
 use Rattle.store_coded.specs.Fronts.{packFront}
 use Rattle.write_packet.specs.Meet.{usedOf, recordsRun, targetsRun, targetNormal, partNormal, recordsNormal, targetsNormal}
-use Rattle.write_packet.specs.Writing.{RecordsAsked, ValsLeft, TargetsAsked, TargetsLeft}
+use Rattle.write_packet.specs.Writing.{RecordsAsked, Passes, ValsLeft, TargetsAsked}
 use Rattle.write_packet.proofs.Steps.{mark-room, TargetHere, target-here, vals-read}
 use Rattle.write_packet.proofs.Forms.{target-normal, len-some, vals-normal, no-inner}
 use Rattle.store_coded.proofs.Fronts.{pack-long}
@@ -44,10 +44,10 @@ module _ {f : Form} {s out₀ : List ℕ} where
       record { writes = w; passed = omega (arith, u, ap usedOf e) }
 
   module _ {out : List ℕ} {p k : ℕ} (g : TargetsWriting f s out₀ out p k) where
-    pub targets-over : is TG (drop p s) ≡ false → TargetsLeft f s out₀ p k out
+    pub targets-over : is TG (drop p s) ≡ false → Passes out₀ (targetsRun f s) (targetsNormal f s) p k out
     targets-over m =
         let (wrote, left) = writing-over (each targetNormal) _ _ _ _ _ _ (g .writes) m in
-        (omega (arith, g .passed, none-over (each targetNormal) _ _ _ _ _ _ (g .writes) m), wrote, left)
+        record { used = omega (arith, g .passed, none-over (each targetNormal) _ _ _ _ _ _ (g .writes) m); wrote = wrote; left = left }
 
 -- a `TG` stands at p
 pub record TargetAt (f : Form) (s out₀ out : List ℕ) (p k : ℕ) : Type 0 where
@@ -147,24 +147,27 @@ module _ {f : Form} {s out₀ out : List ℕ} {p k : ℕ} (i : TargetAt f s out�
       )
 
       -- the items are stored there, n bytes of u
-      module _ {u n : ℕ} {o : List ℕ} (ed : ValsLeft f valsLent (take (length out - (k + 1 + w)) (drop (k + 1 + w) out)) u n o) where
+      module _ {u n : ℕ} {o : List ℕ} (el : ValsLeft valsLent (take (length out - (k + 1 + w)) (drop (k + 1 + w) out)) u n o) where
+        ed : Passes (take (length out - (k + 1 + w)) (drop (k + 1 + w) out)) (recordsRun pack f valsLent) normal u n o
+        ed = el f vals-asked
+
         abbrev out₁ : List ℕ
         out₁ = putMid (k + 1 + w) (length out - (k + 1 + w)) out o
 
         early : out₁ ≡ sets out (k + 1 + w) normal
-        early = tail-stored out (k + 1 + w) o normal (ed .2)
+        early = tail-stored out (k + 1 + w) o normal (ed .left)
 
         early-long : length out₁ ≡ length out
         early-long = ap length early ∙ length-sets out (k + 1 + w) normal
 
         used-is : u ≡ stands .vs .used
-        used-is = ed .0 ∙ ap usedOf vals-run-is
+        used-is = ed .used ∙ ap usedOf vals-run-is
 
         pub target-next : (p + 10 + u ≤ length s) × (length s ≤ 65536)
         target-next = (omega (arith, used-is, vals-within, length-drop 10 (drop p s), length-drop p s, stands .ten), i .asked .0)
 
         pub body-few : w + n ≤ 65536
-        body-few = omega (arith, ed .1, whole-long, front-long, written-few)
+        body-few = omega (arith, ed .wrote, whole-long, front-long, written-few)
 
         -- o′ is as the target leaves it, but for the head
         pub record Placed (o′ : List ℕ) : Type 0 where
@@ -189,42 +192,42 @@ module _ {f : Form} {s out₀ out : List ℕ} {p k : ℕ} (i : TargetAt f s out�
         -- behind a head of the usual size they stay
         pub vals-stay : w + n < 128 → Placed out₁
         vals-stay h =
-            let one : 1 ≡ lenWidth body = len-one body (omega (arith, ed .1)) in
+            let one : 1 ≡ lenWidth body = len-one body (omega (arith, ed .wrote)) in
             let at : k + 1 + w ≡ k + length (packFront body id) = omega (arith, one, front-long) in
             placed (early ∙ sym (sets-under out (k + 1 + w) normal (k + 1 + w) normal (omega arith) (omega arith)) ∙ ap (λ x. sets x (k + 1 + w) normal) (sym early) ∙ ap (λ j. sets out₁ j normal) at)
 
         -- behind a longer one, whose length has y bytes, they are moved
         module _ {y : ℕ} (ey : y ≡ lenWidth (w + n)) where
           wide : y ≡ lenWidth body
-          wide = ey ∙ ap (λ j. lenWidth (w + j)) (ed .1)
+          wide = ey ∙ ap (λ j. lenWidth (w + j)) (ed .wrote)
 
           pub wide-some : 1 ≤ y
           wide-some = omega (arith, wide, len-some body)
 
           pub move-asked : k + 1 + w + (y - 1) + n ≤ length out₁
-          move-asked = omega (arith, wide, wide-some, parts .fits, whole-long, front-long, early-long, ed .1)
+          move-asked = omega (arith, wide, wide-some, parts .fits, whole-long, front-long, early-long, ed .wrote)
 
           pub vals-move : {o′ : List ℕ} → o′ ≡ sets out₁ (k + 1 + w + (y - 1)) (take n (drop (k + 1 + w) out₁)) → Placed o′
           vals-move e =
               let at : k + 1 + w + (y - 1) ≡ k + length (packFront body id) = omega (arith, wide, wide-some, front-long) in
-              let same : take n (drop (k + 1 + w) out₁) ≡ normal = rw (ed .1, early) (stored-reads out (k + 1 + w) normal (behind .1)) in
+              let same : take n (drop (k + 1 + w) out₁) ≡ normal = rw (ed .wrote, early) (stored-reads out (k + 1 + w) normal (behind .1)) in
               placed (e ∙ ap (sets out₁ (k + 1 + w + (y - 1))) same ∙ ap (λ j. sets out₁ j normal) at)
 
         -- and then comes the head
         module _ {o′ : List ℕ} (q : Placed o′) where
           pub pack-asked : (w + n ≤ 65536) × (id < 2 ^ 63) × (k + length (packFront (w + n) id) ≤ length o′)
-          pack-asked = (body-few, id-low, rw (ed .1, q .same) (head-room parts))
+          pack-asked = (body-few, id-low, rw (ed .wrote, q .same) (head-room parts))
 
           module _ {m : ℕ} {out₂ : List ℕ} (em : Puts o′ k (packFront (w + n) id) m out₂) where
             headed : Puts o′ k (packFront body id) m out₂
-            headed = rw (ed .1) at em
+            headed = rw (ed .wrote) at em
 
             pub ends-few : m + n ≤ 8192
-            ends-few = omega (arith, headed .0, ed .1, whole-long, long (each targetNormal) _ _ _ _ _ _ (i .going .writes) target, i .going .writes .sum, i .asked .3)
+            ends-few = omega (arith, headed .0, ed .wrote, whole-long, long (each targetNormal) _ _ _ _ _ _ (i .going .writes) target, i .going .writes .sum, i .asked .3)
 
             pub target-more : TargetsWriting f s out₀ out₂ (p + 10 + u) (m + n)
             target-more =
                 let ep : p + 10 + u ≡ p + target .it .used = omega (arith, stands .used-is, used-is) in
-                let ek : m + n ≡ k + length written = omega (arith, headed .0, ed .1, whole-long) in
+                let ek : m + n ≡ k + length written = omega (arith, headed .0, ed .wrote, whole-long) in
                 let (g, v) = writing-passes (each targetNormal) _ _ _ _ _ _ (i .going .writes) target (omega (arith, stands .used-is)) (omega (arith, ep, target-next)) (headed .1 ∙ q .whole) refl ep ek in
                 record { writes = g; passed = omega (arith, i .going .passed, v, target .passes, ep) }

@@ -26,7 +26,7 @@ use Rattle.write_laws.proofs.Writing.{each, writing-begins, none-over, writing-
 use Rattle.write_laws.proofs.Entries.{ran, ran-ok}
 use Rattle.store_coded.specs.Fronts.{seriesFront}
 use Rattle.write_packet.specs.Meet.{usedOf, recordsRun, targetsRun, targetNormal, recordsNormal, targetsNormal}
-use Rattle.write_packet.specs.Writing.{partBytes, RecordsAsked, RecordsWriting, Small, TargetsAsked, TargetsLeft}
+use Rattle.write_packet.specs.Writing.{partBytes, RecordsAsked, RecordsWriting, Passes, Small, TargetsAsked, TargetsLeft}
 use Rattle.write_packet.proofs.Steps.{tagAt, sizeAt, OneHere, one-here, mark-room, SeriesHere, series-here}
 use Rattle.write_packet.proofs.Forms.{run-bytes}
 
@@ -42,23 +42,15 @@ module _ {inner : ℕ} {b : Bool} {f : Form} {s out₀ : List ℕ} where
       record { writes = w; passed = omega (arith, u, ap usedOf e) }
 
   module _ {out : List ℕ} {p k : ℕ} (g : RecordsWriting inner b f s out₀ out p k) where
-    -- what is asked of what was lent first is asked of what it is by now, and back
-    pub asked-now : RecordsAsked inner b f s (length out₀) → RecordsAsked inner b f s (length out)
-    asked-now a = (a .0, a .1, a .2, a .3, omega (arith, a .4, g .writes .same), a .5)
-
-    pub asked-first : RecordsAsked inner b f s (length out) → RecordsAsked inner b f s (length out₀)
-    asked-first a = (a .0, a .1, a .2, a .3, omega (arith, a .4, g .writes .same), a .5)
-
     pub records-done : length s ≤ p → (k ≡ length (recordsNormal (levelOf b) f s)) × (out ≡ sets out₀ 0 (recordsNormal (levelOf b) f s))
     records-done h = writing-done (each (partBytes inner)) _ _ _ _ _ _ (g .writes) h
 
     module _ (m : moreAt (levelOf b) (drop p s) ≡ false) where
-      pub records-over : (k ≡ length (recordsNormal (levelOf b) f s)) × (out ≡ sets out₀ 0 (recordsNormal (levelOf b) f s))
-      records-over = writing-over (each (partBytes inner)) _ _ _ _ _ _ (g .writes) m
-
       -- all is read there
-      pub records-passed : p ≡ usedOf (recordsRun (levelOf b) f s)
-      records-passed = omega (arith, g .passed, none-over (each (partBytes inner)) _ _ _ _ _ _ (g .writes) m)
+      pub records-over : Passes out₀ (recordsRun (levelOf b) f s) (recordsNormal (levelOf b) f s) p k out
+      records-over =
+          let (wrote, left) = writing-over (each (partBytes inner)) _ _ _ _ _ _ (g .writes) m in
+          record { used = omega (arith, g .passed, none-over (each (partBytes inner)) _ _ _ _ _ _ (g .writes) m); wrote = wrote; left = left }
 
 -- a part stands at p
 pub record RecordAt (inner : ℕ) (b : Bool) (f : Form) (s out₀ out : List ℕ) (p k : ℕ) : Type 0 where
@@ -218,9 +210,9 @@ module _ {inner : ℕ} {b : Bool} {f : Form} {s out₀ out : List ℕ} {p k : �
         omega (arith, ap length (series-stored .is), length-append (seriesFront inner) (targetsNormal f lent), stored-few),
       )
 
-      module _ {u r : ℕ} {o : List ℕ} (q : TargetsLeft f lent (take (length out₁ - m) (drop m out₁)) u r o) where
+      module _ {u r : ℕ} {o : List ℕ} (q : TargetsLeft lent (take (length out₁ - m) (drop m out₁)) u r o) where
         used-is : u ≡ series .ts .used
-        used-is = q .0 ∙ ap usedOf runs
+        used-is = q f series-asked .used ∙ ap usedOf runs
 
         pub series-next : (p + 2 + u ≤ length s) × (length s ≤ 65536)
         unfolding targetsRun
@@ -229,4 +221,4 @@ module _ {inner : ℕ} {b : Bool} {f : Form} {s out₀ out : List ℕ} {p k : �
             (omega (arith, used-is, w, length-drop 2 (drop p s), length-drop p s, series .two), i .asked .0)
 
         pub series-more : RecordsWriting inner b f s out₀ (putMid m (length out₁ - m) out₁ o) (p + 2 + u) (m + r)
-        series-more = stored-more (omega (arith, series .used-is, used-is)) (omega arith) (series-next .0) (rest-put series-stored em (q .1, q .2))
+        series-more = stored-more (omega (arith, series .used-is, used-is)) (omega arith) (series-next .0) (let z = q f series-asked in rest-put series-stored em (z .wrote, z .left))

@@ -1,15 +1,13 @@
 // The entries of a packet's set in normal form, written into a lent output from a sheet that was checked, record by record.
 ghost use mathlib.Core.Path.{_≡_};
-ghost use Prim.Native.Nat.{_+_, _≤_, _<_};
+ghost use Prim.Native.Nat.{ℕ, _+_, _≤_, _<_};
 ghost use mathlib.Core.Bool.{true, false};
-ghost use mathlib.Core.List.{[], _∷_};
+ghost use mathlib.Core.List.{List, [], _∷_};
 ghost use lib.ListN.{length, take, drop};
 ghost use Rattle.format.specs.Coding.{bytesNumber};
-ghost use Rattle.format.specs.Table.{set};
-ghost use Rattle.items.specs.Meet.{formOf};
-ghost use Rattle.stores.specs.Puts.{Puts, Fills};
-ghost use Rattle.write_packet.specs.Meet.{recordsNormal};
-ghost use Rattle.write_packet.specs.Writing.{itemCoded, RecordsAsked, Small, RestAsked, RestLeft, ValsLeft, TargetsAsked, TargetsLeft};
+ghost use Rattle.format.specs.Table.{Form};
+ghost use Rattle.stores.specs.Puts.{Puts};
+ghost use Rattle.write_packet.specs.Writing.{itemCoded, RecordsAsked, RecordsLeft, Small, RestAsked, RestLeft, ValsLeft, TargetsAsked, TargetsLeft};
 use heads::records;
 use stores::Passed;
 
@@ -57,9 +55,9 @@ fn put_one(out: &mut [u8], at: usize, tag: u8, v: u8) -> usize
 }
 
 // The records of a target from a place on, where at bytes are written for those before it.
-fn rest_vals(s: &[u8], from: usize, at: usize, alone: bool, out: &mut [u8]) -> Passed
-    requires { ⌜ RestAsked (formOf alone) (now s) (now out) from at ⌝ }
-    ensures { λ r. ⌜ RestLeft (formOf alone) (now (s .entry)) (now (out .entry)) from at (r .used) (r .wrote) (now (out .exit)) ⌝ }
+fn rest_vals(s: &[u8], from: usize, at: usize, out: &mut [u8]) -> Passed
+    requires { ⌜ ((f : Form) × (o : List ℕ) × RestAsked (now s) (now out) from at f o) ⌝ }
+    ensures { λ r. ⌜ RestLeft (now (s .entry)) (now (out .entry)) from at (r .used) (r .wrote) (now (out .exit)) ⌝ }
 {
     let mut p = from;
     let mut k = at;
@@ -76,9 +74,9 @@ fn rest_vals(s: &[u8], from: usize, at: usize, alone: bool, out: &mut [u8]) -> P
 }
 
 // The records of a target, the small ones one after another: what stops them is left to the rest, which is kept out of the loop over the targets.
-fn put_vals(s: &[u8], alone: bool, out: &mut [u8]) -> Passed
-    requires { ⌜ RecordsAsked 0 false (formOf alone) (now s) (length (now out)) ⌝ }
-    ensures { λ r. ⌜ ValsLeft (formOf alone) (now (s .entry)) (now (out .entry)) (r .used) (r .wrote) (now (out .exit)) ⌝ }
+fn put_vals(s: &[u8], out: &mut [u8]) -> Passed
+    requires { ⌜ ((f : Form) × RecordsAsked 0 false f (now s) (length (now out))) ⌝ }
+    ensures { λ r. ⌜ ValsLeft (now (s .entry)) (now (out .entry)) (r .used) (r .wrote) (now (out .exit)) ⌝ }
 {
     let mut p: usize = 0;
     let mut k: usize = 0;
@@ -87,7 +85,7 @@ fn put_vals(s: &[u8], alone: bool, out: &mut [u8]) -> Passed
             return Passed { used: p, wrote: k };
         }
         if !is_small(s, p) {
-            return rest_vals(s, p, k, alone, out);
+            return rest_vals(s, p, k, out);
         }
         let n = coding::wide(s[p + 5]);
         if n == 1 {
@@ -102,16 +100,16 @@ fn put_vals(s: &[u8], alone: bool, out: &mut [u8]) -> Passed
 }
 
 // The records of the set, whose series has `inner` bytes of packs; how many bytes they write.
-pub fn item_packet(s: &[u8], alone: bool, inner: usize, out: &mut [u8]) -> usize
-    requires { ⌜ RecordsAsked inner true (formOf alone) (now s) (length (now out)) ⌝ }
-    ensures { λ r. ⌜ Fills (now (out .entry)) (recordsNormal set (formOf alone) (now (s .entry))) r (now (out .exit)) ⌝ }
+pub fn item_packet(s: &[u8], inner: usize, out: &mut [u8]) -> usize
+    requires { ⌜ ((f : Form) × RecordsAsked inner true f (now s) (length (now out))) ⌝ }
+    ensures { λ r. ⌜ RecordsLeft inner (now (s .entry)) (now (out .entry)) r (now (out .exit)) ⌝ }
 {
     let mut p: usize = 0;
     let mut k: usize = 0;
     while p < s.len() {
         if records::is_mark(s, p, records::TS) {
             let m = store_coded::put_series(out, k, inner);
-            let d = target_packet(&s[p + 2..], alone, &mut out[m..]);
+            let d = target_packet(&s[p + 2..], &mut out[m..]);
             p = p + 2 + d.used;
             k = m + d.wrote;
         } else {
@@ -126,9 +124,9 @@ pub fn item_packet(s: &[u8], alone: bool, inner: usize, out: &mut [u8]) -> usize
 }
 
 // The targets of the series.
-fn target_packet(s: &[u8], alone: bool, out: &mut [u8]) -> Passed
-    requires { ⌜ TargetsAsked (formOf alone) (now s) (length (now out)) ⌝ }
-    ensures { λ r. ⌜ TargetsLeft (formOf alone) (now (s .entry)) (now (out .entry)) (r .used) (r .wrote) (now (out .exit)) ⌝ }
+fn target_packet(s: &[u8], out: &mut [u8]) -> Passed
+    requires { ⌜ ((f : Form) × TargetsAsked f (now s) (length (now out))) ⌝ }
+    ensures { λ r. ⌜ TargetsLeft (now (s .entry)) (now (out .entry)) (r .used) (r .wrote) (now (out .exit)) ⌝ }
 {
     let mut p: usize = 0;
     let mut k: usize = 0;
@@ -141,7 +139,7 @@ fn target_packet(s: &[u8], alone: bool, out: &mut [u8]) -> Passed
         let w = coding::widths::oid_width(id);
         // The items go behind the head that most packs have, a length of one byte and the id; for a longer length they are moved on.
         let at = k + 1 + w;
-        let d = put_vals(&s[from..], alone, &mut out[at..]);
+        let d = put_vals(&s[from..], &mut out[at..]);
         let next = from + d.used;
         let body = w + d.wrote;
         if 127 < body {

@@ -2,15 +2,18 @@
 -- The places of the code have names: where the check was found fine, where the size is known, where it is within the limit, where there is
 -- room, where the packet was opened, and where its entries were written.
 use mathlib.Core.List.{List}
-use Prim.Native.Nat.{ℕ, _≤_}
+use mathlib.Core.Bool.{true}
+use Prim.Native.Nat.{ℕ, _-_, _≤_}
 use native.Mathlib.Omega.{arith}
+use lib.ListN.{length, take, drop}
 use borrow.Author.Needs.{needs}
 use Rattle.format.specs.Table.{Form}
 use Rattle.format.specs.Calls.{write}
 use Rattle.items.specs.Meet.{formOf}
+use Rattle.write_packet.specs.Writing.{RecordsAsked}
 use Rattle.answers.proofs.Framed.{Fits, open-asked, rest-from, rest-room, entries-end, close-asked, all-written}
 use Rattle.answers.proofs.Packing.{Packs, packs-long, packs-short, packs-fit, packs-done, entries-small}
-use Rattle.write.proofs.Written.{FoundFine, es, write-refused, write-large, write-packs, parts-from, written-is, written-small, parts-asked}
+use Rattle.write.proofs.Written.{FoundFine, es, write-refused, write-large, write-packs, lentParts, parts-from, written-is, parts-asked}
 use Rattle.write.proofs.write.Statement.{statement}
 use Rattle.write.proofs.write.Tie as tie
 use Rattle.write.proofs.write.Reads as reads
@@ -102,6 +105,12 @@ roomy o = o .before .before
 abbrev parts-of : (o : Begun) → FoundFine (sheet (checked (roomy o)))
 parts-of o = fine (checked (roomy o))
 
+abbrev rest : Begun → List ℕ
+rest o = take (length (o .«open» .last .0) - o .«open» .result) (drop (o .«open» .result) (o .«open» .last .0))
+
+asked : (o : Begun) → RecordsAsked (parts-of o .inner) true (form (checked (roomy o))) (lentParts (parts-of o)) (length (rest o))
+asked o = parts-asked (parts-of o) (small (roomy o .before)) (rest-room (room (roomy o)) (o .«open» .ensures) (written-is (parts-of o)))
+
 -- its entries were written
 abbrev Written : Type 0
 Written = lts.After-item-packet claims reads.Pre reads.Post
@@ -161,24 +170,19 @@ part-item-packet-end-2 : tie.Need-part-item-packet-end-2
 part-item-packet-end-2 c = search needs
 
 item-packet-requires : tie.Need-item-packet-requires
-item-packet-requires c κs =
-    let o = c .before .before .before .before in
-    let w = parts-of o in
-    let s = small (roomy o .before) in
-    let asked = parts-asked w s in
-    (asked .0, asked .1, asked .2, asked .3, rest-room (room (roomy o)) (o .«open» .ensures) (written-is w), written-small w s)
+item-packet-requires c κs = (_, asked (c .before .before .before .before))
 
 add-close : tie.Need-add-close
 add-close c =
     let n = c .before .before .before in
     let o = begun n in
-    omega (arith, entries-end (room (roomy o)) (o .«open» .ensures) (written-is (parts-of o)) (n .item-packet .ensures))
+    omega (arith, entries-end (room (roomy o)) (o .«open» .ensures) (written-is (parts-of o)) (n .item-packet .ensures _ (asked o)))
 
 close-requires : tie.Need-close-requires
 close-requires c κs =
     let n = c .before .before .before in
     let o = begun n in
-    close-asked (room (roomy o)) (o .«open» .ensures) (written-is (parts-of o)) (n .item-packet .ensures)
+    close-asked (room (roomy o)) (o .«open» .ensures) (written-is (parts-of o)) (n .item-packet .ensures _ (asked o))
 
 answer-of-requires-3 : tie.Need-answer-of-requires-3
 answer-of-requires-3 c κs = search needs
@@ -192,7 +196,7 @@ returns-4 c =
     let o = begun n in
     let g = roomy o in
     packs-done (packs (g .before .before)) _ (g .before .if1 .left) (g .if2 .left)
-    (all-written (room g) (o .«open» .ensures) (written-is (parts-of o)) (n .item-packet .ensures) (c .before .before .before .close .ensures)) (c .answer-of3 .ensures)
+    (all-written (room g) (o .«open» .ensures) (written-is (parts-of o)) (n .item-packet .ensures _ (asked o)) (c .before .before .before .close .ensures)) (c .answer-of3 .ensures)
 
 pub write-spec : {M : Type 1} → statement M
 write-spec =

@@ -5,18 +5,19 @@ use native.Mathlib.Omega.{arith}
 use mathlib.Core.Bool.{true, false}
 use lib.ListN.{length, drop}
 use borrow.Author.Needs.{needs}
+use Rattle.format.specs.Table.{Form}
 use Rattle.format.specs.Sheet.{TS, is}
-use Rattle.items.specs.Meet.{formOf}
-use Rattle.write_packet.specs.Writing.{RecordsWriting}
+use Rattle.write_packet.specs.Writing.{RecordsAsked, RecordsWriting}
 use Rattle.write_packet.proofs.Turns.{records-start, records-done, RecordAt, fields-room, item-room, item-asked, item-more, series-room, head-asked, series-behind, series-asked, series-next, series-more}
 use Rattle.write_packet.proofs.item_packet.Statement.{statement}
 use Rattle.write_packet.proofs.item_packet.Tie as tie
 
+-- whatever the form
 abbrev Inv-loop : tie.InvT-loop
-Inv-loop s alone inner out₀ p₀ k₀ out p k = RecordsWriting inner true (formOf alone) s out₀ out p k
+Inv-loop s inner out₀ p₀ k₀ out p k = (f : Form) → RecordsAsked inner true f s (length out₀) → RecordsWriting inner true f s out₀ out p k
 
 abbrev μ-loop : tie.MeasureT-loop
-μ-loop s alone inner out₀ p₀ k₀ out p k = length s - p
+μ-loop s inner out₀ p₀ k₀ out p k = length s - p
 
 -- ---- the places: a turn, whose part is the series or an item; the series' head stored, and its targets; an item's fields read
 
@@ -26,15 +27,20 @@ Turn = tie.In-loop Inv-loop μ-loop
 abbrev start : Turn → tie.Start Inv-loop μ-loop
 start a = a .before .before .before .before
 
-here : (a : Turn)
-    → RecordAt (start a .args .inner) true (formOf (start a .args .alone)) (start a .args .s .now) (start a .args .out .now) (a .before .loop .out) (a .before .loop .p) (a .before .loop .k)
-here a = record {
-  going = a .before .loop .inv;
+here-of : (a : Turn) (f : Form) → RecordsAsked (start a .args .inner) true f (start a .args .s .now) (length (start a .args .out .now))
+    → RecordAt (start a .args .inner) true f (start a .args .s .now) (start a .args .out .now) (a .before .loop .out) (a .before .loop .p) (a .before .loop .k)
+here-of a f h = record {
+  going = a .before .loop .inv f h;
   here = a .loop-test .taken;
   more = refl;
   bytes = λ i. a .before .before .before .shared-slice-known .given i .fits;
-  asked = start a .pre;
+  asked = h;
 }
+
+-- in the form that is known
+here : (a : Turn)
+    → RecordAt (start a .args .inner) true (start a .pre .0) (start a .args .s .now) (start a .args .out .now) (a .before .loop .out) (a .before .loop .p) (a .before .loop .k)
+here a = here-of a (start a .pre .0) (start a .pre .1)
 
 abbrev Series : Type 0
 Series = tie.Then1 Inv-loop μ-loop
@@ -75,7 +81,7 @@ item-of a = a .before .before
 -- ---- the needs
 
 loop-holds : tie.Need-loop-holds Inv-loop μ-loop
-loop-holds c = records-start (c .before .before .pre)
+loop-holds c = λ f h. records-start h
 
 is-mark-requires : tie.Need-is-mark-requires Inv-loop μ-loop
 is-mark-requires c κs = search needs
@@ -105,7 +111,7 @@ part-target-packet-end-2 : tie.Need-part-target-packet-end-2 Inv-loop μ-loop
 part-target-packet-end-2 c = search needs
 
 target-packet-requires : tie.Need-target-packet-requires Inv-loop μ-loop
-target-packet-requires c κs = let m = c .before .before .before .before in series-asked (here (series-turn (front-of m))) (marked (front-of m)) (m .put-series .ensures)
+target-packet-requires c κs = let m = c .before .before .before .before in (_, series-asked (here (series-turn (front-of m))) (marked (front-of m)) (m .put-series .ensures))
 
 add-p : tie.Need-add-p Inv-loop μ-loop
 add-p c = let a = front-of (targets-front (c .before .before)) in omega (arith, series-room (here (series-turn a)) (marked a))
@@ -117,13 +123,13 @@ add-k : tie.Need-add-k Inv-loop μ-loop
 add-k c =
     let d = c .before .before .before .before in
     let m = targets-front d in
-    omega (arith, series-more (here (series-turn (front-of m))) (marked (front-of m)) (m .put-series .ensures) (d .target-packet .ensures) .writes .sum, start (series-turn (front-of m)) .pre .5)
+    omega (arith, series-more (here (series-turn (front-of m))) (marked (front-of m)) (m .put-series .ensures) (d .target-packet .ensures) .writes .sum, start (series-turn (front-of m)) .pre .1 .5)
 
 loop-less : tie.Need-loop-less Inv-loop μ-loop
 loop-less c = let d = c .before .before .before .before in let m = targets-front d in omega (arith, series-next (here (series-turn (front-of m))) (marked (front-of m)) (m .put-series .ensures) (d .target-packet .ensures))
 
 loop-again : tie.Need-loop-again Inv-loop μ-loop
-loop-again c = let d = c .before .before .before .before in let m = targets-front d in series-more (here (series-turn (front-of m))) (marked (front-of m)) (m .put-series .ensures) (d .target-packet .ensures)
+loop-again c = λ f h. let d = c .before .before .before .before in let m = targets-front d in series-more (here-of (series-turn (front-of m)) f h) (marked (front-of m)) (m .put-series .ensures) (d .target-packet .ensures)
 
 add-two-at : tie.Need-add-two-at Inv-loop μ-loop
 add-two-at c = omega (arith, fields-room (here (item-turn c)) (unmarked c))
@@ -162,13 +168,13 @@ loop-less-2 : tie.Need-loop-less-2 Inv-loop μ-loop
 loop-less-2 c = let a = c .before .before .before .before .before in omega (arith, item-room (here (item-turn (item-of a))) (unmarked (item-of a)) (a .before .two-at .ensures) (a .two-at2 .ensures))
 
 loop-again-2 : tie.Need-loop-again-2 Inv-loop μ-loop
-loop-again-2 c = let a = c .before .before .before .before .before in item-more (here (item-turn (item-of a))) (unmarked (item-of a)) (a .before .two-at .ensures) (a .two-at2 .ensures) (c .before .before .put-short .ensures)
+loop-again-2 c = λ f h. let a = c .before .before .before .before .before in item-more (here-of (item-turn (item-of a)) f h) (unmarked (item-of a)) (a .before .two-at .ensures) (a .two-at2 .ensures) (c .before .before .put-short .ensures)
 
 same-length : tie.Need-same-length Inv-loop μ-loop
-same-length c = c .before .loop .inv .writes .same
+same-length c = let i = c .before .before .before .before .pre in c .before .loop .inv (i .0) (i .1) .writes .same
 
 returns : tie.Need-returns Inv-loop μ-loop
-returns c = records-done (c .before .loop .inv) (c .loop-test .left)
+returns c = λ f h. records-done (c .before .loop .inv f h) (c .loop-test .left)
 
 pub item-packet-spec : {M : Type 1} → statement M
 item-packet-spec =

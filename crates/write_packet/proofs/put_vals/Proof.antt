@@ -7,19 +7,20 @@ use lib.ListN.{length, drop}
 use lib.Seq.{length-sets}
 use borrow.Author.Needs.{needs}
 use borrow.Author.Tests.{not-true, not-false}
+use Rattle.format.specs.Table.{Form}
 use Rattle.format.specs.Sheet.{TS, TI, is}
-use Rattle.items.specs.Meet.{formOf}
-use Rattle.write_packet.specs.Writing.{RecordsWriting, Small}
+use Rattle.write_packet.specs.Writing.{RecordsAsked, RecordsWriting, RestAsked, Small}
 use Rattle.write_packet.proofs.Steps.{ti-no-ts}
-use Rattle.write_packet.proofs.Turns.{asked-now, records-start, records-over, records-passed, RecordAt, val-here, fields-room, small-room, small-asked, small-more, one-asked, one-more}
+use Rattle.write_packet.proofs.Turns.{records-start, records-over, RecordAt, val-here, fields-room, small-room, small-asked, small-more, one-asked, one-more}
 use Rattle.write_packet.proofs.put_vals.Statement.{statement}
 use Rattle.write_packet.proofs.put_vals.Tie as tie
 
+-- whatever the form
 abbrev Inv-loop : tie.InvT-loop
-Inv-loop s alone out₀ p₀ k₀ out p k = RecordsWriting 0 false (formOf alone) s out₀ out p k
+Inv-loop s out₀ p₀ k₀ out p k = (f : Form) → RecordsAsked 0 false f s (length out₀) → RecordsWriting 0 false f s out₀ out p k
 
 abbrev μ-loop : tie.MeasureT-loop
-μ-loop s alone out₀ p₀ k₀ out p k = length s - p
+μ-loop s out₀ p₀ k₀ out p k = length s - p
 
 -- a turn: a `TI` stands there, and no `TS`
 abbrev Marked : Type 0
@@ -34,9 +35,19 @@ marked a = sym (a .before .is-mark .ensures) ∙ not-false _ (a .if1 .left)
 no-series : (a : Marked) → is TS (drop (a .before .before .loop .p) (start a .args .s .now)) ≡ false
 no-series a = ti-no-ts (drop (a .before .before .loop .p) (start a .args .s .now)) (marked a)
 
+here-of : (a : Marked) (f : Form) → RecordsAsked 0 false f (start a .args .s .now) (length (start a .args .out .now))
+    → RecordAt 0 false f (start a .args .s .now) (start a .args .out .now) (a .before .before .loop .out) (a .before .before .loop .p) (a .before .before .loop .k)
+here-of a f h = val-here (a .before .before .loop .inv f h) (marked a) (λ i. a .before .before .before .before .shared-slice-known .given i .fits) h
+
+-- in the form that is known
 here : (a : Marked)
-    → RecordAt 0 false (formOf (start a .args .alone)) (start a .args .s .now) (start a .args .out .now) (a .before .before .loop .out) (a .before .before .loop .p) (a .before .before .loop .k)
-here a = val-here (a .before .before .loop .inv) (marked a) (λ i. a .before .before .before .before .shared-slice-known .given i .fits) (start a .pre)
+    → RecordAt 0 false (start a .pre .0) (start a .args .s .now) (start a .args .out .now) (a .before .before .loop .out) (a .before .before .loop .p) (a .before .before .loop .k)
+here a = here-of a (start a .pre .0) (start a .pre .1)
+
+-- what is asked of the rest
+rest-asked : (a : Marked) (f : Form) → RecordsAsked 0 false f (start a .args .s .now) (length (start a .args .out .now))
+    → RestAsked (start a .args .s .now) (a .before .before .loop .out) (a .before .before .loop .p) (a .before .before .loop .k) f (start a .args .out .now)
+rest-asked a f h = record { asked = h; going = a .before .before .loop .inv f h }
 
 small : (a : tie.Else2 Inv-loop μ-loop) → Small (start (a .before .before) .args .s .now) (a .before .before .before .before .loop .p)
 small a = a .before .is-small .ensures (not-false _ (a .if2 .left))
@@ -54,19 +65,18 @@ room : (a : Sized)
 room a = let r = small-room (here (marked-of a)) (no-series (marked-of a)) (small (a .before .before)) (a .wide .ensures .0) in (r .1, r .2)
 
 loop-holds : tie.Need-loop-holds Inv-loop μ-loop
-loop-holds c = records-start (c .before .before .pre)
+loop-holds c = λ f h. records-start h
 
 is-mark-requires : tie.Need-is-mark-requires Inv-loop μ-loop
 is-mark-requires c κs = search needs
 
 same-length : tie.Need-same-length Inv-loop μ-loop
-same-length c = c .before .before .loop .inv .writes .same
+same-length c = let i = c .before .before .before .before .before .pre in c .before .before .loop .inv (i .0) (i .1) .writes .same
 
 returns : tie.Need-returns Inv-loop μ-loop
 returns c =
     let m = sym (c .before .is-mark .ensures) ∙ not-true _ (c .if1 .taken) in
-    let g = c .before .before .loop .inv in
-    (records-passed g m, records-over g m .0, records-over g m .1)
+    λ f h. records-over (c .before .before .loop .inv f h) m
 
 is-small-requires : tie.Need-is-small-requires Inv-loop μ-loop
 is-small-requires c κs = omega (arith, fields-room (here c) (no-series c))
@@ -74,13 +84,15 @@ is-small-requires c κs = omega (arith, fields-room (here c) (no-series c))
 rest-vals-requires : tie.Need-rest-vals-requires Inv-loop μ-loop
 rest-vals-requires c κs =
     let a = c .before .before .before in
-    (asked-now (a .before .before .loop .inv) (start a .pre), (start a .args .out .now, a .before .before .loop .inv))
+    (start a .pre .0, start a .args .out .now, rest-asked a (start a .pre .0) (start a .pre .1))
 
 same-length-2 : tie.Need-same-length-2 Inv-loop μ-loop
-same-length-2 c = ap length (c .before .before .rest-vals .ensures .2 _ (c .before .before .before .before .before .before .before .before .loop .inv)) ∙ simp length-sets
+same-length-2 c =
+    let a = c .before .before .before .before .before .before in
+    ap length (c .before .before .rest-vals .ensures _ _ (rest-asked a (start a .pre .0) (start a .pre .1)) .left) ∙ simp length-sets
 
 returns-2 : tie.Need-returns-2 Inv-loop μ-loop
-returns-2 c = let e = c .before .before .rest-vals .ensures in (e .0, e .1, e .2 _ (c .before .before .before .before .before .before .before .before .loop .inv))
+returns-2 c = λ f h. c .before .before .rest-vals .ensures f _ (rest-asked (c .before .before .before .before .before .before) f h)
 
 add-wide : tie.Need-add-wide Inv-loop μ-loop
 add-wide c = omega (arith, fields-room (here (c .before .before)) (no-series (c .before .before)))
@@ -117,9 +129,9 @@ loop-less : tie.Need-loop-less Inv-loop μ-loop
 loop-less c = omega (arith, room (c .before .before .before .before .before .before .before))
 
 loop-again : tie.Need-loop-again Inv-loop μ-loop
-loop-again c =
+loop-again c = λ f h.
     let a = c .before .before .before .before .before .before .before in
-    one-more (here (marked-of a)) (no-series (marked-of a)) (small (a .before .before)) (a .wide .ensures .0) (c .before .before .before .before .before .before .if3 .taken) (c .before .before .put-one .ensures)
+    one-more (here-of (marked-of a) f h) (no-series (marked-of a)) (small (a .before .before)) (a .wide .ensures .0) (c .before .before .before .before .before .before .if3 .taken) (c .before .before .put-one .ensures)
 
 -- ---- any other
 
@@ -156,9 +168,9 @@ loop-less-2 : tie.Need-loop-less-2 Inv-loop μ-loop
 loop-less-2 c = omega (arith, room (c .before .before .before .before .before .before .before))
 
 loop-again-2 : tie.Need-loop-again-2 Inv-loop μ-loop
-loop-again-2 c =
+loop-again-2 c = λ f h.
     let a = c .before .before .before .before .before .before .before in
-    small-more (here (marked-of a)) (no-series (marked-of a)) (small (a .before .before)) (a .wide .ensures .0) (c .before .before .put-small .ensures)
+    small-more (here-of (marked-of a) f h) (no-series (marked-of a)) (small (a .before .before)) (a .wide .ensures .0) (c .before .before .put-small .ensures)
 
 pub put-vals-spec : {M : Type 1} → statement M
 put-vals-spec =

@@ -7,19 +7,20 @@ use mathlib.Core.List.{List}
 use lib.ListN.{length, drop}
 use borrow.Author.Needs.{needs}
 use borrow.Author.Tests.{not-true, not-false}
+use Rattle.format.specs.Table.{Form}
 use Rattle.format.specs.Sheet.{TS, TI, is}
-use Rattle.items.specs.Meet.{formOf}
-use Rattle.write_packet.specs.Writing.{RecordsWriting}
+use Rattle.write_packet.specs.Writing.{RecordsWriting, RestAsked}
 use Rattle.write_packet.proofs.Steps.{ti-no-ts}
-use Rattle.write_packet.proofs.Turns.{asked-first, records-over, records-passed, RecordAt, val-here, fields-room, item-room, item-asked, item-more}
+use Rattle.write_packet.proofs.Turns.{records-over, RecordAt, val-here, fields-room, item-room, item-asked, item-more}
 use Rattle.write_packet.proofs.rest_vals.Statement.{statement}
 use Rattle.write_packet.proofs.rest_vals.Tie as tie
 
+-- whatever the form, and whatever was lent first
 abbrev Inv-loop : tie.InvT-loop
-Inv-loop s from at alone out₀ p₀ k₀ out p k = (o : List ℕ) → RecordsWriting 0 false (formOf alone) s o out₀ from at → RecordsWriting 0 false (formOf alone) s o out p k
+Inv-loop s from at out₀ p₀ k₀ out p k = (f : Form) (o : List ℕ) → RestAsked s out₀ from at f o → RecordsWriting 0 false f s o out p k
 
 abbrev μ-loop : tie.MeasureT-loop
-μ-loop s from at alone out₀ p₀ k₀ out p k = length s - p
+μ-loop s from at out₀ p₀ k₀ out p k = length s - p
 
 -- a turn: a `TI` stands there, and no `TS`
 abbrev Marked : Type 0
@@ -34,33 +35,30 @@ marked a = sym (a .before .is-mark .ensures) ∙ not-false _ (a .if1 .left)
 no-series : (a : Marked) → is TS (drop (a .before .before .loop .p) (start a .args .s .now)) ≡ false
 no-series a = ti-no-ts (drop (a .before .before .loop .p) (start a .args .s .now)) (marked a)
 
--- whatever was lent first
-here-of : (a : Marked) (o : List ℕ)
-    → RecordsWriting 0 false (formOf (start a .args .alone)) (start a .args .s .now) o (start a .args .out .now) (start a .args .from) (start a .args .at)
-    → RecordAt 0 false (formOf (start a .args .alone)) (start a .args .s .now) o (a .before .before .loop .out) (a .before .before .loop .p) (a .before .before .loop .k)
-here-of a o g = val-here (a .before .before .loop .inv o g) (marked a) (λ i. a .before .before .before .before .shared-slice-known .given i .fits) (asked-first g (start a .pre .0))
+here-of : (a : Marked) (f : Form) (o : List ℕ) → RestAsked (start a .args .s .now) (start a .args .out .now) (start a .args .from) (start a .args .at) f o
+    → RecordAt 0 false f (start a .args .s .now) o (a .before .before .loop .out) (a .before .before .loop .p) (a .before .before .loop .k)
+here-of a f o g = val-here (a .before .before .loop .inv f o g) (marked a) (λ i. a .before .before .before .before .shared-slice-known .given i .fits) (g .asked)
 
+-- in the form that is known
 here : (a : Marked)
-    → RecordAt 0 false (formOf (start a .args .alone)) (start a .args .s .now) (start a .pre .1 .0) (a .before .before .loop .out) (a .before .before .loop .p) (a .before .before .loop .k)
-here a = here-of a (start a .pre .1 .0) (start a .pre .1 .1)
+    → RecordAt 0 false (start a .pre .0) (start a .args .s .now) (start a .pre .1) (a .before .before .loop .out) (a .before .before .loop .p) (a .before .before .loop .k)
+here a = here-of a (start a .pre .0) (start a .pre .1) (start a .pre .2)
 
 loop-holds : tie.Need-loop-holds Inv-loop μ-loop
-loop-holds c = λ o g. g
+loop-holds c = λ f o g. g .going
 
 is-mark-requires : tie.Need-is-mark-requires Inv-loop μ-loop
 is-mark-requires c κs = search needs
 
 same-length : tie.Need-same-length Inv-loop μ-loop
 same-length c =
-    let i = c .before .before .before .before .before .pre .1 in
-    c .before .before .loop .inv (i .0) (i .1) .writes .same ∙ sym (i .1 .writes .same)
+    let i = c .before .before .before .before .before .pre in
+    c .before .before .loop .inv (i .0) (i .1) (i .2) .writes .same ∙ sym (i .2 .going .writes .same)
 
 returns : tie.Need-returns Inv-loop μ-loop
 returns c =
     let m = sym (c .before .is-mark .ensures) ∙ not-true _ (c .if1 .taken) in
-    let i = c .before .before .before .before .before .pre .1 in
-    let g = c .before .before .loop .inv (i .0) (i .1) in
-    (records-passed g m, records-over g m .0, λ o q. records-over (c .before .before .loop .inv o q) m .1)
+    λ f o g. records-over (c .before .before .loop .inv f o g) m
 
 add-two-at : tie.Need-add-two-at Inv-loop μ-loop
 add-two-at c = omega (arith, fields-room (here c) (no-series c))
@@ -101,9 +99,9 @@ loop-less c =
     omega (arith, item-room (here (a .before .before)) (no-series (a .before .before)) (a .before .two-at .ensures) (a .two-at2 .ensures))
 
 loop-again : tie.Need-loop-again Inv-loop μ-loop
-loop-again c = λ o q.
+loop-again c = λ f o g.
     let a = c .before .before .before .before .before in
-    item-more (here-of (a .before .before) o q) (no-series (a .before .before)) (a .before .two-at .ensures) (a .two-at2 .ensures) (c .before .before .put-short .ensures)
+    item-more (here-of (a .before .before) f o g) (no-series (a .before .before)) (a .before .two-at .ensures) (a .two-at2 .ensures) (c .before .before .put-short .ensures)
 
 pub rest-vals-spec : {M : Type 1} → statement M
 rest-vals-spec =

@@ -6,16 +6,18 @@ use native.Mathlib.Omega.{arith}
 use lib.ListN.{length}
 use borrow.Author.Needs.{needs}
 use borrow.Author.Tests.{not-true, not-false}
-use Rattle.items.specs.Meet.{formOf}
+use Rattle.format.specs.Table.{Form}
+use Rattle.write_packet.specs.Writing.{TargetsAsked}
 use Rattle.write_packet.proofs.TargetTurns.{TargetsWriting, targets-start, targets-over, TargetAt, target-room, id-asked, id-low, behind, vals-asked, target-next, body-few, Placed, vals-stay, wide-some, move-asked, vals-move, pack-asked, ends-few, target-more}
 use Rattle.write_packet.proofs.target_packet.Statement.{statement}
 use Rattle.write_packet.proofs.target_packet.Tie as tie
 
+-- whatever the form
 abbrev Inv-loop : tie.InvT-loop
-Inv-loop s alone out₀ p₀ k₀ out p k = TargetsWriting (formOf alone) s out₀ out p k
+Inv-loop s out₀ p₀ k₀ out p k = (f : Form) → TargetsAsked f s (length out₀) → TargetsWriting f s out₀ out p k
 
 abbrev μ-loop : tie.MeasureT-loop
-μ-loop s alone out₀ p₀ k₀ out p k = length s - p
+μ-loop s out₀ p₀ k₀ out p k = length s - p
 
 -- ---- the places: a target's mark seen, its values stored, and these behind where its head goes
 
@@ -25,13 +27,22 @@ Marked = tie.Else1 Inv-loop μ-loop
 abbrev start : Marked → tie.Start Inv-loop μ-loop
 start a = a .before .before .before .before .before
 
-target-at : (a : Marked) → TargetAt (formOf (start a .args .alone)) (start a .args .s .now) (start a .args .out .now) (a .before .before .loop .out) (a .before .before .loop .p) (a .before .before .loop .k)
-target-at a = record {
-  going = a .before .before .loop .inv;
+abbrev AskedIn : Marked → Form → Type 0
+AskedIn a f = TargetsAsked f (start a .args .s .now) (length (start a .args .out .now))
+
+target-in : (a : Marked) (f : Form) → AskedIn a f
+    → TargetAt f (start a .args .s .now) (start a .args .out .now) (a .before .before .loop .out) (a .before .before .loop .p) (a .before .before .loop .k)
+target-in a f h = record {
+  going = a .before .before .loop .inv f h;
   more = sym (a .before .is-mark .ensures) ∙ not-false _ (a .if1 .left);
   bytes = λ i. a .before .before .before .before .shared-slice-known .given i .fits;
-  asked = start a .pre;
+  asked = h;
 }
+
+-- in the form that is known
+abbrev target-at : (a : Marked)
+    → TargetAt (start a .pre .0) (start a .args .s .now) (start a .args .out .now) (a .before .before .loop .out) (a .before .before .loop .p) (a .before .before .loop .k)
+target-at a = target-in a (start a .pre .0) (start a .pre .1)
 
 abbrev Wide : Type 0
 Wide = tie.After-oid-width Inv-loop μ-loop
@@ -45,29 +56,40 @@ Stored = tie.After-put-vals Inv-loop μ-loop
 abbrev wide-of : Stored → Wide
 wide-of a = a .before .before .before
 
-placed : (a : tie.Joined2 Inv-loop μ-loop)
-    → Placed (target-at (marked-of (wide-of (a .before .before .before .before .before)))) (wide-of (a .before .before .before .before .before) .before .number-of .ensures)
+abbrev marked-at : Stored → Marked
+marked-at d = marked-of (wide-of d)
+
+abbrev Behind : Type 0
+Behind = tie.Joined2 Inv-loop μ-loop
+
+placed-in : (a : Behind) (f : Form) (h : AskedIn (marked-at (a .before .before .before .before .before)) f)
+    → Placed (target-in (marked-at (a .before .before .before .before .before)) f h) (wide-of (a .before .before .before .before .before) .before .number-of .ensures)
     (wide-of (a .before .before .before .before .before) .oid-width .ensures) (a .before .before .before .before .before .put-vals .ensures) (a .if2 .out)
-placed a = ⊎-elim
-    (λ m. rw (m .6) (vals-move (target-at (marked-of (wide-of (a .before .before .before .before .before)))) (wide-of (a .before .before .before .before .before) .before .number-of .ensures)
+placed-in a f h = ⊎-elim
+    (λ m. rw (m .6) (vals-move (target-in (marked-at (a .before .before .before .before .before)) f h) (wide-of (a .before .before .before .before .before) .before .number-of .ensures)
     (wide-of (a .before .before .before .before .before) .oid-width .ensures) (a .before .before .before .before .before .put-vals .ensures) (m .1 .ensures) (m .3 .ensures)))
-    (λ h. rw (h .1) (vals-stay (target-at (marked-of (wide-of (a .before .before .before .before .before)))) (wide-of (a .before .before .before .before .before) .before .number-of .ensures)
-    (wide-of (a .before .before .before .before .before) .oid-width .ensures) (a .before .before .before .before .before .put-vals .ensures) (omega (arith, h .0 .left))))
+    (λ z. rw (z .1) (vals-stay (target-in (marked-at (a .before .before .before .before .before)) f h) (wide-of (a .before .before .before .before .before) .before .number-of .ensures)
+    (wide-of (a .before .before .before .before .before) .oid-width .ensures) (a .before .before .before .before .before .put-vals .ensures) (omega (arith, z .0 .left))))
     (a .if2 .came)
+
+placed : (a : Behind)
+    → Placed (target-at (marked-at (a .before .before .before .before .before))) (wide-of (a .before .before .before .before .before) .before .number-of .ensures)
+    (wide-of (a .before .before .before .before .before) .oid-width .ensures) (a .before .before .before .before .before .put-vals .ensures) (a .if2 .out)
+placed a = placed-in a (start (marked-at (a .before .before .before .before .before)) .pre .0) (start (marked-at (a .before .before .before .before .before)) .pre .1)
 
 -- ---- the needs
 
 loop-holds : tie.Need-loop-holds Inv-loop μ-loop
-loop-holds c = targets-start (c .before .before .pre)
+loop-holds c = λ f h. targets-start h
 
 is-mark-requires : tie.Need-is-mark-requires Inv-loop μ-loop
 is-mark-requires c κs = search needs
 
 same-length : tie.Need-same-length Inv-loop μ-loop
-same-length c = c .before .before .loop .inv .writes .same
+same-length c = let i = c .before .before .before .before .before .pre in c .before .before .loop .inv (i .0) (i .1) .writes .same
 
 returns : tie.Need-returns Inv-loop μ-loop
-returns c = targets-over (c .before .before .loop .inv) (sym (c .before .is-mark .ensures) ∙ not-true _ (c .if1 .taken))
+returns c = λ f h. targets-over (c .before .before .loop .inv f h) (sym (c .before .is-mark .ensures) ∙ not-true _ (c .if1 .taken))
 
 add-number-of : tie.Need-add-number-of Inv-loop μ-loop
 add-number-of c = omega (arith, target-room (target-at c))
@@ -91,10 +113,10 @@ oid-width-requires : tie.Need-oid-width-requires Inv-loop μ-loop
 oid-width-requires c κs = id-low (target-at (c .before .before)) (c .number-of .ensures)
 
 add-at : tie.Need-add-at Inv-loop μ-loop
-add-at c = omega (arith, behind (target-at (c .before .before .before)) (c .before .number-of .ensures) (c .oid-width .ensures))
+add-at c = let t = target-at (c .before .before .before) in omega (arith, behind t (c .before .number-of .ensures) (c .oid-width .ensures), t .going .writes .same)
 
 add-at-2 : tie.Need-add-at-2 Inv-loop μ-loop
-add-at-2 c = omega (arith, behind (target-at (c .before .before .before)) (c .before .number-of .ensures) (c .oid-width .ensures))
+add-at-2 c = let t = target-at (c .before .before .before) in omega (arith, behind t (c .before .number-of .ensures) (c .oid-width .ensures), t .going .writes .same)
 
 sub-put-vals : tie.Need-sub-put-vals Inv-loop μ-loop
 sub-put-vals c = omega (arith, target-room (target-at (c .before .before .before)))
@@ -115,7 +137,7 @@ part-put-vals-end-2 : tie.Need-part-put-vals-end-2 Inv-loop μ-loop
 part-put-vals-end-2 c = search needs
 
 put-vals-requires : tie.Need-put-vals-requires Inv-loop μ-loop
-put-vals-requires c κs = vals-asked (target-at (c .before .before .before .before .before)) (c .before .before .before .number-of .ensures) (c .before .before .oid-width .ensures)
+put-vals-requires c κs = (_, vals-asked (target-at (c .before .before .before .before .before)) (c .before .before .before .number-of .ensures) (c .before .before .oid-width .ensures))
 
 add-next : tie.Need-add-next Inv-loop μ-loop
 add-next c =
@@ -163,10 +185,10 @@ loop-less c =
     omega (arith, target-next (target-at (marked-of w)) (w .before .number-of .ensures) (w .oid-width .ensures) (d .put-vals .ensures))
 
 loop-again : tie.Need-loop-again Inv-loop μ-loop
-loop-again c =
+loop-again c = λ f h.
     let d = c .before .before .before .before .before .before .before .before .before .before in
     let w = wide-of d in
-    target-more (target-at (marked-of w)) (w .before .number-of .ensures) (w .oid-width .ensures) (d .put-vals .ensures) (placed (c .before .before .before .before .before)) (c .before .before .before .put-pack .ensures)
+    target-more (target-in (marked-of w) f h) (w .before .number-of .ensures) (w .oid-width .ensures) (d .put-vals .ensures) (placed-in (c .before .before .before .before .before) f h) (c .before .before .before .put-pack .ensures)
 
 pub target-packet-spec : {M : Type 1} → statement M
 target-packet-spec =

@@ -7,7 +7,7 @@ ghost use Rattle.format.specs.Sheet.{TS, is};
 ghost use Rattle.items.specs.Meet.{formOf, levelOf, itemTable, glanceTable};
 ghost use Rattle.heads.specs.Meet.{peek, Clear};
 ghost use Rattle.tally.specs.Meet.{Within};
-ghost use Rattle.tally_records.specs.Meet.{IsValue, IsSeries, IsPart, IsTarget, recordsWalk, targetsWalk};
+ghost use Rattle.tally_records.specs.Meet.{IsValue, IsSeries, IsPart, IsTarget, valueNext, recordsWalk, targetsWalk};
 ghost use Rattle.tally_records.specs.Going.{RecordsFrom};
 ghost use Rattle.quick_records.specs.Going.{TargetsPassed};
 ghost use Rattle.check_records.specs.Asked.{ValueAsked, PartAsked};
@@ -85,6 +85,16 @@ fn series_at(s: &[u8], p: usize, clear: usize, alone: bool, top: u64, low: u64) 
     Piece::Fault(17)
 }
 
+// Whether an item's record stands at p: in the set an `IT`, in a target whatever goes on.
+fn is_value(s: &[u8], p: usize, set: bool) -> bool
+    ensures { λ r. ⌜ r ≡ valueNext (levelOf set) (drop p (now (s .entry))) ⌝ }
+{
+    if set {
+        return records::is_mark(s, p, records::IT);
+    }
+    true
+}
+
 // The record at p of a level s: of the set an `IT` or a `TS`, else a `TI`. Most are told at a glance.
 pub fn part_at(
     table: &[u32],
@@ -110,16 +120,14 @@ pub fn part_at(
             short: size,
         };
     }
-    if set {
-        if records::is_mark(s, p, records::IT) {
-            return value_at(table, s, p, clear, set, alone, top, low);
-        }
-        if records::is_mark(s, p, records::TS) {
-            return series_at(s, p, clear, alone, top, low);
-        }
-        return Piece::Fault(17);
+    // at one place, so that the compiler puts it in line
+    if is_value(s, p, set) {
+        return value_at(table, s, p, clear, set, alone, top, low);
     }
-    value_at(table, s, p, clear, set, alone, top, low)
+    if records::is_mark(s, p, records::TS) {
+        return series_at(s, p, clear, alone, top, low);
+    }
+    Piece::Fault(17)
 }
 
 // The `TG` at p, before its `TI`s: 17, 10. Its id stands for a tag.

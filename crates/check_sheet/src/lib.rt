@@ -51,7 +51,7 @@ fn set_glanced(glances: &[u32], s: &[u8], alone: bool) -> Stage
     ensures { λ r. ⌜ RecordsFrom true (formOf alone) (now (s .entry)) r ⌝ }
 {
     if starts(s, alone) {
-        return quick::glance_records(glances, s, true, alone);
+        return quick::glance_rising(glances, s, true, alone, quick::first_tag(s));
     }
     stages::stage_at(0, tally::weights::nothing(), false, 0, 18446744073709551615)
 }

@@ -93,7 +93,7 @@ pub fn told_sizes(count: usize, p: usize) -> Sizes
 }
 
 // The first tag, which is the lowest where tags rise.
-fn first_tag(s: &[u8]) -> u64
+pub fn first_tag(s: &[u8]) -> u64
     ensures { λ r. ⌜ r ≤ firstTag (now (s .entry)) ⌝ }
 {
     if s.len() < 4 {
@@ -102,10 +102,10 @@ fn first_tag(s: &[u8]) -> u64
     coding::number_of(&s[2..], 2)
 }
 
-// The records of a level told at a glance, one after another; the first may begin it. That is asked once, by the caller, as the compiler would
-// split the loop by it.
-pub fn glance_records(glances: &[u32], s: &[u8], set: bool, alone: bool) -> Stage
-    requires { ⌜ (now glances ≡ glanceTable) × (length (now s) ≤ 65536) × Begun set (formOf alone) 0 (firstTag (now s)) ⌝ }
+// The records of a level told at a glance, one after another; the first may begin it, and is not below `low`. Both are asked once, by the caller, as
+// the compiler would split the loop by the one, and not put it in line with the other.
+pub fn glance_rising(glances: &[u32], s: &[u8], set: bool, alone: bool, low: u64) -> Stage
+    requires { ⌜ (now glances ≡ glanceTable) × (length (now s) ≤ 65536) × Begun set (formOf alone) 0 (firstTag (now s)) × (low ≤ firstTag (now s)) ⌝ }
     ensures { λ r. ⌜ RecordsFrom set (formOf alone) (now (s .entry)) r ⌝ }
 {
     let mut p: usize = 0;
@@ -115,11 +115,19 @@ pub fn glance_records(glances: &[u32], s: &[u8], set: bool, alone: bool) -> Stag
     loop {
         let g = glance_record(glances, s, p, set, alone, top);
         if g.next == 0 {
-            return tally::stages::stage_at(p, told_sizes(count, p), held, top, first_tag(s));
+            return tally::stages::stage_at(p, told_sizes(count, p), held, top, low);
         }
         held = coding::either(held, tally::is_asked(set, g.tag));
         top = g.tag;
         count += 1;
         p = g.next;
     }
+}
+
+// The same with the first tag as the lowest.
+pub fn glance_records(glances: &[u32], s: &[u8], set: bool, alone: bool) -> Stage
+    requires { ⌜ (now glances ≡ glanceTable) × (length (now s) ≤ 65536) × Begun set (formOf alone) 0 (firstTag (now s)) ⌝ }
+    ensures { λ r. ⌜ RecordsFrom set (formOf alone) (now (s .entry)) r ⌝ }
+{
+    glance_rising(glances, s, set, alone, first_tag(s))
 }

@@ -26,7 +26,8 @@ use Rattle.heads.proofs.SheetRuns.{field-key}
 use Rattle.tally.specs.declared.Piece.{Piece}
 use Rattle.tally.specs.declared.Piece.the-variants as piece
 use Rattle.tally.proofs.Pieces.{answer-none, answer-some}
-use Rattle.tally_records.specs.Meet.{pieceBy, valueWhole, seriesWhole, targetWhole, seriesOpens, targetOpens, partPiece}
+use Rattle.format.proofs.words.Answers.{no-bool}
+use Rattle.tally_records.specs.Meet.{valueNext, pieceBy, valueWhole, seriesWhole, targetWhole, seriesOpens, targetOpens, partPiece}
 
 -- ---- the series; x: a `TG` follows its mark
 
@@ -145,3 +146,18 @@ module _ (f : Form) (seen u : List ℕ) where
       pub part-unknown : y ≡ false → piece.Fault 17 ≡ partPiece (levelOf b) f seen u
       unfolding partPiece
       part-unknown ty = rw tb (rw (sym ex ∙ tx, partPiece, sym ey ∙ ty, partPiece))
+
+-- ---- x: an item's record stands here
+
+pub value-next : (b : Bool) (u : List ℕ) {x : Bool} → x ≡ valueNext (levelOf b) u → x ≡ true → peek true false b u ≡ peekVal u
+value-next true u ex tx = value-set {b = true} u refl ex tx
+value-next false u ex tx = value-inner {b = false} u refl
+
+pub part-next : (b : Bool) (f : Form) (seen u : List ℕ) {x : Bool} → x ≡ valueNext (levelOf b) u → x ≡ true
+    → {r : Piece} → r ≡ pieceBy valueWhole (valueAt (levelOf b) f seen u) → r ≡ partPiece (levelOf b) f seen u
+part-next true f seen u ex tx e = part-value f seen u {b = true} refl ex tx e
+part-next false f seen u ex tx e = part-inner f seen u {b = false} refl e
+
+pub no-value : (b : Bool) (u : List ℕ) {x : Bool} → x ≡ valueNext (levelOf b) u → x ≡ false → (b ≡ true) × (is IT u ≡ false)
+no-value true u ex tx = (refl, sym ex ∙ tx)
+no-value false u ex tx = no-bool (sym tx ∙ ex)

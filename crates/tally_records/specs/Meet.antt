@@ -78,6 +78,11 @@ abbrev pub moreAt : Level → List ℕ → Bool
 moreAt set s = true
 moreAt pack s = is TI s
 
+-- an item's record stands there: in the set an `IT`, in a target whatever goes on
+abbrev pub valueNext : Level → List ℕ → Bool
+valueNext set s = is IT s
+valueNext pack s = true
+
 -- a level's step: a target's items are parts too
 unfoldable pub partStep : Level → Form → Step Part
 partStep set f seen s = partAt f seen s

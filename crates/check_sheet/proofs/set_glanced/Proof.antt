@@ -7,8 +7,14 @@ use Rattle.check_sheet.proofs.set_glanced.Tie as tie
 starts-requires : tie.Need-starts-requires
 starts-requires c κs = search needs
 
-glance-records-requires : tie.Need-glance-records-requires
-glance-records-requires c κs = let k = c .before .before .before .before .pre in (k .0, k .1, c .before .starts .ensures (c .if1 .taken))
+first-tag-requires : tie.Need-first-tag-requires
+first-tag-requires c κs = search needs
+
+glance-rising-requires : tie.Need-glance-rising-requires
+glance-rising-requires c κs =
+    let i = c .before in
+    let k = i .before .before .before .before .pre in
+    (k .0, k .1, i .before .starts .ensures (i .if1 .taken), c .first-tag .ensures)
 
 returns : tie.Need-returns
 returns c = search needs
@@ -27,7 +33,8 @@ set-glanced-spec =
     tie.close
     (tie.spec
     starts-requires
-    glance-records-requires
+    first-tag-requires
+    glance-rising-requires
     returns
     nothing-requires
     stage-at-requires

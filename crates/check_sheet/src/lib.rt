@@ -73,24 +73,46 @@ fn is_series_next(s: &[u8], q: Stage) -> bool
     records::is_mark(s, p + 2, records::TG)
 }
 
-// The set from its series on, one by one from where the quick way over its targets ended: what the walks are lent is laid out here, so that a
-// sheet passed at a glance has none of it. A refusal among the targets is the set's.
-fn series_rest(glances: &[u32], s: &[u8], alone: bool, q: Stage, d: Stage) -> Walked
+// The set from its series on, one by one from where the quick ways over its targets ended: the table is laid out here, so that a sheet passed at a
+// glance has none of it. A refusal among the targets is the set's.
+fn series_rest(
+    glances: &[u32],
+    s: &[u8],
+    alone: bool,
+    q: Stage,
+    d: Stage,
+    bits: &mut [u64; 64],
+) -> Walked
     requires { ⌜ SetAsked (formOf alone) (now glances) (now s) q × SeriesNext (now s) q × TargetsPassed (formOf alone) (targetsAfter (now s) q) d ⌝ }
     ensures { λ r. ⌜ (r ≡ recordsWalk set (formOf alone) (now (s .entry))) × Within r (length (now (s .entry))) ⌝ }
 {
     let table = items::table();
-    let mut bits = [0u64; 64];
     let p = q.at;
     let w = tally::series_of(
-        check_records::target_records(&table, glances, &s[p + 2..], alone, d, &mut bits),
+        check_records::target_records(&table, glances, &s[p + 2..], alone, d, bits),
         2,
     );
     let Walked::Good { sizes, held } = w else {
         return tally::later(w, p);
     };
     let after = tally_records::after(q, 101, sizes, held);
-    check_records::item_records(&table, glances, s, true, alone, after, &mut bits)
+    check_records::item_records(&table, glances, s, true, alone, after, bits)
+}
+
+// The same where the quick way over targets whose ids rise or fall ended: ids that do neither are noted in bits that are laid out here.
+fn series_noted(glances: &[u32], s: &[u8], alone: bool, q: Stage, d: Stage) -> Walked
+    requires { ⌜ SetAsked (formOf alone) (now glances) (now s) q × SeriesNext (now s) q × TargetsPassed (formOf alone) (targetsAfter (now s) q) d ⌝ }
+    ensures { λ r. ⌜ (r ≡ recordsWalk set (formOf alone) (now (s .entry))) × Within r (length (now (s .entry))) ⌝ }
+{
+    let from = q.at + 2;
+    let t = &s[from..];
+    let mut bits = [0u64; 64];
+    let e = targets::noted(glances, t, alone, d, &mut bits);
+    if e.at == t.len() {
+        let sizes = tally::weights::series_sizes(e.sizes);
+        return stages::walked(tally_records::after(q, 101, sizes, false));
+    }
+    series_rest(glances, s, alone, q, e, &mut bits)
 }
 
 // The set from its series on, which stands next. Most sets end with it, its targets all told at a glance.
@@ -106,7 +128,7 @@ fn series(glances: &[u32], s: &[u8], alone: bool, q: Stage) -> Walked
         return stages::walked(tally_records::after(q, 101, sizes, false));
     }
     // lent on as a part, so that the compiler keeps the slice itself in registers
-    series_rest(glances, &s[0..], alone, q, d)
+    series_noted(glances, &s[0..], alone, q, d)
 }
 
 // The records of the set one by one, from where the quick way over them ended; what they are lent is laid out here too.

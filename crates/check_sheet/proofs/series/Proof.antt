@@ -40,23 +40,23 @@ returns c =
     let after = rw (c .before .before .series-sizes .ensures) at (c .before .after .ensures .0) in
     all-walked (k .0) (k .1) (λ i. c .before .before .before .before .before .before .before .before .shared-slice-known2 .given i .fits) (c .before .before .before .before .before .rising .ensures) (c .before .before .before .if1 .taken) after (c .walked .ensures)
 
-sub-series-rest : tie.Need-sub-series-rest
-sub-series-rest c = search needs
+sub-series-noted : tie.Need-sub-series-noted
+sub-series-noted c = search needs
 
-part-series-rest-start : tie.Need-part-series-rest-start
-part-series-rest-start c = search needs
+part-series-noted-start : tie.Need-part-series-noted-start
+part-series-noted-start c = search needs
 
-part-series-rest-end : tie.Need-part-series-rest-end
-part-series-rest-end c = search needs
+part-series-noted-end : tie.Need-part-series-noted-end
+part-series-noted-end c = search needs
 
-series-rest-requires : tie.Need-series-rest-requires
-series-rest-requires c κs =
+series-noted-requires : tie.Need-series-noted-requires
+series-noted-requires c κs =
     let k = c .before .before .before .before .before .before .before .before .pre in
     let d = rw tail-part at (c .before .before .before .rising .ensures) in
     (record { glanced = k .0 .glanced; most = rw (tail-part 0) (k .0 .most); going = rw (tail-part 0) (k .0 .going) }, rw (tail-part 0) (k .1), rw (tail-part 0) d)
 
 returns-2 : tie.Need-returns-2
-returns-2 c = rw (tail-part 0) at (c .series-rest .ensures)
+returns-2 c = rw (tail-part 0) at (c .series-noted .ensures)
 
 pub series-spec : {M : Type 1} → statement M
 series-spec =
@@ -71,8 +71,8 @@ series-spec =
     after-requires
     walked-requires
     returns
-    sub-series-rest
-    part-series-rest-start
-    part-series-rest-end
-    series-rest-requires
+    sub-series-noted
+    part-series-noted-start
+    part-series-noted-end
+    series-noted-requires
     returns-2)

@@ -1,5 +1,5 @@
 -- The turn over the series that stands next in the set: it is read as the walk over the set's records reads it.
-use mathlib.Core.Path.{_≡_, refl, sym, ap}
+use mathlib.Core.Path.{_≡_, refl, sym, ap, _∙_}
 use Prim.Native.Nat.{ℕ, _+_, _≤_, _<_}
 use native.Mathlib.Omega.{arith}
 use mathlib.Core.Bool.{Bool, true, false}
@@ -36,6 +36,9 @@ module _ {f : Form} {glances s : List ℕ} {q : Stage} (k : SetAsked f glances s
 
   pub targets-small : length (targetsAt s (q .at)) ≤ 65536
   targets-small = omega (arith, targets-long, k .most)
+
+  pub targets-open : is TG (targetsAt s (q .at)) ≡ true
+  targets-open = ap (is TG) (tail-part (q .at + 2) s) ∙ n .opens
 
   series-piece : IsPart true f s (q .at) (q .top) (q .low) (piece.Whole 101 2 0 0)
   unfolding mayStand

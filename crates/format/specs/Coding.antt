@@ -14,8 +14,8 @@ Bytes s = (i : ℕ) → getD s i 0 < 256
 
 -- the number that digits spell in a base, going on from a start; each digit counts less its flag
 unfoldable pub number : ℕ → ℕ → ℕ → List ℕ → ℕ
-number base mark acc [] = acc
-number base mark acc (d ∷ ds) = number base mark (acc * base + (d - mark)) ds
+number base flag acc [] = acc
+number base flag acc (d ∷ ds) = number base flag (acc * base + (d - flag)) ds
 
 -- the number that bytes spell
 abbrev pub bytesNumber : List ℕ → ℕ
@@ -23,9 +23,9 @@ bytesNumber v = number 256 0 0 v
 
 -- the digits of n, each with the flag, none for 0; at most k of them
 unfoldable pub digits : ℕ → ℕ → ℕ → ℕ → List ℕ
-digits base mark zero n = []
-digits base mark (suc k) zero = []
-digits base mark (suc k) (suc n) = digits base mark k (suc n / base) ++ ((suc n % base + mark) ∷ [])
+digits base flag zero n = []
+digits base flag (suc k) zero = []
+digits base flag (suc k) (suc n) = digits base flag k (suc n / base) ++ ((suc n % base + flag) ∷ [])
 
 -- n in just k bytes
 unfoldable pub fixed : ℕ → ℕ → List ℕ

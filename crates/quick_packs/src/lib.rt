@@ -73,11 +73,14 @@ pub fn is_as(m: Model, masks: &[u8], s: &[u8], from: usize) -> bool
     coding::alike::are_alike(masks, &s[model..], &s[from..], size)
 }
 
-// The same of a pack's items, from one place to another.
+// The same of a pack's items, from one place to another. A model in use has rows: said here, it need not be asked again.
 fn is_pack_as(m: Model, masks: &[u8], s: &[u8], from: usize, next: usize) -> bool
     requires { ⌜ (length (now masks) ≡ 160) × (from ≤ next) × (next ≤ length (now s)) × (m .from ≤ from) ⌝ }
     ensures { λ r. ⌜ (r ≡ true → (m .size ≡ next - from) × As (now (masks .entry)) (now (s .entry)) m from) ⌝ }
 {
+    if m.rows == 0 {
+        return false;
+    }
     if next - from != m.size {
         return false;
     }

@@ -28,6 +28,7 @@ use Rattle.quick_records.proofs.Models.{no-records, held-looks, held-mo
 -- the targets before p are walked, with so many rows and bytes in a packet, their ids within the bounds and noted; another stands there
 pub record Passing (alone : Bool) (s bits masks : List ℕ) (p rows normal : ℕ) (b : Bounds) (m : Model) : Type 0 where
   pub going : TargetsGoing (formOf alone) s p (sizes p rows normal 0) false (b .top) (b .low)
+  pub opens : is TG s ≡ true
   pub begins : p < length s → is TG (drop p s) ≡ true
   pub bounded : Bounded p b
   pub small : b .top ≤ 16383
@@ -38,6 +39,7 @@ pub record Passing (alone : Bool) (s bits masks : List ℕ) (p rows normal : ℕ
 pub passing-none : {alone : Bool} {s bits masks : List ℕ} {m : Model} → is TG s ≡ true → (m .from ≡ 0) × (m .size ≡ 128) × (m .rows ≡ 0) → length masks ≡ 160 → Passing alone s bits masks 0 0 0 noBounds m
 passing-none tg n long = record {
   going = targets-start _ _;
+  opens = tg;
   begins = λ _. tg;
   bounded = bounded-none;
   small = omega arith;
@@ -49,12 +51,12 @@ passing-none tg n long = record {
 module _ {alone : Bool} {s bits masks : List ℕ} {p rows normal : ℕ} {b : Bounds} {m : Model} (i : Passing alone s bits masks p rows normal b m) where
   -- the walk may go on there
   pub passing-stays : TargetsPassed (formOf alone) s (stageAt p (sizes p rows normal 0) false (b .top) (b .low))
-  passing-stays = (i .going, omega (arith, i .small), refl)
+  passing-stays = (i .going, omega (arith, i .small), refl, i .opens)
 
   -- an id of two bytes at the most, and the bounds that the code has then
   module _ {id : ℕ} (low : id ≤ 16383) {after : List ℕ} {r : Bounds} (h : Bounding bits after p b id r) where
     pub passing-wide : TargetsPassed (formOf alone) s (stageAt p (sizes p rows normal 0) false (r .top) (r .low))
-    passing-wide = (going-wide (i .going) (h .wide .0) (h .wide .1), omega (arith, h .most 16383 (i .small) low), refl)
+    passing-wide = (going-wide (i .going) (h .wide .0) (h .wide .1), omega (arith, h .most 16383 (i .small) low), refl, i .opens)
 
     -- which is that of a target here, and new
     module _ (bytes : Bytes s) (most : length s ≤ 65536) (ten : 10 ≤ length s - p) (ei : id ≡ bytesNumber (take 8 (take (length s - (p + 2)) (drop (p + 2) s)))) (new : IdNew bits after p b id r) where
@@ -80,6 +82,7 @@ module _ {alone : Bool} {s bits masks : List ℕ} {p rows normal : ℕ} {b : Bou
             let e : p + 10 + m′ .size ≡ p + (10 + m′ .size) = omega arith in
             record {
               going = held-more here (a .held some) (a .over some) ew eb few (fresh .over) (fresh .under);
+              opens = i .opens;
               begins = a .over some .next;
               bounded = id-bounded (i .noted) new (p + 10 + m′ .size) (omega arith);
               small = h .most 16383 (i .small) low;

@@ -6,7 +6,7 @@ use mathlib.Core.List.{List}
 use lib.ListN.{take, drop, getD}
 use Rattle.format.specs.Coding.{bytesNumber}
 use Rattle.format.specs.Table.{Form}
-use Rattle.format.specs.Sheet.{markNumber, markOf, IT, TI, is, field}
+use Rattle.format.specs.Sheet.{markNumber, markOf, IT, TG, TI, is, field}
 use Rattle.items.specs.Meet.{levelOf}
 use Rattle.items.specs.Quick as items
 use Rattle.heads.specs.Records.{fieldAnswer}
@@ -15,9 +15,9 @@ use Rattle.tally.specs.declared.stages.Stage.{Stage}
 use Rattle.tally.specs.Going.{Begun}
 use Rattle.tally_records.specs.Going.{TargetsFrom}
 
--- the walk over targets as far as the quick way took it: a target takes as many bytes as it adds to the sheet
+-- the walk over the targets of a series, which has one, as far as the quick way took it: a target takes as many bytes as it adds to the sheet
 abbrev pub TargetsPassed : Form → List ℕ → Stage → Type 0
-TargetsPassed f s q = TargetsFrom f s q × (q .top < 2 ^ 63) × (q .at ≡ q .sizes .sheet)
+TargetsPassed f s q = TargetsFrom f s q × (q .top < 2 ^ 63) × (q .at ≡ q .sizes .sheet) × (is TG s ≡ true)
 
 -- the tag of the record that begins a level
 abbrev pub firstTag : List ℕ → ℕ

@@ -123,7 +123,7 @@ fn passed(p: usize, rows: usize, normal: usize, b: Bounds) -> Stage
 
 // Such targets, one after another, from the series' start: ids rising or falling, or noted in the bits lent, of which most series need none.
 fn many(glances: &[u32], s: &[u8], alone: bool, bits: &mut [u64]) -> Stage
-    requires { ⌜ (now glances ≡ glanceTable) × (length (now s) ≤ 65536) ⌝ }
+    requires { ⌜ (now glances ≡ glanceTable) × (length (now s) ≤ 65536) × (is TG (now s) ≡ true) ⌝ }
     ensures { λ r. ⌜ TargetsPassed (formOf alone) (now (s .entry)) r ⌝ }
 {
     let mut p: usize = 0;
@@ -132,9 +132,6 @@ fn many(glances: &[u32], s: &[u8], alone: bool, bits: &mut [u64]) -> Stage
     let mut b = bounds::none();
     let mut masks: [u8; 160] = [0; 160];
     let mut m = quick_packs::no_model();
-    if !records::is_mark(s, p, records::TG) {
-        return passed(p, rows, normal, b);
-    }
     loop {
         if s.len() - p < 10 {
             return passed(p, rows, normal, b);
@@ -164,7 +161,7 @@ fn many(glances: &[u32], s: &[u8], alone: bool, bits: &mut [u64]) -> Stage
 
 // Those whose ids rise or fall: nothing is noted for them.
 pub fn rising(glances: &[u32], s: &[u8], alone: bool) -> Stage
-    requires { ⌜ (now glances ≡ glanceTable) × (length (now s) ≤ 65536) ⌝ }
+    requires { ⌜ (now glances ≡ glanceTable) × (length (now s) ≤ 65536) × (is TG (now s) ≡ true) ⌝ }
     ensures { λ r. ⌜ TargetsPassed (formOf alone) (now (s .entry)) r ⌝ }
 {
     let mut none = [0u64; 1];

@@ -92,7 +92,7 @@ fn move_eight(out: &mut [u8], at: usize, s: &[u8], f: usize)
     out[to + 7] = i;
 }
 
-// The bytes of s; where they end. From 8 to 32 go without a loop: the last and the first, which may overlap. For a run, of any length.
+// The bytes of s; where they end. From 8 to 32 go without a loop: the last and the first, which may overlap. For bytes of any length.
 pub fn copy_all(out: &mut [u8], at: usize, s: &[u8]) -> usize
     requires { ⌜ at + length (now s) ≤ length (now out) ⌝ }
     ensures { λ r. ⌜ (r ≡ at + length (now (s .entry))) × (now (out .exit) ≡ sets (now (out .entry)) at (now (s .entry))) ⌝ }

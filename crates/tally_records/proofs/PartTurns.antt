@@ -177,6 +177,9 @@ module _ {b : Bool} {f : Form} {s : List ℕ} {q : Stage} {tag from size small :
       lent-is : targetsAt s (q .at) ≡ drop 2 here
       lent-is = tail-part (q .at + 2) s ∙ sym (drop-drop 2 (q .at) s)
 
+      pub lent-opens : is TG (targetsAt s (q .at)) ≡ true
+      lent-opens = ap (is TG) lent-is ∙ ts-stood .2 .opens
+
       pub lent-small : length (targetsAt s (q .at)) ≤ 65536
       lent-small = omega (arith, ap length lent-is, length-drop 2 here, length-drop (q .at) s, i .most)
 

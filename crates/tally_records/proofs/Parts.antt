@@ -170,6 +170,7 @@ stood-value b f seen u v ev es ts {tag} {size} et en =
 
 pub record SeriesStood (f : Form) (seen u : List ℕ) : Type 0 where
   pub mark : is TS u ≡ true
+  pub opens : is TG (drop 2 u) ≡ true
   pub step : partStep set f seen u ≡ seriesAt f seen u
   pub rest : seriesAt f seen u ≡ seriesRest f u
 
@@ -187,6 +188,10 @@ whole-target : (x : Ans ℕ) (t k n m : ℕ) → piece.Whole t k n m ≡ pieceBy
 whole-target (ok i) t k n m e = ap ok (cc)
 whole-target (refused j q) t k n m e = absurd (let z : _≡_ {A = ℕ} 0 1 = cc in omega arith)
 
+series-opened : (f : Form) (seen u : List ℕ) → seriesOpens f seen u ≡ ok tt → is TG (drop 2 u) ≡ true
+unfolding seriesOpens
+series-opened f seen u e = need-then _ _ _ _ e λ opens _. opens
+
 -- a part of the set: an item, or the series
 module _ {X : Type 0} (f : Form) (seen u : List ℕ) (t k n m : ℕ) (e : piece.Whole t k n m ≡ partPiece set f seen u) where
   set-part : (ValueStood true f seen u t n → X) → (SeriesStood f seen u → t ≡ 101 → X) → X
@@ -196,7 +201,7 @@ module _ {X : Type 0} (f : Form) (seen u : List ℕ) (t k n m : ℕ) (e : piece.
       at-series : is IT u ≡ false → (c : Bool) → is TS u ≡ c → X
       at-series z true o =
           let (a, y) = whole-series (seriesOpens f seen u) t k n m (unfold partPiece in (rw (z, partPiece, o, partPiece) at e)) in
-          h (record { mark = o; step = unfold partStep partAt in (rw (z, partAt, o, partAt)); rest = series-split f seen u ∙ bind-so _ _ tt a }) y
+          h (record { mark = o; opens = series-opened f seen u a; step = unfold partStep partAt in (rw (z, partAt, o, partAt)); rest = series-split f seen u ∙ bind-so _ _ tt a }) y
       at-series z false o =
           let q : piece.Whole t k n m ≡ piece.Fault 17 = unfold partPiece in (rw (z, partPiece, o, partPiece) at e) in
           absurd (let y : _≡_ {A = ℕ} 0 1 = cc in omega arith)

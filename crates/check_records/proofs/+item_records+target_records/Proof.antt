@@ -24,7 +24,7 @@ use Rattle.tally.proofs.Ends.{ended-held, ended-unheld}
 use Rattle.tally.proofs.PackTurns.{either-is}
 use Rattle.tally_records.specs.Meet.{recordsWalk}
 use Rattle.tally_records.specs.Going.{RecordsFrom, TargetsFrom}
-use Rattle.tally_records.proofs.PartTurns.{PartAt, piece-fault, PartTold, item-small, item-told, series-room, lent-small, series-told, part-bad, bad-within, part-asks, part-less, part-more}
+use Rattle.tally_records.proofs.PartTurns.{PartAt, piece-fault, PartTold, item-small, item-told, series-room, lent-small, lent-opens, series-told, part-bad, bad-within, part-asks, part-less, part-more}
 use Rattle.tally_records.proofs.TargetTurns as targets
 use Rattle.tally_records.proofs.TargetTurns.{TargetAt, same-good, records-over, head-fault, target-room, lent, vals-within, vals-fault, vals-small, no-location, target-asks, target-less, target-more}
 use Rattle.check_records.proofs.item_records.Reads as item-records
@@ -234,7 +234,9 @@ module _ (t : ℕ) where
   item-rising-requires : item-records-lts.Need-rising-requires item-claims (item-records-at t) item-records.Post item-Inv item-μ
   item-rising-requires c κs =
       let a = c .before .before .before .before in
-      (part-loop a .before .before .before .before .pre .1 .2, lent-small (part-here a) (c .before .before .is-series .ensures) (c .before .if3 .taken))
+      let e = c .before .before .is-series .ensures in
+      let taken = c .before .if3 .taken in
+      (part-loop a .before .before .before .before .pre .1 .2, lent-small (part-here a) e taken, lent-opens (part-here a) e taken)
 
   item-target-records-requires : item-records-lts.Need-target-records-requires item-claims (item-records-at t) item-records.Post item-Inv item-μ
   item-target-records-requires c κs =

@@ -1,8 +1,9 @@
 -- `check_sheet::series` meets its contract: all of its targets are told at a glance, or the walk over them goes on.
 use mathlib.Core.Path.{_∙_, ap}
 use native.Mathlib.Omega.{arith}
+use Rattle.format.specs.Coding.{Bytes}
 use Rattle.coding.proofs.Rooms.{tail-part}
-use Rattle.check_sheet.proofs.SetTurns.{room, targets-small, all-small, all-asks, all-walked}
+use Rattle.check_sheet.proofs.SetTurns.{room, targets-small, targets-open, all-small, all-asks, all-walked}
 use borrow.Author.Needs.{needs}
 use Rattle.check_sheet.proofs.series.Statement.{statement}
 use Rattle.check_sheet.proofs.series.Tie as tie
@@ -20,7 +21,10 @@ part-t-end : tie.Need-part-t-end
 part-t-end c = search needs
 
 rising-requires : tie.Need-rising-requires
-rising-requires c κs = let k = c .before .before .before .before .pre in (k .0 .glanced, targets-small (k .0) (k .1) (λ i. c .before .before .shared-slice-known2 .given i .fits))
+rising-requires c κs =
+    let k = c .before .before .before .before .pre in
+    let bytes : Bytes (c .before .before .before .before .args .s .now) = λ i. c .before .before .shared-slice-known2 .given i .fits in
+    (k .0 .glanced, targets-small (k .0) (k .1) bytes, targets-open (k .0) (k .1) bytes)
 
 series-sizes-requires : tie.Need-series-sizes-requires
 series-sizes-requires c κs = let k = c .before .before .before .before .before .before .before .pre in all-small (k .0) (k .1) (λ i. c .before .before .before .before .before .shared-slice-known2 .given i .fits) (c .before .before .rising .ensures) (c .if1 .taken)

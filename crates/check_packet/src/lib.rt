@@ -89,19 +89,18 @@ fn closing_of(s: &[u8], alone: bool, held: bool, a: Sizes, from: usize) -> Check
     ensures { λ r. ⌜ r ≡ closingBy (formOf alone) (now (s .entry)) held a from ⌝ }
 {
     if alone {
-        if held {
-            if is_sealed(s) {
-                return fine(a, from);
-            }
+        if !held {
+            return Checked::Wrong {
+                number: 14,
+                place: s.len(),
+            };
+        }
+        if !is_sealed(s) {
             return Checked::Wrong {
                 number: 15,
                 place: s.len() - 4,
             };
         }
-        return Checked::Wrong {
-            number: 14,
-            place: s.len(),
-        };
     }
     fine(a, from)
 }

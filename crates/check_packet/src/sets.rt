@@ -28,20 +28,14 @@ fn head_at(s: &[u8], p: usize, byte: u8) -> Head
     heads::item_head(&s[p..], true)
 }
 
-// Whether a tag is the series', with a value, and told to be new: items stand before it, and none has a tag so high.
-fn is_series_next(p: usize, top: u64, tag: u64, size: usize) -> bool
-    ensures { λ r. ⌜ (r ≡ true → (0 < p) × (top < 101) × (0 < size) × (tag ≡ 101)) ⌝ }
+// Whether the series' tag is told to be new at p: items stand before it, and none has a tag so high.
+fn is_series_new(p: usize, top: u64) -> bool
+    ensures { λ r. ⌜ (r ≡ true → (0 < p) × (top < 101)) ⌝ }
 {
     if p == 0 {
         return false;
     }
-    if 100 < top {
-        return false;
-    }
-    if size == 0 {
-        return false;
-    }
-    tag == 101
+    top < 101
 }
 
 // Where the packs of the series begin and end.
@@ -50,11 +44,20 @@ struct Part {
     next: usize,
 }
 
-// Those of the series, if it stands at p, told to be new; else from 0 to 0.
+fn nowhere() -> Part
+    ensures { λ r. ⌜ r .from ≡ 0 ⌝ }
+{
+    Part { from: 0, next: 0 }
+}
+
+// Those of the series, if it stands at p, with a value, and its tag is told to be new.
 fn series_at(s: &[u8], p: usize, top: u64) -> Part
     requires { ⌜ length (now s) ≤ 8192 ⌝ }
     ensures { λ r. ⌜ (0 < r .from → SeriesNext (now (s .entry)) p top (r .from) (r .next)) ⌝ }
 {
+    if !is_series_new(p, top) {
+        return nowhere();
+    }
     let h = head_at(s, p, 101);
     let Head::Whole {
         key,
@@ -63,10 +66,13 @@ fn series_at(s: &[u8], p: usize, top: u64) -> Part
         size,
     } = h
     else {
-        return Part { from: 0, next: 0 };
+        return nowhere();
     };
-    if !is_series_next(p, top, key, size) {
-        return Part { from: 0, next: 0 };
+    if size == 0 {
+        return nowhere();
+    }
+    if key != 101 {
+        return nowhere();
     }
     let from = p + used + width;
     Part {
@@ -152,29 +158,30 @@ pub fn set_walk(glances: &[u32], s: &[u8], alone: bool) -> Walked
     ensures { λ r. ⌜ (r ≡ levelWalk set (formOf alone) (now (s .entry))) × Within r (length (now (s .entry))) ⌝ }
 {
     let q = quick_items::glance_items(glances, s, true, alone);
-    let mut r = q;
     let part = series_at(s, q.at, q.top);
     let from = part.from;
-    if from != 0 {
+    let r = if from == 0 {
+        q
+    } else {
         let next = part.next;
         let packs = &s[from..next];
         let one = quick_packs::lone(glances, packs, alone);
-        if one.at == packs.len() {
-            r = stages::after_series(q, next, one.sizes);
-        } else {
+        if one.at != packs.len() {
             let d = quick_packs::packs(glances, packs, alone);
-            if d.at == packs.len() {
-                r = stages::after_series(q, next, d.sizes);
-            } else {
+            if d.at != packs.len() {
                 let w = packs_rest(glances, packs, alone, d);
                 // a refusal in the series is the set's
                 let Walked::Good { sizes, held: _ } = w else {
                     return tally::later(w, from);
                 };
-                r = stages::after_series(q, next, sizes);
+                stages::after_series(q, next, sizes)
+            } else {
+                stages::after_series(q, next, d.sizes)
             }
+        } else {
+            stages::after_series(q, next, one.sizes)
         }
-    }
+    };
     if r.at == s.len() {
         return stages::walked(r);
     }

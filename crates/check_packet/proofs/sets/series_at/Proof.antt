@@ -14,16 +14,17 @@ use Rattle.check_packet.proofs.sets.series_at.Tie as tie
 use Rattle.check_packet.proofs.sets.series_at.Reads as reads
 use Rattle.check_packet.proofs.sets.series_at.Lts as lts
 use Rattle.check_packet.proofs.sets.head_at.Reads as head-at-reads
-use Rattle.check_packet.proofs.sets.is_series_next.Reads as is-series-next-reads
+use Rattle.check_packet.proofs.sets.is_series_new.Reads as is-series-new-reads
+use Rattle.check_packet.proofs.sets.nowhere.Reads as nowhere-reads
 
 abbrev claims : lts.Claims
-claims = (head-at-reads.Asked, head-at-reads.Learnt, is-series-next-reads.Asked, is-series-next-reads.Learnt)
+claims = (is-series-new-reads.Asked, is-series-new-reads.Learnt, nowhere-reads.Asked, nowhere-reads.Learnt, head-at-reads.Asked, head-at-reads.Learnt)
 
 abbrev Head-read : Type 0
 Head-read = lts.After-h claims reads.Pre reads.Post
 
 abbrev start : Head-read → lts.Start claims reads.Pre reads.Post
-start a = a .before .before .before .before
+start a = a .before .before .before .before .before .before
 
 abbrev lent : Head-read → List ℕ
 lent a = start a .args .s .now
@@ -47,6 +48,15 @@ here a = subst (HeadIf (lent a) (start a .args .p)) (a .h .given .1) (a .before 
 room : (a : Head-read) → (start a .args .p + used a + width a + size a ≤ length (lent a)) × (length (lent a) ≤ 8192)
 room a = (head-within _ _ (tag a) _ _ _ (here a), start a .pre)
 
+is-series-new-requires : tie.Need-is-series-new-requires
+is-series-new-requires c κs = search needs
+
+nowhere-requires : tie.Need-nowhere-requires
+nowhere-requires c κs = search needs
+
+returns : tie.Need-returns
+returns c = λ h. absurd (omega (arith, h, c .nowhere .ensures))
+
 head-at-requires : tie.Need-head-at-requires
 head-at-requires c κs = search needs
 
@@ -56,14 +66,23 @@ enum-known-h c = search needs
 enum-told : tie.Need-enum-told
 enum-told c = search needs
 
-returns : tie.Need-returns
-returns c = λ h. absurd (omega (arith, h))
-
-is-series-next-requires : tie.Need-is-series-next-requires
-is-series-next-requires c κs = search needs
+nowhere-requires-2 : tie.Need-nowhere-requires-2
+nowhere-requires-2 c κs = search needs
 
 returns-2 : tie.Need-returns-2
-returns-2 c = λ h. absurd (omega (arith, h))
+returns-2 c = λ h. absurd (omega (arith, h, c .nowhere2 .ensures))
+
+nowhere-requires-3 : tie.Need-nowhere-requires-3
+nowhere-requires-3 c κs = search needs
+
+returns-3 : tie.Need-returns-3
+returns-3 c = λ h. absurd (omega (arith, h, c .nowhere3 .ensures))
+
+nowhere-requires-4 : tie.Need-nowhere-requires-4
+nowhere-requires-4 c κs = search needs
+
+returns-4 : tie.Need-returns-4
+returns-4 c = λ h. absurd (omega (arith, h, c .nowhere4 .ensures))
 
 add-from : tie.Need-add-from
 add-from c = omega (arith, room (c .before .before .before))
@@ -74,22 +93,30 @@ add-from-2 c = omega (arith, room (c .before .before .before))
 add-t12 : tie.Need-add-t12
 add-t12 c = omega (arith, room (c .before .before .before))
 
-returns-3 : tie.Need-returns-3
-returns-3 c =
+returns-5 : tie.Need-returns-5
+returns-5 c =
     let a = c .before .before .before in
-    λ _. series-next (lent a) (start a .args .p) (start a .args .top) (tag a) (used a) (width a) (size a) (here a) (c .before .is-series-next .ensures (not-false _ (c .if1 .left)))
+    let new = a .before .before .before .before .is-series-new .ensures (not-false _ (a .before .before .before .if1 .left)) in
+    λ _. series-next (lent a) (start a .args .p) (start a .args .top) (tag a) (used a) (width a) (size a) (here a)
+        (new .0, new .1, omega (arith, c .before .if2 .left), omega (arith, c .if3 .left))
 
 pub series-at-spec : {M : Type 1} → statement M
 series-at-spec =
     tie.close
     (tie.spec
+    is-series-new-requires
+    nowhere-requires
+    returns
     head-at-requires
     enum-known-h
     enum-told
-    returns
-    is-series-next-requires
+    nowhere-requires-2
     returns-2
+    nowhere-requires-3
+    returns-3
+    nowhere-requires-4
+    returns-4
     add-from
     add-from-2
     add-t12
-    returns-3)
+    returns-5)

@@ -35,14 +35,14 @@ claims = (
   series-at-reads.Learnt,
   lone-reads.Asked,
   lone-reads.Learnt,
-  after-series-reads.Asked,
-  after-series-reads.Learnt,
   packs-reads.Asked,
   packs-reads.Learnt,
   packs-rest-reads.Asked,
   packs-rest-reads.Learnt,
   later-reads.Asked,
   later-reads.Learnt,
+  after-series-reads.Asked,
+  after-series-reads.Learnt,
   walked-reads.Asked,
   walked-reads.Learnt,
   set-rest-reads.Asked,
@@ -62,18 +62,18 @@ found : (a : Looked) → 0 < a .series-at .result .from → SeriesAt (formOf (st
 found a h = record { going = a .before .glance-items .ensures .0; series = a .series-at .ensures h; bytes = λ i. a .before .before .shared-slice-known2 .given i .fits; most = start a .pre .1 }
 
 -- where it stands
-there : (b : lts.Then1 claims reads.Pre reads.Post) → SeriesAt (formOf (start (b .before) .args .alone)) (lent (b .before)) (b .before .before .glance-items .result) (b .before .series-at .result .from) (b .before .series-at .result .next)
-there b = found (b .before) (omega (arith, b .if1 .taken))
+there : (b : lts.Else1 claims reads.Pre reads.Post) → SeriesAt (formOf (start (b .before) .args .alone)) (lent (b .before)) (b .before .before .glance-items .result) (b .before .series-at .result .from) (b .before .series-at .result .next)
+there b = found (b .before) (omega (arith, b .if1 .left))
 
 going : (j : lts.Joined1 claims reads.Pre reads.Post) → LevelTo true (formOf (start (j .before) .args .alone)) (lent (j .before)) (j .if1 .r)
 going j =
     ⊎-elim
-    (λ x. rw (x .6) (series-goes (found (j .before) (omega (arith, x .0 .taken))) (turn-done (x .2 .ensures) (omega (arith, x .4 .taken))) refl (x .5 .ensures)))
+    (λ x. rw (x .1) (j .before .before .glance-items .ensures .0))
     (⊎-elim
-    (λ x. rw (x .9) (series-goes (found (j .before) (omega (arith, x .0 .taken))) (turn-done (x .5 .ensures) (omega (arith, x .7 .taken))) refl (x .8 .ensures)))
+    (λ x. rw (x .13) (series-goes (found (j .before) (omega (arith, x .0 .left))) (x .8 .ensures) (x .10 .given .1) (x .12 .ensures)))
     (⊎-elim
-    (λ x. rw (x .13) (series-goes (found (j .before) (omega (arith, x .0 .taken))) (x .8 .ensures) (x .10 .given .1) (x .12 .ensures)))
-    (λ x. rw (x .1) (j .before .before .glance-items .ensures .0))))
+    (λ x. rw (x .9) (series-goes (found (j .before) (omega (arith, x .0 .left))) (turn-done (x .5 .ensures) (omega (arith, x .7 .left))) refl (x .8 .ensures)))
+    (λ x. rw (x .6) (series-goes (found (j .before) (omega (arith, x .0 .left))) (turn-done (x .2 .ensures) (omega (arith, x .4 .left))) refl (x .5 .ensures)))))
     (j .if1 .came)
 
 glance-items-requires : tie.Need-glance-items-requires
@@ -96,16 +96,10 @@ lone-requires c κs =
     let i = there (c .before) in
     (start (c .before .before) .pre .0, omega (arith, packs-long i, series-room i, i .most))
 
-after-series-requires : tie.Need-after-series-requires
-after-series-requires c κs = series-asks (there (c .before .before .before .before)) (turn-done (c .before .before .lone .ensures) (omega (arith, c .if2 .taken))) refl
-
 packs-requires : tie.Need-packs-requires
 packs-requires c κs =
     let i = there (c .before .before .before .before) in
     (start (c .before .before .before .before .before) .pre .0, omega (arith, packs-long i, series-room i, i .most))
-
-after-series-requires-2 : tie.Need-after-series-requires-2
-after-series-requires-2 c κs = series-asks (there (c .before .before .before .before .before .before .before)) (turn-done (c .before .before .packs2 .ensures) (omega (arith, c .if3 .taken))) refl
 
 packs-rest-requires : tie.Need-packs-rest-requires
 packs-rest-requires c κs =
@@ -124,8 +118,14 @@ later-requires c κs = refusal-asks (there (c .before .before .before .before .b
 returns : tie.Need-returns
 returns c = series-refused (there (c .before .before .before .before .before .before .before .before .before .before .before)) (c .before .before .before .packs-rest .ensures) (c .before .enum-told .given .1) (c .later .ensures)
 
+after-series-requires : tie.Need-after-series-requires
+after-series-requires c κs = series-asks (there (c .before .before .before .before .before .before .before .before .before .before .before)) (c .before .before .before .packs-rest .ensures) (c .before .w .given .1)
+
+after-series-requires-2 : tie.Need-after-series-requires-2
+after-series-requires-2 c κs = series-asks (there (c .before .before .before .before .before .before .before)) (turn-done (c .before .before .packs2 .ensures) (omega (arith, c .if3 .left))) refl
+
 after-series-requires-3 : tie.Need-after-series-requires-3
-after-series-requires-3 c κs = series-asks (there (c .before .before .before .before .before .before .before .before .before .before .before)) (c .before .before .before .packs-rest .ensures) (c .before .w .given .1)
+after-series-requires-3 c κs = series-asks (there (c .before .before .before .before)) (turn-done (c .before .before .lone .ensures) (omega (arith, c .if2 .left))) refl
 
 walked-requires : tie.Need-walked-requires
 walked-requires c κs = search needs
@@ -163,14 +163,14 @@ set-walk-spec =
     part-packs-start
     part-packs-end
     lone-requires
-    after-series-requires
     packs-requires
-    after-series-requires-2
     packs-rest-requires
     enum-known-w
     enum-told
     later-requires
     returns
+    after-series-requires
+    after-series-requires-2
     after-series-requires-3
     walked-requires
     returns-2

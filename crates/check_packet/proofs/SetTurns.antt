@@ -24,7 +24,7 @@ use Rattle.tally.specs.declared.stages.Stage.{Stage}
 use Rattle.tally.specs.declared.Walked.the-variants.{Good, Bad}
 use Rattle.tally.specs.Meet.{itemSizes, seriesSizes, plusSizes, levelWalk, seriesWalk, seriesFrom, laterBy, Small, Within}
 use Rattle.tally.specs.Going.{LevelGoing, LevelTo, stageAt}
-use Rattle.tally.proofs.Turns.{within-more}
+use Rattle.tally.proofs.Turns.{within-more, going-between}
 use Rattle.tally.proofs.Pieces.{piece-within}
 use Rattle.tally.proofs.ItemTurns.{ItemAt, EntryTold, item-told, series-told, good-small, entry-bad, entry-more}
 use Rattle.tally.proofs.Begins.{begun-later}
@@ -206,8 +206,8 @@ module _ {f : Form} {s : List ℕ} {q : Stage} {from next : ℕ} (i : SeriesAt f
       pub series-asks : Small a × Small (q .sizes) × Small (seriesSizes a)
       series-asks = (subst (λ x. Within x 65536) good within, sums .0, sums .1)
 
-      pub series-goes : {r : Stage} → (r .low ≤ q .low) × (r .low ≤ 101) × (r ≡ stageAt next (plusSizes (q .sizes) (seriesSizes a)) (q .held) 101 (r .low)) → LevelTo true f s r
-      series-goes (l, m, e) =
+      pub series-goes : {r : Stage} → r ≡ stageAt next (plusSizes (q .sizes) (seriesSizes a)) (q .held) 101 (q .low) → LevelTo true f s r
+      series-goes e =
           let j = i .series in
           let n-is : next ≡ q .at + (j .used + j .width) + j .size = omega (arith, j .from-is, j .next-is) in
-          rw (e, n-is) (entry-more series-item told-so refl refl (or-false (q .held) refl) (omega (arith, j .new), omega arith) (l, m))
+          rw (e, n-is) (entry-more series-item told-so refl refl (or-false (q .held) refl) (omega (arith, j .new), omega arith) (omega arith, omega (arith, going-between (i .going) (j .later), j .new)))

@@ -28,22 +28,13 @@ fn head_at(s: &[u8], p: usize, byte: u8) -> Head
     heads::item_head(&s[p..], true)
 }
 
-// Whether the series' tag is told to be new at p: items stand before it, and none has a tag so high.
-fn is_series_new(p: usize, top: u64) -> bool
-    ensures { λ r. ⌜ (r ≡ true → (0 < p) × (top < 101)) ⌝ }
-{
-    if p == 0 {
-        return false;
-    }
-    top < 101
-}
-
 // Where the packs of the series begin and end.
 struct Part {
     from: usize,
     next: usize,
 }
 
+// None: none begin at 0.
 fn nowhere() -> Part
     ensures { λ r. ⌜ r .from ≡ 0 ⌝ }
 {
@@ -55,7 +46,7 @@ fn series_at(s: &[u8], p: usize, top: u64) -> Part
     requires { ⌜ length (now s) ≤ 8192 ⌝ }
     ensures { λ r. ⌜ (0 < r .from → SeriesNext (now (s .entry)) p top (r .from) (r .next)) ⌝ }
 {
-    if !is_series_new(p, top) {
+    if !tally::is_series_new(p, top) {
         return nowhere();
     }
     let h = head_at(s, p, 101);

@@ -16,10 +16,11 @@ use Rattle.tally.specs.declared.Piece.the-variants as piece
 use Rattle.tally.specs.declared.stages.Stage.{Stage}
 use Rattle.tally.specs.declared.Walked.{Walked}
 use Rattle.tally.specs.declared.Walked.the-variants.{Good}
-use Rattle.tally.specs.Meet.{seriesSizes, seriesFrom, Small, Within}
+use Rattle.tally.specs.Meet.{plusSizes, seriesSizes, seriesFrom, Small, Within}
+use Rattle.tally.specs.Going.{stageAt}
 use Rattle.tally.proofs.Walks.{few-more}
-use Rattle.tally.proofs.Turns.{told-as, turn-done}
-use Rattle.tally.proofs.Begins.{begun-later}
+use Rattle.tally.proofs.Turns.{told-as, going-between, turn-done}
+use Rattle.tally.proofs.Begins.{begun-later, or-false}
 use Rattle.tally_records.specs.Meet.{IsPart, recordsWalk, targetsWalk}
 use Rattle.tally_records.specs.Going.{After}
 use Rattle.tally_records.proofs.Opens.{series-whole, part-series}
@@ -68,11 +69,21 @@ module _ {f : Form} {glances s : List ℕ} {q : Stage} (k : SetAsked f glances s
     told : PartTold series-part (Good (seriesSizes (d .sizes)) false)
     told = series-is (turn-done (t .0) (omega (arith, all))) refl
 
-    pub all-small : Small (d .sizes)
+    all-small : Small (d .sizes)
     all-small = few-more (d .sizes) (d .at) 65536 (omega (arith, all, targets-small)) (t .0 .few)
 
-    pub all-asks : Small (q .sizes) × Small (seriesSizes (d .sizes)) × (q .at + (2 + d .sizes .sheet) ≤ 65536)
-    all-asks = part-asks series-part told refl
+    pub all-asks : Small (d .sizes) × Small (q .sizes) × Small (seriesSizes (d .sizes))
+    all-asks = let (a, b, _) = part-asks series-part told refl in (all-small, a, b)
 
-    pub all-walked : {r : Stage} → After q 101 (seriesSizes (d .sizes)) false r → {v : Walked} → v ≡ Good (r .sizes) (r .held) → (v ≡ recordsWalk set f s) × Within v (length s)
-    all-walked a ev = told-as (length s) ev (turn-done (part-more series-part told refl a) (omega (arith, a .at-is, t .2, all, targets-long)))
+    after-all : {r : Stage} → r ≡ stageAt (length s) (plusSizes (q .sizes) (seriesSizes (d .sizes))) (q .held) 101 (q .low) → After q 101 (seriesSizes (d .sizes)) false r
+    after-all e = rw e (record {
+      at-is = omega (arith, t .2, all, targets-long);
+      sizes-are = refl;
+      held-is = or-false (q .held) refl;
+      over = (omega (arith, n .above), omega arith);
+      under = (omega arith, omega (arith, going-between (k .going) (n .later), n .above));
+    })
+
+    pub all-walked : {r : Stage} → r ≡ stageAt (length s) (plusSizes (q .sizes) (seriesSizes (d .sizes))) (q .held) 101 (q .low) → {v : Walked} → v ≡ Good (r .sizes) (r .held)
+        → (v ≡ recordsWalk set f s) × Within v (length s)
+    all-walked e ev = let a = after-all e in told-as (length s) ev (turn-done (part-more series-part told refl a) (omega (arith, a .at-is, t .2, all, targets-long)))

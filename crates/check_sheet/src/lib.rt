@@ -61,10 +61,7 @@ fn is_series_next(s: &[u8], q: Stage) -> bool
     ensures { λ r. ⌜ (r ≡ true → SeriesNext (now (s .entry)) q) ⌝ }
 {
     let p = q.at;
-    if p == 0 {
-        return false;
-    }
-    if 100 < q.top {
+    if !tally::is_series_new(p, q.top) {
         return false;
     }
     if !records::is_mark(s, p, records::TS) {
@@ -109,8 +106,7 @@ fn series_noted(glances: &[u32], s: &[u8], alone: bool, q: Stage, d: Stage) -> W
     let mut bits = [0u64; 64];
     let e = targets::noted(glances, t, alone, d, &mut bits);
     if e.at == t.len() {
-        let sizes = tally::weights::series_sizes(e.sizes);
-        return stages::walked(tally_records::after(q, 101, sizes, false));
+        return stages::walked(stages::after_series(q, s.len(), e.sizes));
     }
     series_rest(glances, s, alone, q, e, &mut bits)
 }
@@ -124,8 +120,7 @@ fn series(glances: &[u32], s: &[u8], alone: bool, q: Stage) -> Walked
     let t = &s[from..];
     let d = targets::rising(glances, t, alone);
     if d.at == t.len() {
-        let sizes = tally::weights::series_sizes(d.sizes);
-        return stages::walked(tally_records::after(q, 101, sizes, false));
+        return stages::walked(stages::after_series(q, s.len(), d.sizes));
     }
     // lent on as a part, so that the compiler keeps the slice itself in registers
     series_noted(glances, &s[0..], alone, q, d)

@@ -6,12 +6,13 @@ use mathlib.Core.Bool.{Bool, true, false, _||_}
 use mathlib.Core.List.{List, [], _∷_, _++_}
 use lib.ListN.{length, take, drop, length-drop}
 use lib.Seq.{drop-drop}
-use lib.Dec.{eqb}
-use borrow.Author.Tests.{eq-eqb, ne-eqb}
+use lib.Dec.{eqb, ltb}
+use borrow.Author.Tests.{eq-eqb, ne-eqb, ltb-true, ltb-false}
 use Rattle.format.specs.Answer.{Ans, ok, refused, Got, got}
 use Rattle.format.specs.Lists.{has}
 use Rattle.format.specs.Read.{headOf, PackHead, packHead}
 use Rattle.format.specs.Read as Read
+use Rattle.format.proofs.words.Answers.{no-bool}
 use Rattle.format.proofs.bounds.Packets.{head-room, pack-head-room}
 use Rattle.coding.proofs.Rooms.{tail-part}
 use Rattle.items.specs.Meet.{levelOf}
@@ -175,3 +176,20 @@ module _ (look : List ℕ → Got ℕ) (s : List ℕ) where
     over = λ j h. rw (ne-eqb k j (λ x. omega arith)) (a .over j (omega arith));
     first = sym (ne-eqb (p + u) 0 (λ x. omega arith));
   }
+
+-- once something was passed, no bound is beyond the other
+pub past-between : {look : List ℕ → Got ℕ} {s : List ℕ} {p top low : ℕ} (seen : List ℕ) → Past look s p top low seen → 0 < p → low ≤ top
+unfolding has
+past-between {p = p} [] q h = no-bool (sym (ne-eqb p 0 (λ e. omega (arith, e, h))) ∙ sym (q .first))
+past-between {top = top} {low = low} (k ∷ ks) q h = by-low (ltb k low) refl
+  where
+    gone : has k (k ∷ ks) ≡ false → ⊥
+    gone e = no-bool (sym e ∙ ap (λ b. b || has k ks) (eq-eqb k k refl))
+
+    by-top : low ≤ k → (b : Bool) → ltb top k ≡ b → low ≤ top
+    by-top l true z = absurd (gone (q .under k (ltb-true top k z)))
+    by-top l false z = omega (arith, l, ltb-false top k z)
+
+    by-low : (b : Bool) → ltb k low ≡ b → low ≤ top
+    by-low true z = absurd (gone (q .over k (ltb-true k low z)))
+    by-low false z = by-top (omega (arith, ltb-false k low z)) (ltb top k) refl

@@ -105,7 +105,8 @@ pub fn first_tag(s: &[u8]) -> u64
 // The records of a level told at a glance, one after another; the first may begin it, and is not below `low`. Both are asked once, by the caller, as
 // the compiler would split the loop by the one, and not put it in line with the other.
 pub fn glance_rising(glances: &[u32], s: &[u8], set: bool, alone: bool, low: u64) -> Stage
-    requires { ⌜ (now glances ≡ glanceTable) × (length (now s) ≤ 65536) × Begun set (formOf alone) 0 (firstTag (now s)) × (low ≤ firstTag (now s)) ⌝ }
+    requires { ⌜ (now glances ≡ glanceTable) × (length (now s) ≤ 65536)
+        × Begun set (formOf alone) 0 (firstTag (now s)) × (low ≤ firstTag (now s)) ⌝ }
     ensures { λ r. ⌜ RecordsFrom set (formOf alone) (now (s .entry)) r ⌝ }
 {
     let mut p: usize = 0;

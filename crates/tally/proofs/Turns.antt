@@ -10,7 +10,7 @@ use Rattle.format.specs.Answer.{Ans, ok, refused, Got, got}
 use Rattle.format.specs.Run.{Step}
 use Rattle.format.specs.Lists.{has}
 use Rattle.heads.specs.Meet.{Past}
-use Rattle.heads.proofs.Before.{heads-none, past-more}
+use Rattle.heads.proofs.Before.{heads-none, past-more, past-between}
 use Rattle.tally.specs.declared.Sizes.{Sizes}
 use Rattle.tally.specs.declared.Walked.{Walked}
 use Rattle.tally.specs.declared.Walked.the-variants.{Good, Bad}
@@ -53,6 +53,10 @@ module _ {X : Type 0} {look : List ℕ → Got ℕ} {more : List ℕ → Bool} {
         few = g .few;
         to = g .to;
       }
+
+  -- and once the walk has moved, the lowest is not above the highest
+  pub going-between : 0 < p → low ≤ top
+  going-between h = past-between (g .seen) (g .past) h
 
   pub turn-done : length s ≤ p → (Good a m ≡ whole) × Within (Good a m) (length s)
   turn-done h = (going-done weight held key step look more whole s p a m top low g h, within)

@@ -1,7 +1,7 @@
 // What a walk over a level or a series says: an item that may stand there, the sizes of what was walked, or the first fault.
 ghost use mathlib.Core.Path.{_≡_};
-ghost use Prim.Native.Nat.{_≤_};
-ghost use mathlib.Core.Bool.{_&&_};
+ghost use Prim.Native.Nat.{_≤_, _<_};
+ghost use mathlib.Core.Bool.{true, _&&_};
 ghost use lib.Dec.{eqb};
 ghost use Rattle.items.specs.Meet.{formOf, levelOf};
 ghost use Rattle.tally.specs.Meet.{itemSizes, stopAt, laterBy, seriesFrom, askedTag, endedBy, Larger, Within};
@@ -82,6 +82,16 @@ pub fn is_series(set: bool, tag: u64) -> bool
     ensures { λ r. ⌜ r ≡ (set && eqb tag 101) ⌝ }
 {
     if set { tag == 101 } else { false }
+}
+
+// Whether the series' tag is told to be new at p: items stand before it, and none has a tag so high.
+pub fn is_series_new(p: usize, top: u64) -> bool
+    ensures { λ r. ⌜ (r ≡ true → (0 < p) × (top < 101)) ⌝ }
+{
+    if p == 0 {
+        return false;
+    }
+    top < 101
 }
 
 // The tag that is asked for at a level's end: the set's checksum, a pack's location.

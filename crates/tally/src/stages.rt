@@ -1,6 +1,5 @@
 // Where a walk goes on, and what was walked till there: a quick way hands it to the walk, and one walk to the next.
 ghost use mathlib.Core.Path.{_≡_};
-ghost use Prim.Native.Nat.{_≤_};
 ghost use Rattle.tally.specs.Meet.{seriesSizes, plusSizes, Small};
 ghost use Rattle.tally.specs.Going.{stageAt};
 use super::Sizes;
@@ -26,13 +25,14 @@ pub fn stage_at(at: usize, sizes: Sizes, held: bool, top: u64, low: u64) -> Stag
     }
 }
 
-// Where the set goes on after its series, whose packs or targets have these sizes.
+// Where the set goes on after its series, whose packs or targets have these sizes. The lowest tag stands before it: a series that is told to be new
+// has a higher one.
 pub fn after_series(q: Stage, next: usize, sizes: Sizes) -> Stage
     requires { ⌜ Small sizes × Small (q .sizes) × Small (seriesSizes sizes) ⌝ }
-    ensures { λ r. ⌜ (r .low ≤ q .low) × (r .low ≤ 101) × (r ≡ stageAt next (plusSizes (q .sizes) (seriesSizes sizes)) (q .held) 101 (r .low)) ⌝ }
+    ensures { λ r. ⌜ r ≡ stageAt next (plusSizes (q .sizes) (seriesSizes sizes)) (q .held) 101 (q .low) ⌝ }
 {
     let sum = super::weights::plus(q.sizes, super::weights::series_sizes(sizes));
-    stage_at(next, sum, q.held, 101, super::smaller(q.low, 101))
+    stage_at(next, sum, q.held, 101, q.low)
 }
 
 // What was walked till there.

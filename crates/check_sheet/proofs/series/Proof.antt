@@ -3,7 +3,7 @@ use mathlib.Core.Path.{_∙_, ap}
 use native.Mathlib.Omega.{arith}
 use Rattle.format.specs.Coding.{Bytes}
 use Rattle.coding.proofs.Rooms.{tail-part}
-use Rattle.check_sheet.proofs.SetTurns.{room, targets-small, targets-open, all-small, all-asks, all-walked}
+use Rattle.check_sheet.proofs.SetTurns.{room, targets-small, targets-open, all-asks, all-walked}
 use borrow.Author.Needs.{needs}
 use Rattle.check_sheet.proofs.series.Statement.{statement}
 use Rattle.check_sheet.proofs.series.Tie as tie
@@ -26,23 +26,19 @@ rising-requires c κs =
     let bytes : Bytes (c .before .before .before .before .args .s .now) = λ i. c .before .before .shared-slice-known2 .given i .fits in
     (k .0 .glanced, targets-small (k .0) (k .1) bytes, targets-open (k .0) (k .1) bytes)
 
-series-sizes-requires : tie.Need-series-sizes-requires
-series-sizes-requires c κs = let k = c .before .before .before .before .before .before .before .pre in all-small (k .0) (k .1) (λ i. c .before .before .before .before .before .shared-slice-known2 .given i .fits) (c .before .before .rising .ensures) (c .if1 .taken)
-
-after-requires : tie.Need-after-requires
-after-requires c κs =
-    let k = c .before .before .before .before .before .before .before .before .pre in
-    rw (c .series-sizes .ensures) (all-asks (k .0) (k .1) (λ i. c .before .before .before .before .before .before .shared-slice-known2 .given i .fits) (c .before .before .before .rising .ensures)
-    (c .before .if1 .taken))
+after-series-requires : tie.Need-after-series-requires
+after-series-requires c κs =
+    let k = c .before .before .before .before .before .before .before .pre in
+    all-asks (k .0) (k .1) (λ i. c .before .before .before .before .before .shared-slice-known2 .given i .fits) (c .before .before .rising .ensures) (c .if1 .taken)
 
 walked-requires : tie.Need-walked-requires
 walked-requires c κs = search needs
 
 returns : tie.Need-returns
 returns c =
-    let k = c .before .before .before .before .before .before .before .before .before .before .pre in
-    let after = rw (c .before .before .series-sizes .ensures) at (c .before .after .ensures .0) in
-    all-walked (k .0) (k .1) (λ i. c .before .before .before .before .before .before .before .before .shared-slice-known2 .given i .fits) (c .before .before .before .before .before .rising .ensures) (c .before .before .before .if1 .taken) after (c .walked .ensures)
+    let k = c .before .before .before .before .before .before .before .before .before .pre in
+    all-walked (k .0) (k .1) (λ i. c .before .before .before .before .before .before .before .shared-slice-known2 .given i .fits) (c .before .before .before .before .rising .ensures) (c .before .before .if1 .taken)
+    (c .before .after-series .ensures) (c .walked .ensures)
 
 sub-series-noted : tie.Need-sub-series-noted
 sub-series-noted c = search needs
@@ -71,8 +67,7 @@ series-spec =
     part-t-start
     part-t-end
     rising-requires
-    series-sizes-requires
-    after-requires
+    after-series-requires
     walked-requires
     returns
     sub-series-noted

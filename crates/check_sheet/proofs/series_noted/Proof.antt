@@ -2,7 +2,7 @@
 use native.Mathlib.Omega.{arith}
 use borrow.Author.Needs.{needs}
 use Rattle.coding.proofs.Rooms.{tail-part}
-use Rattle.check_sheet.proofs.SetTurns.{room, targets-small, all-small, all-asks, all-walked}
+use Rattle.check_sheet.proofs.SetTurns.{room, targets-small, all-asks, all-walked}
 use Rattle.check_sheet.proofs.series_noted.Statement.{statement}
 use Rattle.check_sheet.proofs.series_noted.Tie as tie
 
@@ -23,24 +23,19 @@ noted-requires c κs =
     let k = c .before .before .before .before .before .pre in
     (k .0 .glanced, targets-small (k .0) (k .1) (λ i. c .before .before .before .shared-slice-known2 .given i .fits), rw tail-part (k .2))
 
-series-sizes-requires : tie.Need-series-sizes-requires
-series-sizes-requires c κs =
+after-series-requires : tie.Need-after-series-requires
+after-series-requires c κs =
     let k = c .before .before .before .before .before .before .before .before .pre in
-    all-small (k .0) (k .1) (λ i. c .before .before .before .before .before .before .shared-slice-known2 .given i .fits) (c .before .before .noted .ensures) (c .if1 .taken)
-
-after-requires : tie.Need-after-requires
-after-requires c κs =
-    let k = c .before .before .before .before .before .before .before .before .before .pre in
-    rw (c .series-sizes .ensures) (all-asks (k .0) (k .1) (λ i. c .before .before .before .before .before .before .before .shared-slice-known2 .given i .fits) (c .before .before .before .noted .ensures) (c .before .if1 .taken))
+    all-asks (k .0) (k .1) (λ i. c .before .before .before .before .before .before .shared-slice-known2 .given i .fits) (c .before .before .noted .ensures) (c .if1 .taken)
 
 walked-requires : tie.Need-walked-requires
 walked-requires c κs = search needs
 
 returns : tie.Need-returns
 returns c =
-    let k = c .before .before .before .before .before .before .before .before .before .before .before .pre in
-    let after = rw (c .before .before .series-sizes .ensures) at (c .before .after .ensures .0) in
-    all-walked (k .0) (k .1) (λ i. c .before .before .before .before .before .before .before .before .before .shared-slice-known2 .given i .fits) (c .before .before .before .before .before .noted .ensures) (c .before .before .before .if1 .taken) after (c .walked .ensures)
+    let k = c .before .before .before .before .before .before .before .before .before .before .pre in
+    all-walked (k .0) (k .1) (λ i. c .before .before .before .before .before .before .before .before .shared-slice-known2 .given i .fits) (c .before .before .before .before .noted .ensures) (c .before .before .if1 .taken)
+    (c .before .after-series .ensures) (c .walked .ensures)
 
 series-rest-requires : tie.Need-series-rest-requires
 series-rest-requires c κs = let k = c .before .before .before .before .before .before .before .before .before .pre in (k .0, k .1, rw tail-part at (c .before .before .before .noted .ensures))
@@ -57,8 +52,7 @@ series-noted-spec =
     part-t-start
     part-t-end
     noted-requires
-    series-sizes-requires
-    after-requires
+    after-series-requires
     walked-requires
     returns
     series-rest-requires

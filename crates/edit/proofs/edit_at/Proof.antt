@@ -29,43 +29,29 @@ use Rattle.edit.proofs.edit_at.Reads as reads
 use Rattle.edit.proofs.edit_at.Lts as lts
 use Rattle.edit.proofs.edit_at.Tie as tie
 
+abbrev claims : lts.Claims
+claims = (
+  item-size-reads.Asked,
+  item-size-reads.Learnt,
+  edited-size-reads.Asked,
+  edited-size-reads.Learnt,
+  frame-size-reads.Asked,
+  frame-size-reads.Learnt,
+  answer-of-reads.Asked,
+  answer-of-reads.Learnt,
+  open-reads.Asked,
+  open-reads.Learnt,
+  put-edited-reads.Asked,
+  put-edited-reads.Learnt,
+  close-reads.Asked,
+  close-reads.Learnt,
+)
+
 abbrev Sized : Type 0
-Sized =
-    lts.After-frame-size (
-      item-size-reads.Asked,
-      item-size-reads.Learnt,
-      edited-size-reads.Asked,
-      edited-size-reads.Learnt,
-      frame-size-reads.Asked,
-      frame-size-reads.Learnt,
-      answer-of-reads.Asked,
-      answer-of-reads.Learnt,
-      open-reads.Asked,
-      open-reads.Learnt,
-      put-edited-reads.Asked,
-      put-edited-reads.Learnt,
-      close-reads.Asked,
-      close-reads.Learnt,
-    ) reads.Pre reads.Post
+Sized = lts.After-frame-size claims reads.Pre reads.Post
 
 abbrev Call : Type 0
-Call =
-    lts.Start (
-      item-size-reads.Asked,
-      item-size-reads.Learnt,
-      edited-size-reads.Asked,
-      edited-size-reads.Learnt,
-      frame-size-reads.Asked,
-      frame-size-reads.Learnt,
-      answer-of-reads.Asked,
-      answer-of-reads.Learnt,
-      open-reads.Asked,
-      open-reads.Learnt,
-      put-edited-reads.Asked,
-      put-edited-reads.Learnt,
-      close-reads.Asked,
-      close-reads.Learnt,
-    ) reads.Pre reads.Post
+Call = lts.Start claims reads.Pre reads.Post
 
 abbrev from : Sized → Call
 from z = z .before .before .before .before .before .before

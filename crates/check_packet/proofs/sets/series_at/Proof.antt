@@ -14,7 +14,7 @@ use Rattle.check_packet.proofs.sets.series_at.Tie as tie
 use Rattle.check_packet.proofs.sets.series_at.Reads as reads
 use Rattle.check_packet.proofs.sets.series_at.Lts as lts
 use Rattle.check_packet.proofs.sets.head_at.Reads as head-at-reads
-use Rattle.check_packet.proofs.sets.is_series_new.Reads as is-series-new-reads
+use Rattle.tally.proofs.is_series_new.Reads as is-series-new-reads
 use Rattle.check_packet.proofs.sets.nowhere.Reads as nowhere-reads
 
 abbrev claims : lts.Claims
@@ -98,7 +98,7 @@ returns-5 c =
     let a = c .before .before .before in
     let new = a .before .before .before .before .is-series-new .ensures (not-false _ (a .before .before .before .if1 .left)) in
     λ _. series-next (lent a) (start a .args .p) (start a .args .top) (tag a) (used a) (width a) (size a) (here a)
-        (new .0, new .1, omega (arith, c .before .if2 .left), omega (arith, c .if3 .left))
+    (new .0, new .1, omega (arith, c .before .if2 .left), omega (arith, c .if3 .left))
 
 pub series-at-spec : {M : Type 1} → statement M
 series-at-spec =

@@ -1,9 +1,9 @@
--- `sets::is_series_new` meets its contract: each `false` says nothing.
+-- `tally::is_series_new` meets its contract: each `false` says nothing.
 use native.Mathlib.Omega.{arith}
 use borrow.Author.Tests.{ltb-true}
 use Rattle.format.proofs.words.Answers.{no-bool}
-use Rattle.check_packet.proofs.sets.is_series_new.Statement.{statement}
-use Rattle.check_packet.proofs.sets.is_series_new.Tie as tie
+use Rattle.tally.proofs.is_series_new.Statement.{statement}
+use Rattle.tally.proofs.is_series_new.Tie as tie
 
 returns : tie.Need-returns
 returns c = λ e. no-bool e

@@ -129,9 +129,16 @@ itemRules l f seen tag last v = do
   _ ← standing l f seen tag last
   valued (ruleOf l tag) v
 
--- the rule where a pack or a target with these tags ends
+-- both are there, or neither
+abbrev pub alike : Bool → Bool → Bool
+alike true b = b
+alike false b = not b
+
+-- the rules where a pack or a target with these tags ends: 20, 14
 unfoldable pub ended : Form → List ℕ → Ans (Unit {0})
-ended f tags = need (not (isAlone f) || has 17 tags) 14
+ended f tags = do
+  _ ← need (alike (has 19 tags) (has 20 tags)) 20
+  need (not (isAlone f) || has 17 tags) 14
 
 -- shortest form: no leading zero byte, but one byte at least
 unfoldable pub strip : List ℕ → List ℕ

@@ -46,11 +46,11 @@ refuses-after {P = P} j (refused n p) h g = refuses-no P n (j + p) (g n p (h .by
 
 -- ---- a number of the table, by one computed test
 
-pub listed : (n : ℕ) → leb 1 n && leb n 19 && not (eqb n 16) ≡ true → Listed n
+pub listed : (n : ℕ) → leb 1 n && leb n 20 && not (eqb n 16) ≡ true → Listed n
 listed n e =
-    let (a, b) = and-both (leb 1 n && leb n 19) (not (eqb n 16)) e in
-    let (l, m) = and-both (leb 1 n) (leb n 19) a in
-    (leb-true 1 n l, leb-true n 19 m, λ z. no-bool (rw z at b))
+    let (a, b) = and-both (leb 1 n && leb n 20) (not (eqb n 16)) e in
+    let (l, m) = and-both (leb 1 n) (leb n 20) a in
+    (leb-true 1 n l, leb-true n 20 m, λ z. no-bool (rw z at b))
 
 -- ---- before the end of what is read
 

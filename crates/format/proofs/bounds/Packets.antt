@@ -129,7 +129,7 @@ pack-head-room s h e =
 
 pub ended-here : (f : Form) (tags : List ℕ) → Here (ended f tags)
 unfolding ended
-ended-here f tags = here-need _ 14 (listed 14 refl)
+ended-here f tags = refuses-bind _ _ (here-need _ 20 (listed 20 refl)) λ _ _. here-need _ 14 (listed 14 refl)
 
 pub pack-early : (f : Form) (seen s : List ℕ) → 0 < length s → Early (length s) (onePack f seen s)
 unfolding onePack

@@ -13,7 +13,7 @@ use Rattle.format.specs.Packet.{Packet}
 use Rattle.format.specs.Run.{always}
 use Rattle.format.specs.Sheet.{Val, Target, Part, one, targets, Sheet, tagOfVal, idOfTarget, tagOfPart, TS, TG, TI, IT, is, field, valueAt, targetAt, seriesAt, partAt, formOf, unsheet}
 use Rattle.format.specs.Calls.{packed}
-use Rattle.format.specs.Edit.{Holder, theSet, target, Change, put, remove, isTargets, targetTags, tagsAt, changeRules, editRules}
+use Rattle.format.specs.Edit.{Holder, theSet, target, Change, put, remove, Changes, isTargets, targetTags, tagsAt, changeRules, turns, ending, editRules}
 use Rattle.format.specs.demands.Demand1.{Answers}
 use Rattle.format.proofs.words.Answers.{never, no-bool, bind-then, need-then, after-then, ok-inj}
 use Rattle.format.proofs.bounds.Answers.{listed, refuses-ok, refuses-no, refuses-need, refuses-bind, refuses-after, Early, early-after, early-more, early-answers, Steady, run-early, run-room}
@@ -176,11 +176,24 @@ change-here f l tag tags (put v) =
     refuses-bind _ _ (here-need _ 7 (listed 7 refl)) λ _ _.
     refuses-bind _ _ (here-need _ 13 (listed 13 refl)) λ _ _.
     valued-here _ v
-change-here f l tag tags remove = refuses-bind _ _ (here-need _ 18 (listed 18 refl)) λ _ _. here-need _ 14 (listed 14 refl)
+change-here f l tag tags remove = here-need _ 18 (listed 18 refl)
 
-pub edit-here : (h : Holder) (tag : ℕ) (c : Change) (s : Sheet) → Here (editRules h tag c s)
-unfolding editRules
-edit-here h tag c s =
+turns-here : (f : Form) (h : Holder) (before : List ℕ) (cs : Changes) (at : Ans (List ℕ)) → Here at → Here (turns f h before cs at)
+unfolding turns
+turns-here f h before [] at k = k
+turns-here f h before ((tag, c) ∷ cs) at k =
     refuses-bind _ _ (here-need _ 19 (listed 19 refl)) λ _ _.
-    refuses-bind _ _ (tags-here h (s .parts)) λ tags _.
-    change-here _ _ tag tags c
+    refuses-bind _ _ k λ tags _.
+    refuses-bind _ _ (change-here f _ tag tags c) λ _ _.
+    turns-here f h (tag ∷ before) cs _ (refuses-ok _ _)
+
+ending-here : (f : Form) (l : Level) (tags : List ℕ) → Here (ending f l tags)
+unfolding ending
+ending-here f set tags = here-need _ 14 (listed 14 refl)
+ending-here f pack tags = ended-here f tags
+
+pub edit-here : (h : Holder) (cs : Changes) (s : Sheet) → Here (editRules h cs s)
+unfolding editRules
+edit-here h cs s =
+    refuses-bind _ _ (turns-here _ h [] cs _ (tags-here h (s .parts))) λ tags _.
+    ending-here _ _ tags

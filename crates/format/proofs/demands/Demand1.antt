@@ -10,23 +10,23 @@ use Rattle.format.specs.Answer.{Ans}
 use Rattle.format.specs.Table.{Form}
 use Rattle.format.specs.Calls.{read, write, normalise}
 use Rattle.format.specs.Rows.{locate}
-use Rattle.format.specs.Edit.{Holder, Change, edit}
+use Rattle.format.specs.Edit.{Holder, Changes, edit}
 use Rattle.format.specs.Room.{leaves}
 use Rattle.format.specs.demands.Demand1.{Numbered, Leaves}
 use Rattle.format.proofs.bounds.Answers.{refuses-ok, refuses-bind, early-answers}
 use Rattle.format.proofs.bounds.Packets.{parse-answers}
 use Rattle.format.proofs.bounds.Sheets.{unsheet-answers, packed-answers, edit-here}
 
-pub numbered : (f : Form) (s : List ℕ) (h : Holder) (tag : ℕ) (c : Change) → Numbered f s h tag c
+pub numbered : (f : Form) (s : List ℕ) (h : Holder) (cs : Changes) → Numbered f s h cs
 unfolding read write normalise locate edit
-numbered f s h tag c = record {
+numbered f s h cs = record {
   read-answers = refuses-bind _ _ (parse-answers f s) λ _ _. refuses-ok _ _;
   write-answers = refuses-bind _ _ (unsheet-answers s) λ t _. packed-answers (length s) _;
   normalise-answers = refuses-bind _ _ (parse-answers f s) λ p _. packed-answers (length s) _;
   locate-answers = refuses-bind _ _ (parse-answers f s) λ _ _. refuses-ok _ _;
   edit-answers =
       refuses-bind _ _ (parse-answers f s) λ p _.
-      refuses-bind _ _ (early-answers 1 (length s) _ (edit-here h tag c _) (omega arith)) λ _ _.
+      refuses-bind _ _ (early-answers 1 (length s) _ (edit-here h cs _) (omega arith)) λ _ _.
       packed-answers (length s) _;
 }
 

@@ -1,68 +1,89 @@
--- What may be asked of a valid sheet is what the edit's rules let through: a removal leaves a valid sheet just where rule 14 does.
-use mathlib.Core.Path.{_≡_, refl, sym, _∙_, subst}
-use Prim.Native.Nat.{ℕ}
-use mathlib.Core.Bool.{true, false, _&&_}
+-- What may be asked of a valid sheet is what the edit's rules let through: the changes are distinct where each may follow those before it,
+-- and the level ends as it must where a valid sheet is left.
+use mathlib.Core.Path.{_≡_, refl, sym, ap, _∙_, subst}
+use Prim.Native.Nat.{ℕ, _≤_}
+use native.Mathlib.Omega.{arith}
+use mathlib.Core.Bool.{true, false, not}
 use mathlib.Core.List.{List, [], _∷_, map}
-use lib.Dec.{eqb}
-use borrow.Author.Tests.{eq-eqb, ne-eqb, eqb-false}
-use Rattle.format.specs.Answer.{ok}
-use Rattle.format.specs.Lists.{has, takeOut}
-use Rattle.format.specs.Table.{Form, embedded, standalone, set, pack, isAlone, nameable, ended}
-use Rattle.format.specs.Sheet.{Part, one, targets, Sheet, tagOfVal, idOfTarget, tagOfPart}
-use Rattle.format.specs.Edit.{Holder, theSet, target, Change, put, remove, levelOf, valWith, inTarget, isTargets, inPart, editParts, editSheet, targetTags, tagsAt, mustStay}
-use Rattle.format.specs.Valid.{Once, Begins, Meets, TargetValid, PartValid, SheetValid}
-use Rattle.format.specs.demands.Demand3.{Allowed}
-use Rattle.format.proofs.words.Answers.{never, no-bool, need-last}
-use Rattle.format.proofs.words.Keys.{has-none}
-use Rattle.format.proofs.words.Changes.{outKey, out-gone}
-use Rattle.format.proofs.words.Firsts.{First, first-all, changed-all, ask-then, keyed}
-use Rattle.format.proofs.edits.Rules.{ChangeOk}
-use Rattle.format.proofs.edits.Results.{applied-keys}
+use lib.ListN.{length}
+use borrow.Author.Tests.{not-true, eq-eqb}
+use Rattle.format.specs.Answer.{Ans, ok, refused}
+use Rattle.format.specs.Lists.{has, askHit, onHit}
+use Rattle.format.specs.Table.{Form, set, pack}
+use Rattle.format.specs.Sheet.{Part, one, targets, Sheet, Target, tagOfVal, idOfTarget, tagOfPart}
+use Rattle.format.specs.Edit.{Holder, theSet, target, Changes, levelOf, valWith, inTarget, isTargets, inPart, editParts, editSheet, targetTags, tagsAt, ending}
+use Rattle.format.specs.Valid.{All, Once, SheetValid}
+use Rattle.format.specs.demands.Demand3.{Asks, Distinct, Allowed}
+use Rattle.format.proofs.words.Answers.{never, no-bool, ok-inj}
+use Rattle.format.proofs.words.Keys.{Fresh, fresh-says, once-fresh}
+use Rattle.format.proofs.words.Firsts.{First, first-changed, first-hits, first-ask, ask-then, keyed}
+use Rattle.format.proofs.edits.Applied.{keysAfter, applied-keys}
+use Rattle.format.proofs.edits.Rules.{Follows, Presents, Turned}
+use Rattle.format.proofs.edits.Levels.{level-valid}
 
--- tag 2 stands once, and first: without it a standalone set begins with another, or is empty
-next-begins : (k : ℕ) (ks : List ℕ) → k ≡ 2 → has k ks ≡ false → Begins standalone ks → ⊥
-next-begins k [] e n b = b
-next-begins k (j ∷ ks) e n b = eqb-false j k (has-none j k ks n .0) (b ∙ sym e)
+-- ---- distinct changes
 
-begins-stays : (f : Form) (tag : ℕ) (ks : List ℕ) → Once ks → Begins f ks → Begins f (outKey tag ks) → isAlone f && eqb tag 2 ≡ false
-unfolding takeOut
-begins-stays embedded tag ks o b a = refl
-begins-stays standalone tag [] o b a = absurd b
-begins-stays standalone tag (k ∷ ks) o b a = ne-eqb tag 2 λ z. next-begins k ks b (o .0) (rw (eq-eqb k tag (b ∙ sym z), takeOut) at a)
+abbrev tagsOf : Changes → List ℕ
+tagsOf cs = map (λ c. c .0) cs
 
--- and 17 stands once in a target
-ends-stays : (f : Form) (tag : ℕ) (ks : List ℕ) → Once ks → ended f (outKey tag ks) ≡ ok tt → isAlone f && eqb tag 17 ≡ false
-unfolding ended
-ends-stays embedded tag ks o e = refl
-ends-stays standalone tag ks o e = ne-eqb tag 17 λ z. no-bool (sym (out-gone 17 ks o) ∙ rw z at (need-last _ 14 tt e))
+follows-fresh : (i : ℕ) (before : List ℕ) (cs : Changes) → Follows (target i) before cs → Fresh before (tagsOf cs)
+follows-fresh i before [] h = tt
+follows-fresh i before ((tag, c) ∷ cs) h = (not-true (has tag before) (h .0), follows-fresh i (tag ∷ before) cs (h .1))
 
--- so a removal that leaves a valid sheet takes out neither
-removal-stays : (h : Holder) (tag : ℕ) (s : Sheet) (tags : List ℕ) → tagsAt h (s .parts) ≡ ok tags → SheetValid s → SheetValid (editSheet h tag remove s)
-    → isAlone (s .form) && eqb tag (mustStay (levelOf h)) ≡ false
-unfolding tagsAt targetTags editSheet editParts inPart inTarget
-removal-stays theSet tag s tags et v w =
-    begins-stays (s .form) tag (map tagOfPart (s .parts)) (v .parts-valid .once) (v .begins)
-    (subst (Begins (s .form)) (applied-keys tagOfPart (λ v. one (valWith set tag v)) tag (λ v. unfold valWith in refl) remove (s .parts)) (w .begins))
-removal-stays (target i) tag s tags et v w = ask-then isTargets (targetTags i) tags (s .parts) et λ r q. go (r .before) (r .it) (r .after) (r .first) q
+fresh-follows : (i : ℕ) (before : List ℕ) (cs : Changes) → Fresh before (tagsOf cs) → Follows (target i) before cs
+fresh-follows i before [] h = tt
+fresh-follows i before ((tag, c) ∷ cs) h = (ap not (h .0), fresh-follows i (tag ∷ before) cs (h .1))
+
+follows-distinct : (h : Holder) (cs : Changes) → Follows h [] cs → Distinct h cs
+follows-distinct theSet [] t = omega arith
+follows-distinct theSet (c ∷ []) t = omega arith
+follows-distinct theSet (c ∷ (d ∷ cs)) t = no-bool (t .1 .0)
+follows-distinct (target i) cs t = fresh-says [] (tagsOf cs) (follows-fresh i [] cs t) .0
+
+pub distinct-follows : (h : Holder) (cs : Changes) → Distinct h cs → Follows h [] cs
+distinct-follows theSet [] t = tt
+distinct-follows theSet (c ∷ []) t = (refl, tt)
+distinct-follows theSet (c ∷ (d ∷ cs)) t = absurd (omega (arith, t))
+distinct-follows (target i) cs t = fresh-follows i [] cs (once-fresh (tagsOf cs) t)
+
+-- ---- the tags of the edited level
+
+in-target-tags : (cs : Changes) (g : Target) → map tagOfVal (inTarget cs g .vals) ≡ keysAfter cs (map tagOfVal (g .vals))
+unfolding inTarget
+in-target-tags cs g = applied-keys tagOfVal (valWith pack) (λ tag v. unfold valWith in refl) cs (g .vals)
+
+in-target-id : (cs : Changes) (g : Target) → inTarget cs g .id ≡ g .id
+unfolding inTarget
+in-target-id cs g = refl
+
+pub tags-after : (h : Holder) (cs : Changes) (ps : List Part) (tags : List ℕ) → tagsAt h ps ≡ ok tags → tagsAt h (editParts h cs ps) ≡ ok (keysAfter cs tags)
+unfolding tagsAt targetTags editParts inPart
+tags-after theSet cs ps tags e =
+    ap ok (applied-keys tagOfPart (λ tag v. one (valWith set tag v)) (λ tag v. unfold valWith in refl) cs ps ∙ ap (keysAfter cs) (ok-inj _ _ e))
+tags-after (target i) cs ps tags e = ask-then isTargets (targetTags i) tags ps e λ r q. go (r .before) (r .it) (r .after) (r .first) q
   where
-    go : (before : List Part) (x : Part) (after : List Part) → First isTargets (s .parts) before x after → targetTags i x ≡ ok tags
-        → isAlone (s .form) && eqb tag 17 ≡ false
-    go before (one x) after a q = never 18 0 tags q
-    go before (targets ts) after a q =
+    in-series : (ts : List Target) → targetTags i (targets ts) ≡ ok tags → targetTags i (inPart i cs (targets ts)) ≡ ok (keysAfter cs tags)
+    in-series ts q =
         ask-then (keyed idOfTarget i) (λ g. ok (map tagOfVal (g .vals))) tags ts q λ r z.
-        let old : TargetValid (s .form) (r .it) = first-all (TargetValid (s .form)) (r .first) (first-all (PartValid (s .form)) a (v .parts-valid .each) .1 .each) in
-        let new : TargetValid (s .form) (inTarget tag remove (r .it))
-        = changed-all (TargetValid (s .form)) (inTarget tag remove) (r .first) (changed-all (PartValid (s .form)) (inPart i tag remove) a (w .parts-valid .each) .1 .each) in
-        ends-stays (s .form) tag (map tagOfVal (r .it .vals)) (old .vals-valid .once)
-        (subst (λ ks. ended (s .form) ks ≡ ok tt) (applied-keys tagOfVal (valWith pack tag) tag (λ v. unfold valWith in refl) remove (r .it .vals)) (new .ends))
+        let hit : keyed idOfTarget i (inTarget cs (r .it)) ≡ true = ap (λ k. keyed (λ n. n) i k) (in-target-id cs (r .it)) ∙ first-hits (r .first) in
+        first-ask (λ g. ok (map tagOfVal (g .vals))) (first-changed (inTarget cs) hit (r .first))
+        ∙ ap ok (in-target-tags cs (r .it) ∙ ap (keysAfter cs) (ok-inj _ _ z))
 
-module _ (f : Form) (h : Holder) (tag : ℕ) where
-  pub allowed-says : (c : Change) (s : Sheet) → s .form ≡ f → nameable (levelOf h) tag ≡ true → ChangeOk (s .form) (levelOf h) tag c → SheetValid (editSheet h tag c s)
-      → Allowed f h tag c s
-  allowed-says (put v) s e n k w = subst (λ g. Meets (levelOf h) g tag v) e k
-  allowed-says remove s e n k w = (n, w)
+    go : (before : List Part) (x : Part) (after : List Part) → First isTargets ps before x after → targetTags i x ≡ ok tags
+        → askHit isTargets (targetTags i) (onHit isTargets (inPart i cs) ps) ≡ ok (keysAfter cs tags)
+    go before (one x) after a q = never 18 0 tags q
+    go before (targets ts) after a q = first-ask (targetTags i) (first-changed (inPart i cs) refl a) ∙ in-series ts q
 
-  pub allowed-gives : (c : Change) (s : Sheet) (tags : List ℕ) → s .form ≡ f → tagsAt h (s .parts) ≡ ok tags → SheetValid s → Allowed f h tag c s
-      → (nameable (levelOf h) tag ≡ true) × ChangeOk (s .form) (levelOf h) tag c
-  allowed-gives (put v) s tags e et w a = (a .named, subst (λ g. Meets (levelOf h) g tag v) (sym e) a)
-  allowed-gives remove s tags e et w a = (a .0, removal-stays h tag s tags et w (a .1))
+-- ---- the two ways
+
+module _ (f : Form) (h : Holder) (cs : Changes) (s : Sheet) (e : s .form ≡ f) (tags : List ℕ) where
+  pub allowed-says : Turned (s .form) h [] cs tags → SheetValid (editSheet h cs s) → Allowed f h cs s
+  allowed-says t w = record { each = subst (λ g. All (Asks g (levelOf h)) cs) e (t .asked); distinct = follows-distinct h cs (t .follow); left = w }
+
+  pub allowed-gives : tagsAt h (s .parts) ≡ ok tags → Presents cs tags → Allowed f h cs s
+      → Turned (s .form) h [] cs tags × (ending (s .form) (levelOf h) (keysAfter cs tags) ≡ ok tt)
+  unfolding editSheet
+  allowed-gives et pr a = (
+    record { asked = subst (λ g. All (Asks g (levelOf h)) cs) (sym e) (a .each); follow = distinct-follows h cs (a .distinct); present = pr },
+    level-valid h (editSheet h cs s) (keysAfter cs tags) (a .left) (tags-after h cs (s .parts) tags et) .1,
+  )

@@ -5,7 +5,7 @@ use Prim.Native.Nat.{ℕ, _+_, _-_}
 use mathlib.Core.Bool.{true, false}
 use mathlib.Core.List.{List, [], _∷_, _++_, map}
 use lib.ListN.{replicate, length}
-use lib.Dec.{leb}
+use lib.Dec.{leb, eqb}
 use Rattle.format.specs.Answer.{Ans, ok, refused}
 use Rattle.format.specs.Table.{embedded, standalone}
 use Rattle.format.specs.Packet.{theKey}
@@ -22,9 +22,13 @@ said (refused n p) = (n, p)
 abbrev inSet : ℕ → List ℕ → List ℕ
 inSet tag v = tag ∷ elim (leb (length v) 127) [ true ↦ length v ∷ v | false ↦ 0x81 ∷ length v ∷ v ]
 
+-- 19 and 20 stand together: behind the one, the other
+abbrev beside : ℕ → List ℕ
+beside tag = elim (eqb tag 19) [ true ↦ 20 ∷ 1 ∷ 1 ∷ [] | false ↦ elim (eqb tag 20) [ true ↦ 19 ∷ 1 ∷ 1 ∷ [] | false ↦ [] ] ]
+
 -- in a pack with the id 7: at 4
 abbrev inPack : ℕ → List ℕ → List ℕ
-inPack tag v = 0x65 ∷ (4 + length v) ∷ (3 + length v) ∷ 7 ∷ inSet tag v
+inPack tag v = let b = beside tag in 0x65 ∷ (4 + length v + length b) ∷ (3 + length v + length b) ∷ 7 ∷ inSet tag v ++ b
 
 -- a standalone set, behind its time stamp: at 27
 abbrev alone : List ℕ → List ℕ

@@ -9,7 +9,7 @@ use Rattle.format.specs.Read.{headOf, item, packHead, onePack, deepen, e
 use Rattle.format.specs.Sheet.{valOf, targetOf, partOf, content, valBytes, targetBytes, partBytes, sheetBytes, field, valueAt, targetAt, seriesAt, partAt, sheetLimit, unsheet}
 use Rattle.format.specs.Calls.{itemOf, packWith, seriesWith, packOf, entryOf, packetOf, packed, read, write, normalise}
 use Rattle.format.specs.Rows.{itemRow, itemRows, packRows, entryRows, sealItem, sealed, rowsOf, locate}
-use Rattle.format.specs.Edit.{applied, valWith, inTarget, inPart, editParts, editSheet, targetTags, tagsAt, changeRules, editRules, inPack, inEntry, editEntries, editPacket, edit}
+use Rattle.format.specs.Edit.{changed, applied, valWith, inTarget, inPart, editParts, editSheet, targetTags, tagsAt, changeRules, turns, ending, editRules, inPack, inEntry, editEntries, editPacket, edit}
 use Rattle.format.specs.Show.{numberIn, seriesNumber, numberOf, findRow, showable, eitherRow, showIn, show}
 use Rattle.format.specs.Room.{leaves, oneNumber}
 
@@ -24,7 +24,7 @@ unfolding _>>=_ need after
     valOf targetOf partOf content valBytes targetBytes partBytes sheetBytes field valueAt targetAt seriesAt partAt sheetLimit unsheet
     itemOf packWith seriesWith packOf entryOf packetOf packed read write normalise
     itemRow itemRows packRows entryRows sealItem sealed rowsOf locate
-    applied valWith inTarget inPart editParts editSheet targetTags tagsAt changeRules editRules inPack inEntry editEntries editPacket edit
+    changed applied valWith inTarget inPart editParts editSheet targetTags tagsAt changeRules turns ending editRules inPack inEntry editEntries editPacket edit
     numberIn seriesNumber numberOf findRow showable eitherRow showIn show
     leaves oneNumber
 opened = tt

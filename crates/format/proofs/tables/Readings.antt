@@ -8,7 +8,7 @@ use Rattle.format.specs.Table.{Form, embedded, standalone}
 use Rattle.format.specs.Packet.{theKey}
 use Rattle.format.specs.Calls.{read, write}
 use Rattle.format.specs.Rows.{row, locate}
-use Rattle.format.specs.Edit.{Holder, theSet, target, Change, put, remove, edit}
+use Rattle.format.specs.Edit.{Holder, theSet, target, Change, put, remove, Changes, edit}
 use Rattle.format.specs.Show.{Shown, shown, nothing, reviewer, detector, show}
 use Rattle.format.proofs.tables.Open.{opened}
 
@@ -71,6 +71,13 @@ packets =
     ∷ (S (20 ∷ T ++ (0x65 ∷ 4 ∷ 1 ∷ 7 ∷ 1 ∷ 7 ∷ 1 ∷ 2 ∷ 0x7B ∷ 0xBC ∷ [])), (14, 29))
     ∷ (S (14 ∷ T ++ (0x65 ∷ 2 ∷ 1 ∷ 7 ∷ [])), (14, 29))
     ∷ (S (23 ∷ T ++ (0x65 ∷ 7 ∷ 6 ∷ 7 ∷ 10 ∷ 3 ∷ 1 ∷ 2 ∷ 3 ∷ 1 ∷ 2 ∷ 0 ∷ 0 ∷ [])), (13, 31))
+    -- a pack's 20 before its 14 and before the next pack, after its items' own
+    ∷ (E (0x65 ∷ 5 ∷ 4 ∷ 7 ∷ 19 ∷ 1 ∷ 5 ∷ []), (20, 2))
+    ∷ (E (0x65 ∷ 5 ∷ 4 ∷ 7 ∷ 20 ∷ 1 ∷ 5 ∷ []), (20, 2))
+    ∷ (E (0x65 ∷ 7 ∷ 4 ∷ 7 ∷ 19 ∷ 1 ∷ 5 ∷ 1 ∷ 7 ∷ []), (20, 2))
+    ∷ (E (0x65 ∷ 5 ∷ 4 ∷ 7 ∷ 19 ∷ 1 ∷ 0 ∷ []), (12, 4))
+    ∷ (E (0x65 ∷ 8 ∷ 7 ∷ 7 ∷ 20 ∷ 1 ∷ 5 ∷ 19 ∷ 1 ∷ 5 ∷ []), (0, 0))
+    ∷ (S (21 ∷ T ++ (0x65 ∷ 5 ∷ 4 ∷ 7 ∷ 20 ∷ 1 ∷ 5 ∷ 1 ∷ 2 ∷ 0 ∷ 0 ∷ [])), (20, 29))
     -- the limit, the key and the outer length
     ∷ ((standalone, replicate 8193 0), (1, 0))
     ∷ ((standalone, 6 ∷ 0x0E ∷ []), (2, 0))
@@ -117,6 +124,10 @@ sheets =
     ∷ (begun ++ (0x54 ∷ []), (14, 19))
     ∷ (begun ++ (0x54 ∷ 0x49 ∷ []), (17, 29))
     ∷ (begun, (14, 19))
+    -- so does its 20, and that before its 14
+    ∷ (begun ++ (TI 19 (5 ∷ []) ++ (0x58 ∷ 0x58 ∷ [])), (20, 19))
+    ∷ (PK 0 ++ (TS ++ (TG 1 ++ TI 20 (5 ∷ []))), (20, 5))
+    ∷ (PK 0 ++ (TS ++ (TG 1 ++ (TI 20 (5 ∷ []) ++ (TI 19 (5 ∷ []))))), (0, 0))
     -- on a TS
     ∷ (PK 1 ++ TS, (17, 3))
     ∷ (PK 1 ++ (TS ++ TG 1), (14, 3))
@@ -143,21 +154,27 @@ sheets-so : map (λ c. said (write (c .0))) sheets ≡ map (λ c. c .1) sheets
 unfolding sheets opened
 sheets-so = refl
 
--- ---- edits: form, packet, holder, tag, change, and the answer
+-- ---- edits: form, packet, holder, changes, and the answer
 
 record Edited : Type 0 where
   packet : Form × List ℕ
   holder : Holder
-  tag : ℕ
-  change : Change
+  changes : Changes
   answer : Ans (List ℕ)
 
+-- one change, and two to a target
 abbrev edited : Form × List ℕ → Holder → ℕ → Change → Ans (List ℕ) → Edited
-edited p h tag c a = record { packet = p; holder = h; tag = tag; change = c; answer = a }
+edited p h tag c a = record { packet = p; holder = h; changes = (tag, c) ∷ []; answer = a }
 
--- a target alone; a sealed packet; one with a target and its location
+abbrev both : Form × List ℕ → Holder → ℕ × Change → ℕ × Change → Ans (List ℕ) → Edited
+both p h c d a = record { packet = p; holder = h; changes = c ∷ d ∷ []; answer = a }
+
+-- a target alone, and with its centroid; a sealed packet; one with a target and its location
 abbrev lone : List ℕ
 lone = 0x65 ∷ 2 ∷ 1 ∷ 7 ∷ []
+
+abbrev pair : List ℕ
+pair = 0x65 ∷ 8 ∷ 7 ∷ 7 ∷ 19 ∷ 1 ∷ 5 ∷ 20 ∷ 1 ∷ 5 ∷ []
 
 abbrev sealed : Form × List ℕ
 sealed = S (14 ∷ T ++ (1 ∷ 2 ∷ 0x63 ∷ 0x55 ∷ []))
@@ -197,12 +214,32 @@ edits =
     ∷ edited sealed theSet 2 remove (refused 14 0)
     ∷ edited placed (target 7) 17 remove (refused 14 0)
     ∷ edited sealed theSet 5 (put (7 ∷ [])) (ok (S (17 ∷ T ++ (5 ∷ 1 ∷ 7 ∷ 1 ∷ 2 ∷ 102 ∷ 98 ∷ [])) .1))
-    ∷ edited placed (target 7) 19 (put (0 ∷ 5 ∷ [])) (ok (S (33 ∷ T ++ (0x65 ∷ 17 ∷ 16 ∷ 7 ∷ place ++ (19 ∷ 1 ∷ 5 ∷ 1 ∷ 2 ∷ 157 ∷ 249 ∷ []))) .1))
+    ∷ edited placed (target 7) 4 (put (5 ∷ [])) (ok (S (33 ∷ T ++ (0x65 ∷ 17 ∷ 16 ∷ 7 ∷ place ++ (4 ∷ 1 ∷ 5 ∷ 1 ∷ 2 ∷ 157 ∷ 234 ∷ []))) .1))
+    -- a row without a column, put or left
+    ∷ edited placed (target 7) 19 (put (0 ∷ 5 ∷ [])) (refused 20 0)
+    ∷ edited (E pair) (target 7) 20 remove (refused 20 0)
+    ∷ edited (E pair) (target 7) 20 (put (6 ∷ [])) (ok (0x65 ∷ 8 ∷ 7 ∷ 7 ∷ 19 ∷ 1 ∷ 5 ∷ 20 ∷ 1 ∷ 6 ∷ []))
+    -- two changes, in the order given
+    ∷ both (E lone) (target 7) (19, put (0 ∷ 5 ∷ [])) (20, put (5 ∷ [])) (ok pair)
+    ∷ both (E lone) (target 7) (20, put (5 ∷ [])) (19, put (5 ∷ [])) (ok (0x65 ∷ 8 ∷ 7 ∷ 7 ∷ 20 ∷ 1 ∷ 5 ∷ 19 ∷ 1 ∷ 5 ∷ []))
+    ∷ both (E pair) (target 7) (20, remove) (19, remove) (ok lone)
+    ∷ both (E pair) (target 7) (20, remove) (4, put (1 ∷ [])) (refused 20 0)
+    -- each in its turn: the same tag and the set's second change are 19; the first change's numbers come first
+    ∷ both (E lone) (target 7) (19, put (5 ∷ [])) (19, put (6 ∷ [])) (refused 19 0)
+    ∷ both (E lone) theSet (5, put (5 ∷ [])) (6, put (6 ∷ [])) (refused 19 0)
+    ∷ both (E lone) theSet (5, remove) (0, remove) (refused 18 0)
+    ∷ both (E lone) (target 7) (4, put (1 ∷ [])) (5, remove) (refused 18 0)
+    -- a removal's 14 waits for both changes, and comes after 20
+    ∷ both placed (target 7) (17, remove) (19, put (0 ∷ 0 ∷ 0 ∷ 0 ∷ 1 ∷ [])) (refused 11 0)
+    ∷ both placed (target 7) (17, remove) (19, put (1 ∷ [])) (refused 20 0)
+    ∷ both placed (target 7) (17, remove) (4, put (1 ∷ [])) (refused 14 0)
+    -- a lone row is the packet's own 20: no edit can mend it
+    ∷ edited (E (0x65 ∷ 5 ∷ 4 ∷ 7 ∷ 19 ∷ 1 ∷ 5 ∷ [])) (target 7) 20 (put (5 ∷ [])) (refused 20 2)
     -- 1 measures the packet that results, its kept long lengths with it
     ∷ edited (E (5 ∷ 0x84 ∷ 0 ∷ 0 ∷ 0 ∷ 1 ∷ 2 ∷ 13 ∷ 0x82 ∷ 0x1F ∷ 0xF5 ∷ replicate 8181 0)) theSet 6 (put (3 ∷ [])) (refused 1 0)
     ∷ []
 
-edits-so : map (λ c. edit (c .packet .0) (c .holder) (c .tag) (c .change) (c .packet .1)) edits ≡ map (λ c. c .answer) edits
+edits-so : map (λ c. edit (c .packet .0) (c .holder) (c .changes) (c .packet .1)) edits ≡ map (λ c. c .answer) edits
 unfolding edits opened
 edits-so = refl
 
@@ -215,7 +252,7 @@ rows-so = refl
 shows : List ((Form × List ℕ × List ℕ × Holder × ℕ) × Shown)
 shows =
     ((embedded, 5 ∷ 1 ∷ 2 ∷ [], 5 ∷ 2 ∷ 0 ∷ 3 ∷ [], theSet, 5), shown reviewer 2 1)
-    ∷ ((embedded, 6 ∷ 1 ∷ 2 ∷ [], 0x65 ∷ 5 ∷ 4 ∷ 7 ∷ 19 ∷ 1 ∷ 9 ∷ [], target 7, 19), shown detector 6 1)
+    ∷ ((embedded, 6 ∷ 1 ∷ 2 ∷ [], 0x65 ∷ 5 ∷ 4 ∷ 7 ∷ 4 ∷ 1 ∷ 9 ∷ [], target 7, 4), shown detector 6 1)
     ∷ ((embedded, lone, lone, theSet, 101), nothing)
     ∷ ((embedded, lone, lone, target 7, 0), nothing)
     ∷ ((embedded, lone, lone, target 7, 4), nothing)

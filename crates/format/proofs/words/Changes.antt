@@ -1,14 +1,15 @@
 -- Laws of one change to a list, for anything that the list holds.
-use mathlib.Core.Path.{_≡_, refl, ap}
+use mathlib.Core.Path.{_≡_, refl, sym, ap, _∙_}
 use Prim.Native.Nat.{ℕ, _≤_}
 use native.Mathlib.Omega.{arith}
 use mathlib.Core.Bool.{Bool, true, false}
 use mathlib.Core.List.{List, [], _∷_, map}
 use lib.ListN.{length, length-append}
 use lib.Dec.{eqb}
-use borrow.Author.Tests.{eqb-true}
+use borrow.Author.Tests.{eqb-true, eq-eqb}
 use Rattle.format.specs.Answer.{Ans}
 use Rattle.format.specs.Lists.{none?, has, flatAll, putIn, takeOut, onHit, askHit}
+use Rattle.format.specs.Edit.{Change, put, remove, changed}
 use Rattle.format.specs.Valid.{All, Once}
 use Rattle.format.proofs.words.Answers.{no-bool, or-mono}
 use Rattle.format.proofs.words.Keys.{flip, has-not, has-none}
@@ -52,6 +53,17 @@ module _ {X Y : Type 0} (g : X → Y) (hit : X → Bool) (hit′ : Y → Bool) (
       go ih true z = rw (same y, z, askHit)
       go ih false z = rw (same y, z, askHit) ih
 
+-- ---- a change after a change in the same place
+
+pub on-on : {X : Type 0} (hit : X → Bool) (f g k : X → X) → ((x : X) → hit (f x) ≡ hit x) → ((x : X) → g (f x) ≡ k x) → (xs : List X) → onHit hit g (onHit hit f xs) ≡ onHit hit k xs
+unfolding onHit
+on-on hit f g k same e [] = refl
+on-on hit f g k same e (y ∷ ys) = go (on-on hit f g k same e ys) (hit y) refl
+  where
+    go : onHit hit g (onHit hit f ys) ≡ onHit hit k ys → (b : Bool) → hit y ≡ b → onHit hit g (onHit hit f (y ∷ ys)) ≡ onHit hit k (y ∷ ys)
+    go ih true z = rw (z, onHit, same y, z, onHit) (ap (λ x. x ∷ ys) (e y))
+    go ih false z = rw (z, onHit, z, onHit) (ap (λ r. y ∷ r) ih)
+
 -- ---- a change and what holds of each
 
 module _ {X : Type 0} (P : X → Type 0) (hit : X → Bool) where
@@ -72,21 +84,6 @@ module _ {X : Type 0} (P : X → Type 0) (hit : X → Bool) where
       go : All P (takeOut hit xs) → (b : Bool) → hit x ≡ b → All P (takeOut hit (x ∷ xs))
       go ih true z = rw (z, takeOut) (h .1)
       go ih false z = rw (z, takeOut) (h .0, ih)
-
-  -- a change in place, within n bytes
-  pub all-on : (flat : X → List ℕ) (n : ℕ) (f : X → X) → ((x : X) → P x → length (flat (f x)) ≤ n → P (f x))
-      → (xs : List X) → length (flatAll flat (onHit hit f xs)) ≤ n → All P xs → All P (onHit hit f xs)
-  unfolding onHit flatAll
-  all-on flat n f step [] b h = tt
-  all-on flat n f step (x ∷ xs) b h = go (λ b′. all-on flat n f step xs b′ (h .1)) (hit x) refl
-    where
-      go : (length (flatAll flat (onHit hit f xs)) ≤ n → All P (onHit hit f xs)) → (c : Bool) → hit x ≡ c → All P (onHit hit f (x ∷ xs))
-      go ih true z =
-          let b₁ = rw length-append at (rw (z, onHit) at b) in
-          rw (z, onHit) (step x (h .0) (omega (arith, b₁)), h .1)
-      go ih false z =
-          let b₁ = rw length-append at (rw (z, onHit) at b) in
-          rw (z, onHit) (h .0, ih (omega (arith, b₁)))
 
 -- ---- a change and the keys
 
@@ -116,7 +113,7 @@ module _ (t : ℕ) where
       go ih true z = rw (z, putIn) (has-not t j ks n (has-none k j ks h .1))
       go ih false z = rw (z, putIn) (has-not k j (putKey ks) (has-none k j ks h .0) ih)
 
-  pub once-put : (ks : List ℕ) → Once ks → Once (putKey ks)
+  once-put : (ks : List ℕ) → Once ks → Once (putKey ks)
   unfolding putIn
   once-put [] h = (unfold has in refl, tt)
   once-put (k ∷ ks) h = go (once-put ks (h .1)) (eqb k t) refl
@@ -134,7 +131,7 @@ module _ (t : ℕ) where
       go ih true z = rw (z, takeOut) (has-none k j ks h .1)
       go ih false z = rw (z, takeOut) (has-not k j (outKey ks) (has-none k j ks h .0) ih)
 
-  pub once-out : (ks : List ℕ) → Once ks → Once (outKey ks)
+  once-out : (ks : List ℕ) → Once ks → Once (outKey ks)
   unfolding takeOut
   once-out [] h = tt
   once-out (k ∷ ks) h = go (once-out ks (h .1)) (eqb k t) refl
@@ -145,7 +142,7 @@ module _ (t : ℕ) where
 
   -- ---- a key that stands goes on to stand
 
-  pub has-put : (j : ℕ) (ks : List ℕ) → has j ks ≡ true → has j (putKey ks) ≡ true
+  has-put : (j : ℕ) (ks : List ℕ) → has j ks ≡ true → has j (putKey ks) ≡ true
   unfolding putIn has
   has-put j [] e = no-bool e
   has-put j (k ∷ ks) e = go (has-put j ks) (eqb k t) refl
@@ -154,7 +151,7 @@ module _ (t : ℕ) where
       go ih true z = rw (z, putIn) (rw (eqb-true k t z) at e)
       go ih false z = rw (z, putIn) (or-mono (eqb k j) (has j ks) (has j (putKey ks)) ih e)
 
-  pub has-out : (j : ℕ) → eqb t j ≡ false → (ks : List ℕ) → has j ks ≡ true → has j (outKey ks) ≡ true
+  has-out : (j : ℕ) → eqb t j ≡ false → (ks : List ℕ) → has j ks ≡ true → has j (outKey ks) ≡ true
   unfolding takeOut has
   has-out j n [] e = e
   has-out j n (k ∷ ks) e = go (has-out j n ks) (eqb k t) refl
@@ -164,7 +161,7 @@ module _ (t : ℕ) where
       go ih false z = rw (z, takeOut) (or-mono (eqb k j) (has j ks) (has j (outKey ks)) ih e)
 
   -- and one taken out of keys that stand once is gone
-  pub out-gone : (ks : List ℕ) → Once ks → has t (outKey ks) ≡ false
+  out-gone : (ks : List ℕ) → Once ks → has t (outKey ks) ≡ false
   unfolding takeOut
   out-gone [] o = unfold has in refl
   out-gone (k ∷ ks) o = go (out-gone ks (o .1)) (eqb k t) refl
@@ -173,22 +170,52 @@ module _ (t : ℕ) where
       go ih true z = rw (z, takeOut) (rw (eqb-true k t z) at (o .0))
       go ih false z = rw (z, takeOut) (has-not k t (outKey ks) z ih)
 
--- ---- sizes and emptiness
+  put-stands : (ks : List ℕ) → has t (putKey ks) ≡ true
+  unfolding putIn has
+  put-stands [] = rw (eq-eqb t t refl)
+  put-stands (k ∷ ks) = go (put-stands ks) (eqb k t) refl
+    where
+      go : has t (putKey ks) ≡ true → (b : Bool) → eqb k t ≡ b → has t (putKey (k ∷ ks)) ≡ true
+      go ih true z = rw (z, putIn, eq-eqb t t refl)
+      go ih false z = rw (z, putIn) (rw z ih)
 
-pub size-put : {X : Type 0} (flat : X → List ℕ) (hit : X → Bool) (y : X) (xs : List X) → length (flat y) ≤ length (flatAll flat (putIn hit y xs))
-unfolding putIn flatAll
-size-put flat hit y [] = simp length-append (omega arith)
-size-put flat hit y (x ∷ xs) = go (size-put flat hit y xs) (hit x) refl
-  where
-    go : length (flat y) ≤ length (flatAll flat (putIn hit y xs)) → (b : Bool) → hit x ≡ b → length (flat y) ≤ length (flatAll flat (putIn hit y (x ∷ xs)))
-    go ih true z = rw (z, putIn) (simp length-append (omega arith))
-    go ih false z = rw (z, putIn) (simp length-append (omega arith))
+-- ---- the keys of a level after a change
 
-pub none-on : {X : Type 0} (hit : X → Bool) (f : X → X) (xs : List X) → none? (onHit hit f xs) ≡ none? xs
-unfolding onHit
-none-on hit f [] = refl
-none-on hit f (x ∷ xs) = go (hit x) refl
+abbrev pub changedKeys : ℕ → Change → List ℕ → List ℕ
+changedKeys tag c ks = changed (λ k. k) (λ t v. t) tag c ks
+
+pub once-changed : (tag : ℕ) (c : Change) (ks : List ℕ) → Once ks → Once (changedKeys tag c ks)
+unfolding changed
+once-changed tag (put v) ks h = once-put tag ks h
+once-changed tag remove ks h = once-out tag ks h
+
+abbrev pub isPut : Change → Bool
+isPut (put v) = true
+isPut remove = false
+
+-- another key stands if it stood
+pub has-other : (tag : ℕ) (c : Change) (k : ℕ) (ks : List ℕ) → eqb tag k ≡ false → has k (changedKeys tag c ks) ≡ has k ks
+unfolding changed
+has-other tag (put v) k ks n = go (has k ks) refl
   where
-    go : (b : Bool) → hit x ≡ b → none? (onHit hit f (x ∷ xs)) ≡ false
-    go true z = rw (z, onHit)
-    go false z = rw (z, onHit)
+    go : (b : Bool) → has k ks ≡ b → has k (putKey tag ks) ≡ has k ks
+    go true z = has-put tag k ks z ∙ sym z
+    go false z = put-not tag k n ks z ∙ sym z
+has-other tag remove k ks n = go (has k ks) refl
+  where
+    go : (b : Bool) → has k ks ≡ b → has k (outKey tag ks) ≡ has k ks
+    go true z = has-out tag k n ks z ∙ sym z
+    go false z = out-not tag k ks z ∙ sym z
+
+-- the key itself, if it was put
+has-own : (tag : ℕ) (c : Change) (ks : List ℕ) → Once ks → has tag (changedKeys tag c ks) ≡ isPut c
+unfolding changed
+has-own tag (put v) ks o = put-stands tag ks
+has-own tag remove ks o = out-gone tag ks o
+
+pub has-changed : (tag : ℕ) (c : Change) (k : ℕ) (ks : List ℕ) → Once ks → has k (changedKeys tag c ks) ≡ elim (eqb tag k) [ true ↦ isPut c | false ↦ has k ks ]
+has-changed tag c k ks o = go (eqb tag k) refl
+  where
+    go : (b : Bool) → eqb tag k ≡ b → has k (changedKeys tag c ks) ≡ elim b [ true ↦ isPut c | false ↦ has k ks ]
+    go true z = ap (λ j. has j (changedKeys tag c ks)) (sym (eqb-true tag k z)) ∙ has-own tag c ks o
+    go false z = has-other tag c k ks z

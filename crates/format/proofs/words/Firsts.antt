@@ -45,10 +45,11 @@ module _ {X : Type 0} {hit : X → Bool} where
   first-on f (here z) = rw (z, onHit)
   first-on f (there {y = y} z r) = rw (z, onHit) (ap (λ l. y ∷ l) (first-on f r))
 
-  pub changed-all : (P : X → Type 0) (f : X → X) {xs before after : List X} {x : X} → First hit xs before x after → All P (onHit hit f xs) → P (f x)
+  -- what it is changed to is the first hit, if it is one
+  pub first-changed : (f : X → X) {xs before after : List X} {x : X} → hit (f x) ≡ true → First hit xs before x after → First hit (onHit hit f xs) before (f x) after
   unfolding onHit
-  changed-all P f (here z) h = (rw (z, onHit) at h) .0
-  changed-all P f (there z r) h = changed-all P f r ((rw (z, onHit) at h) .1)
+  first-changed f e (here z) = rw (z, onHit) (here e)
+  first-changed f e (there z r) = rw (z, onHit) (there z (first-changed f e r))
 
   pub first-ask : {A : Type 0} (f : X → Ans A) {xs before after : List X} {x : X} → First hit xs before x after → askHit hit f xs ≡ f x
   unfolding askHit

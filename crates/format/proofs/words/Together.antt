@@ -1,9 +1,10 @@
 -- Things that stand together, mapped.
-use mathlib.Core.Path.{_≡_, refl, sym, subst}
+use mathlib.Core.Path.{_≡_, refl, sym, ap, subst}
 use Prim.Native.Nat.{ℕ, _+_, _*_, _≤_}
 use native.Mathlib.Omega.{arith}
 use native.Mathlib.Nat.{mul-add}
-use mathlib.Core.List.{List, [], _∷_, map}
+use mathlib.Core.Bool.{false}
+use mathlib.Core.List.{List, [], _∷_, _++_, map}
 use lib.ListN.{length, length-append}
 use Rattle.format.specs.Lists.{none?, flatAll}
 use Rattle.format.specs.Valid.{All, Once, Together}
@@ -28,6 +29,30 @@ together-map g key key′ P Q e k xs h = record { once = subst Once (sym (map-ke
 pub map-back : {X Y : Type 0} (g : X → Y) (g′ : Y → X) (P : X → Type 0) → ((x : X) → P x → g′ (g x) ≡ x) → (xs : List X) → All P xs → map g′ (map g xs) ≡ xs
 map-back g g′ P e [] h = refl
 map-back g g′ P e (x ∷ xs) h = rw (e x (h .0), map-back g g′ P e xs (h .1))
+
+-- ---- one of them exchanged
+
+module _ {X : Type 0} (key : X → ℕ) (P : X → Type 0) (x y : X) (after : List X) where
+  keys-exchanged : key y ≡ key x → (before : List X) → map key (before ++ (y ∷ after)) ≡ map key (before ++ (x ∷ after))
+  keys-exchanged e [] = rw e
+  keys-exchanged e (z ∷ before) = ap (λ r. key z ∷ r) (keys-exchanged e before)
+
+  all-exchanged : P y → (before : List X) → All P (before ++ (x ∷ after)) → All P (before ++ (y ∷ after))
+  all-exchanged p [] h = (p, h .1)
+  all-exchanged p (z ∷ before) h = (h .0, all-exchanged p before (h .1))
+
+  pub together-exchanged : key y ≡ key x → P y → (before : List X) → Together key P (before ++ (x ∷ after)) → Together key P (before ++ (y ∷ after))
+  together-exchanged e p before h = record { once = subst Once (sym (keys-exchanged e before)) (h .once); each = all-exchanged p before (h .each) }
+
+pub none-mid : {X : Type 0} (before : List X) (x : X) (after : List X) → none? (before ++ (x ∷ after)) ≡ false
+none-mid [] x after = refl
+none-mid (y ∷ before) x after = refl
+
+-- no more bytes than all together
+pub mid-less : {X : Type 0} (flat : X → List ℕ) (before : List X) (x : X) (after : List X) → length (flat x) ≤ length (flatAll flat (before ++ (x ∷ after)))
+unfolding flatAll
+mid-less flat [] x after = simp length-append (omega arith)
+mid-less flat (y ∷ before) x after = let h = mid-less flat before x after in simp length-append (omega arith)
 
 -- at most k times as many bytes
 pub flat-less : {X Y : Type 0} (g : X → Y) (flat : X → List ℕ) (flat′ : Y → List ℕ) (k : ℕ) (P : X → Type 0)

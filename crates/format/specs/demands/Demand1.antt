@@ -8,7 +8,7 @@ use Rattle.format.specs.Answer.{Ans, ok, refused}
 use Rattle.format.specs.Table.{Form}
 use Rattle.format.specs.Calls.{read, write, normalise}
 use Rattle.format.specs.Rows.{locate}
-use Rattle.format.specs.Edit.{Holder, Change, edit}
+use Rattle.format.specs.Edit.{Holder, Changes, edit}
 use Rattle.format.specs.Room.{leaves}
 
 -- whatever number and place a refusal has, P holds of them
@@ -17,18 +17,18 @@ pub record Refuses {A : Type 0} (P : ℕ → ℕ → Type 0) (a : Ans A) : Type 
 
 -- a number of the table, but for 16, which is about the room lent
 abbrev pub Listed : ℕ → Type 0
-Listed n = (1 ≤ n) × (n ≤ 19) × (n ≡ 16 → ⊥)
+Listed n = (1 ≤ n) × (n ≤ 20) × (n ≡ 16 → ⊥)
 
 -- numbers and places of an answer to an input of so many bytes
 abbrev pub Answers : {A : Type 0} → ℕ → Ans A → Type 0
 Answers size a = Refuses (λ n p. Listed n × (p ≤ size)) a
 
-pub record Numbered (f : Form) (s : List ℕ) (h : Holder) (tag : ℕ) (c : Change) : Type 0 where
+pub record Numbered (f : Form) (s : List ℕ) (h : Holder) (cs : Changes) : Type 0 where
   pub read-answers : Answers (length s) (read f s)
   pub write-answers : Answers (length s) (write s)
   pub normalise-answers : Answers (length s) (normalise f s)
   pub locate-answers : Answers (length s) (locate f s)
-  pub edit-answers : Answers (length s) (edit f h tag c s)
+  pub edit-answers : Answers (length s) (edit f h cs s)
 
 pub record Leaves {A : Type 0} (lent : List A) (a : Ans (List A)) : Type 0 where
   -- a refusal changes nothing that was lent

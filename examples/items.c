@@ -87,7 +87,9 @@ static const char *const refusals[] = {
     "the room for the answer is too short",
     "not a sheet",
     "there is no such target, or no such item to remove",
-    "an edit may not name this tag: the set's 1 and 101, and 0 and those above 16,383",
+    ("an edit may not name this tag: the set's 1 and 101, and 0 and those above 16,383; "
+     "nor make two changes to the set, or to one item"),
+    "a centroid has a row without a column, or a column without a row: tags 19 and 20 stand together",
 };
 
 void words_clear(struct words *words)

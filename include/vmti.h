@@ -6,13 +6,14 @@
  *   embedded     only the value, as ST 0601 carries it in Item 74
  *   standalone   the 16-byte key, a BER length, and exactly that many bytes
  *
- * Four calls:
+ * Five calls:
  *
  *   vmti_read        a packet to its sheet, a row of plain records
  *   vmti_write       a sheet to its packet
  *   vmti_normalise   a packet to its normal form, to compare or to keep
  *   vmti_edit        a packet with one item put or removed, and every other
  *                    byte kept
+ *   vmti_edit_two    the same with two items of one target, judged as one
  *
  * They are for x86-64 Linux, and need no other library. `make install` of the
  * source tree puts them in place; then
@@ -114,8 +115,8 @@ extern "C" {
 
 /* The version of the library, as text and as a number: 1,000,000 times the
  * first part, plus 1,000 times the second, plus the third. */
-#define VMTI_VERSION "1.0.0"
-#define VMTI_VERSION_NUMBER 1000000
+#define VMTI_VERSION "1.1.0"
+#define VMTI_VERSION_NUMBER 1001000
 
 /* Sizes that always suffice. */
 #define VMTI_PACKET_MAX 8192           /* bytes of a packet. A longer one is refused with 1, and none is written */
@@ -191,7 +192,10 @@ extern "C" {
                                     * above 16,383, IT with 1 or 101, id of 2^63 or more, or
                                     * a number that is not shortest                                                  */
 #define VMTI_ABSENT 18             /* edit: no such target, or removal of an absent item      0                      */
-#define VMTI_NOT_EDITABLE 19       /* edit: tag 0 or above 16,383, or the set's 1 or 101      0                      */
+#define VMTI_NOT_EDITABLE 19       /* edit: tag 0 or above 16,383, or the set's 1 or 101; a   0
+                                    * second change with the first's tag, or to the set                              */
+#define VMTI_HALF_CENTROID 20      /* a pack with one of tags 19 and 20 without the other     pack
+                                    * edit: the target would be left so                       0                      */
 
 /* Reads a packet to its sheet.
  *
@@ -202,7 +206,7 @@ extern "C" {
  * Answers
  *
  *   success      VMTI_COUNT(answer) bytes of sheet were written
- *   1 to 15      the packet is refused; 2, 14 and 15 only in standalone
+ *   1 to 15, 20  the packet is refused; 2, 14 and 15 only in standalone
  *   16           it is not, and the sheet needs VMTI_PLACE(answer) bytes
  *
  * So a call with no room at all, sheet NULL and sheet_room 0, only checks: it
@@ -246,6 +250,7 @@ uint64_t vmti_read(uint64_t form, const uint8_t *packet, size_t packet_len, uint
  *   1            sheet_len is over VMTI_SHEET_MAX, or the packet would have
  *                over VMTI_PACKET_MAX bytes
  *   7, 9 to 14   a record breaks the rules for items, which are a packet's
+ *   20           a target has one of tags 19 and 20 without the other
  *   17           a record is not one, or may not stand there
  *   16           no fault, and the packet needs VMTI_PLACE(answer) bytes
  *
@@ -275,7 +280,7 @@ uint64_t vmti_write(const uint8_t *sheet, size_t sheet_len, uint8_t *packet, siz
  * Answers
  *
  *   success      VMTI_COUNT(answer) bytes of out were written
- *   1 to 15      the packet is refused, as vmti_read refuses it
+ *   1 to 15, 20  the packet is refused, as vmti_read refuses it
  *   16           it is not, and the normal form needs VMTI_PLACE(answer) bytes
  *
  * Two accepted packets of one form mean the same exactly when their normal
@@ -314,12 +319,14 @@ uint64_t vmti_normalise(uint64_t form, const uint8_t *packet, size_t packet_len,
  *
  * Answers, in this order
  *
- *   1 to 15      the packet is refused, as vmti_read refuses it
+ *   1 to 15, 20  the packet is refused, as vmti_read refuses it
  *   19           the tag cannot be edited
  *   18           no target has that id; removal: the item is not there
  *   7            put: value_len is 0
  *   13           put: the item may not stand there, in standalone
  *   11, 12       put: the length is not allowed, or the value may not be 0
+ *   20           the target would have one of tags 19 and 20 without the other:
+ *                put or remove both with vmti_edit_two
  *   14           removal: the item may not be missing, in standalone
  *   1            the edited packet would have over VMTI_PACKET_MAX bytes
  *   16           no fault, and it needs VMTI_PLACE(answer) bytes
@@ -330,7 +337,7 @@ uint64_t vmti_normalise(uint64_t form, const uint8_t *packet, size_t packet_len,
  *
  * For one edit after another let two buffers take turns as packet and out.
  *
- * An example: puts the row of a target's centre, tag 19, as four bytes.
+ * An example: corrects the row of a target's centre, tag 19, as four bytes.
  *
  *     uint64_t put_row(uint64_t form, const uint8_t *packet, size_t packet_len, uint64_t target,
  *                      const uint8_t row[4], uint8_t out[VMTI_PACKET_MAX])
@@ -341,6 +348,49 @@ uint64_t vmti_normalise(uint64_t form, const uint8_t *packet, size_t packet_len,
  */
 uint64_t vmti_edit(uint64_t form, const uint8_t *packet, size_t packet_len, uint64_t level, uint64_t target, uint64_t tag,
                    uint64_t removal, const uint8_t *value, size_t value_len, uint8_t *out, size_t out_room);
+
+/* Makes two changes to one target, each a put or a removal, with two different
+ * tags, and keeps every other byte. Between the two nothing is judged but the
+ * second change itself: so a centroid, tags 19 and 20, is added or removed.
+ *
+ *   form to target   as for vmti_edit. There is no second change to the set:
+ *                    VMTI_SET is answered 19 in the second change's turn
+ *   tag to value_len the first change, as for vmti_edit
+ *   tag2, removal2, value2, value2_len
+ *                    the second, made after it
+ *   out              room for out_room bytes; VMTI_PACKET_MAX always suffices
+ *
+ * Two new items are added in the order given. All else is as vmti_edit has it.
+ *
+ * Answers, in this order
+ *
+ *   1 to 15, 20  the packet is refused, as vmti_read refuses it
+ *   19, 18, 7, 13, 11, 12
+ *                the first change, as vmti_edit answers it
+ *   19, 18, 7, 13, 11, 12
+ *                the second change; 19 also if its tag is the first's, or the
+ *                level is the set
+ *   20           the target would have one of tags 19 and 20 without the other
+ *   14           an item that may not be missing would be, in standalone
+ *   1            the edited packet would have over VMTI_PACKET_MAX bytes
+ *   16           no fault, and it needs VMTI_PLACE(answer) bytes
+ *   success      VMTI_COUNT(answer) bytes of out were written
+ *
+ * From the first 19 on the place is 0, but for 16. Where two calls of vmti_edit
+ * go through, one after the other, they write the very bytes of this one.
+ *
+ * An example: puts a target's centre, its row and its column as four bytes each.
+ *
+ *     uint64_t put_centre(uint64_t form, const uint8_t *packet, size_t packet_len, uint64_t target,
+ *                         const uint8_t row[4], const uint8_t column[4], uint8_t out[VMTI_PACKET_MAX])
+ *     {
+ *         return vmti_edit_two(form, packet, packet_len, VMTI_TARGET, target, 19, VMTI_PUT, row, 4,
+ *                              20, VMTI_PUT, column, 4, out, VMTI_PACKET_MAX);
+ *     }
+ */
+uint64_t vmti_edit_two(uint64_t form, const uint8_t *packet, size_t packet_len, uint64_t level, uint64_t target, uint64_t tag,
+                       uint64_t removal, const uint8_t *value, size_t value_len, uint64_t tag2, uint64_t removal2,
+                       const uint8_t *value2, size_t value2_len, uint8_t *out, size_t out_room);
 
 #ifdef __cplusplus
 }

@@ -24,6 +24,7 @@ int main(void)
     static const uint8_t h[] = {6, 0x0E, 0x2B, 0x34, 2, 0x0B, 1, 1, 0x0E, 1, 3, 3, 6, 0, 0, 0,
                                 0x0E, 2, 8, 0, 0, 0, 0, 0, 0, 0, 0, 1, 2, 0x63, 0x55};
     static const uint8_t i[] = {5, 1, 2, 0x65, 9, 8, 1, 19, 1, 5, 20, 2, 4, 0x71};
+    static const uint8_t bare[] = {0x65, 2, 1, 7}, centred[] = {0x65, 8, 7, 7, 19, 1, 5, 20, 1, 5}, row_alone[] = {0x65, 5, 4, 7, 19, 1, 5};
     static const uint8_t zeros[8] = {0}, five[4] = {0, 0, 0, 5};
     static uint8_t sheet[VMTI_SHEET_OF_PACKET_MAX], out[VMTI_PACKET_MAX];
     uint64_t answer = vmti_read(VMTI_EMBEDDED, a, sizeof a, NULL, 0);
@@ -41,6 +42,10 @@ int main(void)
     hold(!mean_the_same(VMTI_EMBEDDED, d, sizeof d, not_d, sizeof not_d), "D and a shorter name do not");
     hold(is(put_row(VMTI_EMBEDDED, a, sizeof a, 1, five, out), out, i, sizeof i), "put_row makes I of A");
     hold(put_row(VMTI_EMBEDDED, a, sizeof a, 2, five, out) == VMTI_ABSENT, "put_row of an absent target is 18 at 0");
+    hold(put_row(VMTI_EMBEDDED, bare, sizeof bare, 7, five, out) == VMTI_HALF_CENTROID, "put_row alone is 20 at 0");
+    hold(is(put_centre(VMTI_EMBEDDED, bare, sizeof bare, 7, five, five, out), out, centred, sizeof centred), "put_centre puts both");
+    answer = vmti_read(VMTI_EMBEDDED, row_alone, sizeof row_alone, NULL, 0);
+    hold(VMTI_NUMBER(answer) == VMTI_HALF_CENTROID && VMTI_PLACE(answer) == 2, "a packet with a row alone is 20 at 2");
 
     /* set tag 6 put to the value of its tag 5, lent as a part of the packet itself */
     answer = vmti_edit(VMTI_EMBEDDED, b, sizeof b, VMTI_SET, 0, 6, VMTI_PUT, b + 3, 1, out, sizeof out);

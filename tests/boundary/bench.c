@@ -99,6 +99,14 @@ static uint64_t call_edit(const struct input *p)
     return vmti_edit(p->form, p->bytes, p->size, VMTI_SET, 0, 9, VMTI_PUT, value, sizeof value, out, sizeof out);
 }
 
+/* Puts the row and the column, tags 19 and 20, of the target 1. */
+static uint64_t call_edit_two(const struct input *p)
+{
+    static const uint8_t row[] = {2, 17}, column[] = {5, 131};
+    return vmti_edit_two(p->form, p->bytes, p->size, VMTI_TARGET, 1, 19, VMTI_PUT, row, sizeof row, 20, VMTI_PUT, column,
+                         sizeof column, out, sizeof out);
+}
+
 static uint64_t call_edit_target(const struct input *p)
 {
     static const uint8_t value[] = {1};
@@ -108,7 +116,8 @@ static uint64_t call_edit_target(const struct input *p)
 static const struct {
     const char *name;
     uint64_t (*make)(const struct input *p);
-} calls[] = {{"write", call_write}, {"read", call_read}, {"normalise", call_normalise}, {"edit", call_edit}, {"edit-target", call_edit_target}};
+} calls[] = {{"write", call_write}, {"read", call_read}, {"normalise", call_normalise}, {"edit", call_edit}, {"edit-target", call_edit_target},
+             {"edit-two", call_edit_two}};
 
 /* How many of them an input is for, and the bytes that a call is given. */
 static int calls_on(const struct input *p)

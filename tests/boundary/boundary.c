@@ -15,7 +15,8 @@
 enum { AROUND = 64, SHOWN = 5 };
 
 /* The numbers that each call can answer: a sign for each of document 01's table from 0 on, '+' where it can. */
-static const char *const answers[CALLS] = {"+++++++++++++++++", "++.....+.++++++.++", "+++++++++++++++++", "+++++++++++++++++.++"};
+static const char *const answers[CALLS] = {"+++++++++++++++++...+", "++.....+.++++++.++..+", "+++++++++++++++++...+", "+++++++++++++++++.+++",
+                                            "+++++++++++++++++.+++"};
 
 /* What the output is filled with, and what stands around both: no two bytes near each other are alike. */
 static uint8_t pattern[SPAN + 256];
@@ -80,7 +81,7 @@ static void take_back(struct lent *l)
 }
 
 /* 0 if the call touched a page that it may not. */
-static int call(const struct question *q, const struct lent *in, const struct lent *value, const struct lent *out, uint64_t *answer)
+static int call(const struct question *q, const struct lent *in, const struct lent values[2], const struct lent *out, uint64_t *answer)
 {
     if (sigsetjmp(touched, 0) != 0)
         return 0;
@@ -90,9 +91,12 @@ static int call(const struct question *q, const struct lent *in, const struct le
         *answer = vmti_write(in->at, in->size, out->at, out->size);
     else if (q->which == NORMALISE)
         *answer = vmti_normalise(q->form, in->at, in->size, out->at, out->size);
-    else
-        *answer = vmti_edit(q->form, in->at, in->size, q->level, q->target, q->tag, q->removal, value->at, value->size,
+    else if (q->which == EDIT)
+        *answer = vmti_edit(q->form, in->at, in->size, q->level, q->target, q->tag, q->removal, values[0].at, values[0].size,
                             out->at, out->size);
+    else
+        *answer = vmti_edit_two(q->form, in->at, in->size, q->level, q->target, q->tag, q->removal, values[0].at, values[0].size,
+                                q->tag2, q->removal2, values[1].at, values[1].size, out->at, out->size);
     return 1;
 }
 
@@ -100,9 +104,10 @@ static void show(const char *why, const struct question *q, const uint8_t *input
                  uint64_t wanted, uint64_t got)
 {
     size_t i;
-    printf("%s, %s: form %llu, level %llu, target %llu, tag %llu, removal %llu, room %zu, input of %zu:", names[q->which],
-           why, (unsigned long long)q->form, (unsigned long long)q->level, (unsigned long long)q->target,
-           (unsigned long long)q->tag, (unsigned long long)q->removal, room, input_len);
+    printf("%s, %s: form %llu, level %llu, target %llu, tag %llu, removal %llu, then tag %llu, removal %llu, room %zu, input of %zu:",
+           names[q->which], why, (unsigned long long)q->form, (unsigned long long)q->level, (unsigned long long)q->target,
+           (unsigned long long)q->tag, (unsigned long long)q->removal, (unsigned long long)q->tag2, (unsigned long long)q->removal2,
+           room, input_len);
     for (i = 0; i < input_len && i < 200; i++)
         printf(" %02X", input[i]);
     printf("%s\n  expected %u at %llu, got %u at %llu\n", i < input_len ? " .." : "", VMTI_NUMBER(wanted),
@@ -129,9 +134,9 @@ static int report(uint64_t which, const uint64_t *seen)
 
 int main(int argc, char **argv)
 {
-    static uint8_t input[SPAN], given[SPAN], after[SPAN];
+    static uint8_t input[SPAN], given[2][SPAN], after[SPAN];
     static uint64_t seen[CALLS][256];
-    struct lent in, value, out;
+    struct lent in, values[2], out;
     struct sigaction action;
     uint64_t inputs, index;
     unsigned long cases = 0, failed = 0;
@@ -141,7 +146,8 @@ int main(int argc, char **argv)
     for (index = 0; index < sizeof pattern; index++)
         pattern[index] = (uint8_t)(0xA5 + 29 * index + index / 256);
     map(&in);
-    map(&value);
+    map(&values[0]);
+    map(&values[1]);
     map(&out);
     memset(&action, 0, sizeof action);
     action.sa_handler = on_touch;
@@ -152,7 +158,7 @@ int main(int argc, char **argv)
     inputs = get_number(8);
     for (index = 0; index < inputs; index++) {
         const struct question q = get_question();
-        const size_t value_len = get_bytes(given);
+        const size_t first_len = get_bytes(given[0]), second_len = get_bytes(given[1]);
         const size_t input_len = get_bytes(input);
         unsigned r;
         for (r = 0; r < ROOMS; r++) {
@@ -169,18 +175,20 @@ int main(int argc, char **argv)
                 die("a case is too long");
             memcpy(after + written, filled + written, room - written);
             lend(&in, input_len, turn & 1, input);
-            lend(&value, value_len, turn >> 2 & 1, given);
+            lend(&values[0], first_len, turn >> 2 & 1, given[0]);
+            lend(&values[1], second_len, turn >> 3 & 1, given[1]);
             lend(&out, room, turn >> 1 & 1, filled);
-            if (!call(&q, &in, &value, &out, &got))
+            if (!call(&q, &in, values, &out, &got))
                 why = "a byte beyond what was lent was touched";
             else if (got != wanted)
                 why = "another number";
             else if (!is_as_lent(&out, after))
                 why = "another output, or a byte around it changed";
-            else if (!is_as_lent(&in, input) || !is_as_lent(&value, given))
+            else if (!is_as_lent(&in, input) || !is_as_lent(&values[0], given[0]) || !is_as_lent(&values[1], given[1]))
                 why = "the input, or a byte around it, changed";
             take_back(&in);
-            take_back(&value);
+            take_back(&values[0]);
+            take_back(&values[1]);
             take_back(&out);
             cases++;
             if (why == NULL)

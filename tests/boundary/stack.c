@@ -15,13 +15,14 @@
 enum { ROOM = 4 * PAGE, ADDRESS = sizeof(void *) };
 
 static struct question q;
-static uint8_t input[SPAN], value[SPAN], out[SPAN], answer[SPAN];
-static size_t input_len, value_len, room;
+static uint8_t input[SPAN], value[SPAN], value2[SPAN], out[SPAN], answer[SPAN];
+static size_t input_len, value_len, value2_len, room;
 static ucontext_t here, there;
 
-/* What the calls have in common is the widest of them. */
-typedef uint64_t call_fn(uint64_t, const uint8_t *, size_t, uint64_t, uint64_t, uint64_t, uint64_t, const uint8_t *, size_t,
+typedef uint64_t edit_fn(uint64_t, const uint8_t *, size_t, uint64_t, uint64_t, uint64_t, uint64_t, const uint8_t *, size_t,
                          uint8_t *, size_t);
+typedef uint64_t edit_two_fn(uint64_t, const uint8_t *, size_t, uint64_t, uint64_t, uint64_t, uint64_t, const uint8_t *, size_t,
+                             uint64_t, uint64_t, const uint8_t *, size_t, uint8_t *, size_t);
 typedef uint64_t on_packet_fn(uint64_t, const uint8_t *, size_t, uint8_t *, size_t);
 typedef uint64_t on_sheet_fn(const uint8_t *, size_t, uint8_t *, size_t);
 
@@ -29,6 +30,14 @@ static uint64_t no_edit(uint64_t form, const uint8_t *in, size_t in_len, uint64_
                         uint64_t removal, const uint8_t *given, size_t given_len, uint8_t *to, size_t to_len)
 {
     return form + in_len + level + target + tag + removal + given_len + to_len + (in != given) + (to != NULL);
+}
+
+static uint64_t no_edit_two(uint64_t form, const uint8_t *in, size_t in_len, uint64_t level, uint64_t target, uint64_t tag,
+                            uint64_t removal, const uint8_t *given, size_t given_len, uint64_t tag2, uint64_t removal2,
+                            const uint8_t *given2, size_t given2_len, uint8_t *to, size_t to_len)
+{
+    return form + in_len + level + target + tag + removal + given_len + tag2 + removal2 + given2_len + to_len + (in != given)
+        + (given != given2) + (to != NULL);
 }
 
 static uint64_t no_packet(uint64_t form, const uint8_t *in, size_t in_len, uint8_t *to, size_t to_len)
@@ -42,13 +51,15 @@ static uint64_t no_sheet(const uint8_t *in, size_t in_len, uint8_t *to, size_t t
 }
 
 /* Called by what stands here, so that no call is put in line. */
-static call_fn *volatile edit;
+static edit_fn *volatile edit;
+static edit_two_fn *volatile edit_two;
 static on_packet_fn *volatile on_packet;
 static on_sheet_fn *volatile on_sheet;
 
 static void choose(uint64_t which, int nothing)
 {
     edit = nothing ? no_edit : vmti_edit;
+    edit_two = nothing ? no_edit_two : vmti_edit_two;
     on_packet = nothing ? no_packet : which == READ ? vmti_read : vmti_normalise;
     on_sheet = nothing ? no_sheet : vmti_write;
 }
@@ -57,6 +68,9 @@ static void call(void)
 {
     if (q.which == EDIT)
         edit(q.form, input, input_len, q.level, q.target, q.tag, q.removal, value, value_len, out, room);
+    else if (q.which == EDIT_TWO)
+        edit_two(q.form, input, input_len, q.level, q.target, q.tag, q.removal, value, value_len, q.tag2, q.removal2, value2,
+                 value2_len, out, room);
     else if (q.which == WRITE)
         on_sheet(input, input_len, out, room);
     else
@@ -101,6 +115,7 @@ int main(void)
     for (index = 0; index < inputs; index++) {
         q = get_question();
         value_len = get_bytes(value);
+        value2_len = get_bytes(value2);
         input_len = get_bytes(input);
         for (r = 0; r < ROOMS; r++) {
             size_t bytes;

@@ -8,13 +8,13 @@
 
 enum { PAGE = 4096, SPAN = 32 * PAGE, ROOMS = 2 };
 
-enum { READ, WRITE, NORMALISE, EDIT, CALLS };
+enum { READ, WRITE, NORMALISE, EDIT, EDIT_TWO, CALLS };
 
-static const char *const names[CALLS] = {"vmti_read", "vmti_write", "vmti_normalise", "vmti_edit"};
+static const char *const names[CALLS] = {"vmti_read", "vmti_write", "vmti_normalise", "vmti_edit", "vmti_edit_two"};
 
-/* What a call is made on, but for the buffers lent; an edit alone looks at level and those after it. */
+/* What a call is made on, but for the buffers lent; an edit alone looks at level and those after it, one of two changes at the last. */
 struct question {
-    uint64_t which, form, level, target, tag, removal;
+    uint64_t which, form, level, target, tag, removal, tag2, removal2;
 };
 
 static void die(const char *why)
@@ -48,6 +48,8 @@ static struct question get_question(void)
     q.target = get_number(8);
     q.tag = get_number(8);
     q.removal = get_number(8);
+    q.tag2 = get_number(8);
+    q.removal2 = get_number(8);
     if (q.which >= CALLS)
         die("no such call");
     return q;

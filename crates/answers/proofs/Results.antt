@@ -24,13 +24,13 @@ one-result a b x y l p q =
 
 -- ---- a refusal
 
-refused-small : (f : Form) (s : List ℕ) (n p : ℕ) → parse f s ≡ refused n p → (1 ≤ n) × (n ≤ 19) × (p ≤ 8192)
+refused-small : (f : Form) (s : List ℕ) (n p : ℕ) → parse f s ≡ refused n p → (1 ≤ n) × (n ≤ 20) × (p ≤ 8192)
 refused-small f s n p e = go (leb (length s) 8192) refl
   where
     long : leb (length s) 8192 ≡ false → parse f s ≡ refused 1 0
     long z = unfold parse limit need _>>=_ in (rw z)
 
-    go : (b : Bool) → leb (length s) 8192 ≡ b → (1 ≤ n) × (n ≤ 19) × (p ≤ 8192)
+    go : (b : Bool) → leb (length s) 8192 ≡ b → (1 ≤ n) × (n ≤ 20) × (p ≤ 8192)
     go true z = let k = parse-answers f s .by n p e in (k .0 .0, k .0 .1, omega (arith, k .1, leb-true (length s) 8192 z))
     go false z =
         let q : _≡_ {A = Ans Packet} (refused 1 0) (refused n p) = sym (long z) ∙ e in
@@ -38,11 +38,11 @@ refused-small f s n p e = go (leb (length s) 8192) refl
         let b : 0 ≡ p = cc in
         (omega arith, omega arith, omega arith)
 
-pub call-refused : {A : Type 0} (f : Form) (s : List ℕ) (g : Packet → A) (n p : ℕ) → (parse f s >>= λ k. ok (g k)) ≡ refused n p → (1 ≤ n) × (n ≤ 19) × (p ≤ 8192)
+pub call-refused : {A : Type 0} (f : Form) (s : List ℕ) (g : Packet → A) (n p : ℕ) → (parse f s >>= λ k. ok (g k)) ≡ refused n p → (1 ≤ n) × (n ≤ 20) × (p ≤ 8192)
 unfolding _>>=_
 call-refused {A = A} f s g n p e = go (parse f s) refl e
   where
-    go : (x : Ans Packet) → parse f s ≡ x → (x >>= λ k. ok (g k)) ≡ refused n p → (1 ≤ n) × (n ≤ 19) × (p ≤ 8192)
+    go : (x : Ans Packet) → parse f s ≡ x → (x >>= λ k. ok (g k)) ≡ refused n p → (1 ≤ n) × (n ≤ 20) × (p ≤ 8192)
     go (ok k) q e = absurd (let z : _≡_ {A = ℕ} 0 1 = cc in omega arith)
     go (refused m j) q e =
         let a : m ≡ n = cc in

@@ -6,7 +6,7 @@ use Prim.Native.Nat.{ℕ}
 use Rattle.format.specs.Table.{Form}
 use Rattle.format.specs.Room.{leaves}
 use Rattle.format.specs.Calls.{read, write, normalise}
-use Rattle.format.specs.Edit.{Holder, Change, edit}
+use Rattle.format.specs.Edit.{Holder, Changes, edit}
 use Rattle.answers.specs.declared.Answer.{Answer}
 use Rattle.answers.specs.Meet.{leftOf}
 
@@ -19,5 +19,5 @@ Writes sheet lent a left = leftOf a left ≡ leaves lent (write sheet)
 abbrev pub Normalises : Form → List ℕ → List ℕ → Answer → List ℕ → Type 0
 Normalises f packet lent a left = leftOf a left ≡ leaves lent (normalise f packet)
 
-abbrev pub Edits : Form → Holder → ℕ → Change → List ℕ → List ℕ → Answer → List ℕ → Type 0
-Edits f h tag c packet lent a left = leftOf a left ≡ leaves lent (edit f h tag c packet)
+abbrev pub Edits : Form → Holder → Changes → List ℕ → List ℕ → Answer → List ℕ → Type 0
+Edits f h cs packet lent a left = leftOf a left ≡ leaves lent (edit f h cs packet)

@@ -14,7 +14,7 @@ use Rattle.format.specs.Table.{Form, embedded}
 use Rattle.format.specs.Read.{parse, limit}
 use Rattle.format.specs.Sheet.{content, sheetBytes, sheetLimit, unsheet}
 use Rattle.format.specs.Calls.{packetOf, packed, read, write, normalise}
-use Rattle.format.specs.Edit.{Holder, theSet, Change, remove, editPacket, edit}
+use Rattle.format.specs.Edit.{Holder, theSet, Changes, editPacket, edit}
 use Rattle.format.specs.Room.{Left, leaves, oneNumber}
 use Rattle.format.proofs.words.Answers.{bind-then}
 use Rattle.format.proofs.demands.Demand1.{numbered}
@@ -29,14 +29,14 @@ packed-long : (p : Packet) (y : List ℕ) → packed p ≡ ok y → length y ≤
 packed-long p y e = packed-then p y e λ l z. omega (arith, l, ap length z)
 
 -- a sheet over its limit is refused at 0, any other within it
-written-refused : (s : List ℕ) (n p : ℕ) → write s ≡ refused n p → (n ≤ 19) × (p ≤ 65536)
+written-refused : (s : List ℕ) (n p : ℕ) → write s ≡ refused n p → (n ≤ 20) × (p ≤ 65536)
 written-refused s n p e = go (leb (length s) 65536) refl
   where
     long : leb (length s) 65536 ≡ false → write s ≡ refused 1 0
     long z = unfold write unsheet sheetLimit need _>>=_ in (rw z)
 
-    go : (b : Bool) → leb (length s) 65536 ≡ b → (n ≤ 19) × (p ≤ 65536)
-    go true z = let k = numbered embedded s theSet 0 remove .write-answers .by n p e in (k .0 .1, omega (arith, k .1, leb-true (length s) 65536 z))
+    go : (b : Bool) → leb (length s) 65536 ≡ b → (n ≤ 20) × (p ≤ 65536)
+    go true z = let k = numbered embedded s theSet [] .write-answers .by n p e in (k .0 .1, omega (arith, k .1, leb-true (length s) 65536 z))
     go false z =
         let q : _≡_ {A = Ans (List ℕ)} (refused 1 0) (refused n p) = sym (long z) ∙ e in
         let a : 1 ≡ n = cc in
@@ -48,21 +48,21 @@ unfolding normalise
 normal-long f s y e = bind-then _ _ _ e λ p _ e₁. packed-long (packetOf (content p)) y e₁
 
 abbrev pub Small : Answer → Type 0
-Small a = (a .number ≤ 19) × (a .place ≤ 65536)
+Small a = (a .number ≤ 20) × (a .place ≤ 65536)
 
 -- from the same facts of what is left
-small-of : (a : Answer) (out : List ℕ) (l : Left ℕ) → leftOf a out ≡ l → l .number ≤ 19 → l .place ≤ 65536 → Small a
+small-of : (a : Answer) (out : List ℕ) (l : Left ℕ) → leftOf a out ≡ l → l .number ≤ 20 → l .place ≤ 65536 → Small a
 small-of a out l e n p = (omega (arith, ap (λ x. x .number) e), omega (arith, ap (λ x. x .place) e))
 
-left-small : (lent b : List ℕ) → (leaves lent (ok b) .number ≤ 19) × (leaves lent (ok b) .place ≡ length b)
+left-small : (lent b : List ℕ) → (leaves lent (ok b) .number ≤ 20) × (leaves lent (ok b) .place ≡ length b)
 left-small lent b = go (leb (length b) (length lent)) refl
   where
-    go : (z : Bool) → leb (length b) (length lent) ≡ z → (leaves lent (ok b) .number ≤ 19) × (leaves lent (ok b) .place ≡ length b)
+    go : (z : Bool) → leb (length b) (length lent) ≡ z → (leaves lent (ok b) .number ≤ 20) × (leaves lent (ok b) .place ≡ length b)
     go true z = unfold leaves in (rw (z, leaves) (omega arith, refl))
     go false z = unfold leaves in (rw (z, leaves) (omega arith, refl))
 
 -- x is what the call should answer: its refusals are small, and so is what it writes
-pub call-small : (lent out : List ℕ) (a : Answer) (x : Ans (List ℕ)) → ((n p : ℕ) → x ≡ refused n p → (n ≤ 19) × (p ≤ 65536)) → ((b : List ℕ) → x ≡ ok b → length b ≤ 65536)
+pub call-small : (lent out : List ℕ) (a : Answer) (x : Ans (List ℕ)) → ((n p : ℕ) → x ≡ refused n p → (n ≤ 20) × (p ≤ 65536)) → ((b : List ℕ) → x ≡ ok b → length b ≤ 65536)
     → leftOf a out ≡ leaves lent x → Small a
 call-small lent out a (refused n p) r o e =
     let k = r n p refl in
@@ -71,18 +71,18 @@ call-small lent out a (ok y) r o e =
     let k = left-small lent y in
     small-of a out (leaves lent (ok y)) e (k .0) (omega (arith, k .1, o y refl))
 
-edit-long : (f : Form) (h : Holder) (tag : ℕ) (c : Change) (s y : List ℕ) → edit f h tag c s ≡ ok y → length y ≤ 8192
+edit-long : (f : Form) (h : Holder) (cs : Changes) (s y : List ℕ) → edit f h cs s ≡ ok y → length y ≤ 8192
 unfolding edit
-edit-long f h tag c s y e = bind-then _ _ _ e λ p _ e₁. bind-then _ _ _ e₁ λ _ _ e₂. packed-long (editPacket h tag c p) y e₂
+edit-long f h cs s y e = bind-then _ _ _ e λ p _ e₁. bind-then _ _ _ e₁ λ _ _ e₂. packed-long (editPacket h cs p) y e₂
 
-edit-answer : (f : Form) (h : Holder) (tag : ℕ) (c : Change) (s : List ℕ) (n p : ℕ) → edit f h tag c s ≡ refused n p → (n ≤ 19) × (p ≤ 65536)
-edit-answer f h tag c s n p e = go (leb (length s) 8192) refl
+edit-answer : (f : Form) (h : Holder) (cs : Changes) (s : List ℕ) (n p : ℕ) → edit f h cs s ≡ refused n p → (n ≤ 20) × (p ≤ 65536)
+edit-answer f h cs s n p e = go (leb (length s) 8192) refl
   where
-    long : leb (length s) 8192 ≡ false → edit f h tag c s ≡ refused 1 0
+    long : leb (length s) 8192 ≡ false → edit f h cs s ≡ refused 1 0
     long z = unfold edit parse limit need _>>=_ in (rw z)
 
-    go : (b : Bool) → leb (length s) 8192 ≡ b → (n ≤ 19) × (p ≤ 65536)
-    go true z = let k = numbered f s h tag c .edit-answers .by n p e in (k .0 .1, omega (arith, k .1, leb-true (length s) 8192 z))
+    go : (b : Bool) → leb (length s) 8192 ≡ b → (n ≤ 20) × (p ≤ 65536)
+    go true z = let k = numbered f s h cs .edit-answers .by n p e in (k .0 .1, omega (arith, k .1, leb-true (length s) 8192 z))
     go false z =
         let q : _≡_ {A = Ans (List ℕ)} (refused 1 0) (refused n p) = sym (long z) ∙ e in
         let a : 1 ≡ n = cc in
@@ -107,8 +107,8 @@ module _ (lent out : List ℕ) (a : Answer) where
   pub write-small : (s : List ℕ) → leftOf a out ≡ leaves lent (write s) → Small a
   write-small s e = call-small lent out a (write s) (λ n p q. written-refused s n p q) (λ y q. write-then s y q λ t _ l z. omega (arith, l, ap length z)) e
 
-  pub edit-small : (f : Form) (h : Holder) (tag : ℕ) (c : Change) (s : List ℕ) → leftOf a out ≡ leaves lent (edit f h tag c s) → Small a
-  edit-small f h tag c s e = call-small lent out a (edit f h tag c s) (λ n p q. edit-answer f h tag c s n p q) (λ y q. omega (arith, edit-long f h tag c s y q)) e
+  pub edit-small : (f : Form) (h : Holder) (cs : Changes) (s : List ℕ) → leftOf a out ≡ leaves lent (edit f h cs s) → Small a
+  edit-small f h cs s e = call-small lent out a (edit f h cs s) (λ n p q. edit-answer f h cs s n p q) (λ y q. omega (arith, edit-long f h cs s y q)) e
 
 -- r is the one number
 pub one-number : (a : Answer) (out : List ℕ) (l : Left ℕ) → leftOf a out ≡ l → {r : ℕ} → r ≡ 256 * a .place + a .number → (r ≡ oneNumber l) × (out ≡ l .lent)

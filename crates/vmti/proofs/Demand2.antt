@@ -38,7 +38,7 @@ module _ (f : Form) (packet lent : List ℕ) (a : Answer) (left : List ℕ) wher
   reading h e = record {
     valid = λ p l. given lent left a _ (e ∙ ap (leaves lent) (read-is f packet p (lies-parses f packet p l)));
     only = λ y.
-        let (b, q) = accepted-only lent left a (length packet) (read f packet) (numbered f packet theSet 0 remove .read-answers) e y in
+        let (b, q) = accepted-only lent left a (length packet) (read f packet) (numbered f packet theSet [] .read-answers) e y in
         read-then f packet b q λ p ep _. (p, parse-says f packet p h ep);
     refusing = refusing lent left a (read f packet) e;
   }
@@ -49,7 +49,7 @@ module _ (f : Form) (packet lent : List ℕ) (a : Answer) (left : List ℕ) wher
   normalising h e = record {
     valid = λ p l. given lent left a _ (e ∙ ap (leaves lent) (normal-is f packet h p (lies-parses f packet p l)));
     only = λ y.
-        let (b, q) = accepted-only lent left a (length packet) (normalise f packet) (numbered f packet theSet 0 remove .normalise-answers) e y in
+        let (b, q) = accepted-only lent left a (length packet) (normalise f packet) (numbered f packet theSet [] .normalise-answers) e y in
         normal-then f packet h b q λ p l _. (p, l);
     refusing = λ n p q. refusing lent left a (normalise f packet) e n p (normal f packet h .refuses n p .1 q);
   }
@@ -66,7 +66,7 @@ pub writing : (sheet lent : List ℕ) (a : Answer) (left : List ℕ) → Bytes s
 writing sheet lent a left h e = record {
   valid = λ t k. given lent left a _ (e ∙ ap (leaves lent) (write-is sheet t k));
   only = λ y.
-      let (b, q) = accepted-only lent left a (length sheet) (write sheet) (numbered embedded sheet theSet 0 remove .write-answers) e y in
+      let (b, q) = accepted-only lent left a (length sheet) (write sheet) (numbered embedded sheet theSet [] .write-answers) e y in
       write-then sheet b q λ t et l z. let (s, v) = sheet-says sheet t h et in (t, record { bytes = s; valid = v; small = l });
   refusing = refusing lent left a (write sheet) e;
 }
@@ -106,13 +106,13 @@ demand-2 = record {
   normalising = normalising;
   writing = writing;
   write-after-read = λ f packet lent a left h e z.
-      let (sheet, q, s) = wrote lent left a (length packet) (read f packet) (numbered f packet theSet 0 remove .read-answers) e z in
+      let (sheet, q, s) = wrote lent left a (length packet) (read f packet) (numbered f packet theSet [] .read-answers) e z in
       record {
         normalises = λ out b after eb c then ec.
             one-result b c after then (leaves out (normalise f packet)) (eb ∙ ap (λ x. leaves out (write x)) s ∙ ap (leaves out) (sym (normal f packet h .is-both sheet q))) ec;
       };
   read-after-write = λ sheet lent a left h e z.
-      let (bytes, q, s) = wrote lent left a (length sheet) (write sheet) (numbered embedded sheet theSet 0 remove .write-answers) e z in
+      let (bytes, q, s) = wrote lent left a (length sheet) (write sheet) (numbered embedded sheet theSet [] .write-answers) e z in
       let (f, ef, er) = sheet-again sheet h .again bytes q in
       record {
         sheet-again = λ g eg out b after eb.

@@ -8,7 +8,7 @@ use Rattle.format.specs.Coding.{Bytes}
 use Rattle.format.specs.Table.{Form}
 use Rattle.format.specs.Room.{leaves}
 use Rattle.format.specs.Calls.{read, normalise}
-use Rattle.format.specs.Edit.{Holder, Change, edit}
+use Rattle.format.specs.Edit.{Holder, Changes, edit}
 use Rattle.format.specs.demands.Demand3 as Definitions
 use Rattle.format.specs.demands.Kept.{Kept}
 use Rattle.format.proofs.demands.Demand1.{numbered}
@@ -18,23 +18,23 @@ use Rattle.answers.specs.Calls.{Edits}
 use Rattle.vmti.specs.Demand3.{Editing, Edited, Demand3}
 use Rattle.answers.proofs.Given.{given, refusing, accepted-only, wrote, one-left}
 
-module _ (f : Form) (h : Holder) (tag : ℕ) (c : Change) (packet lent : List ℕ) (a : Answer) (left : List ℕ) (bytes : Bytes packet) where
-  defined : Definitions.Demand3 f h tag c packet
-  defined = demand-3 f h tag c packet bytes
+module _ (f : Form) (h : Holder) (cs : Changes) (packet lent : List ℕ) (a : Answer) (left : List ℕ) (bytes : Bytes packet) where
+  defined : Definitions.Demand3 f h cs packet
+  defined = demand-3 f h cs packet bytes
 
-  pub editing : Edits f h tag c packet lent a left → Editing f h tag c packet lent a left
+  pub editing : Edits f h cs packet lent a left → Editing f h cs packet lent a left
   editing e = record {
     allowed = λ b k m l. given lent left a b (e ∙ ap (leaves lent) (defined .accepted b .1 (k, m, l)));
     only = λ y.
-        let (b, q) = accepted-only lent left a (length packet) (edit f h tag c packet) (numbered f packet h tag c .edit-answers) e y in
+        let (b, q) = accepted-only lent left a (length packet) (edit f h cs packet) (numbered f packet h cs .edit-answers) e y in
         let (k, m, l) = defined .accepted b .0 q in
         (b, k, m, l);
-    refusing = λ n p y. refusing lent left a (edit f h tag c packet) e n p (defined .refusal n p .1 y);
+    refusing = λ n p y. refusing lent left a (edit f h cs packet) e n p (defined .refusal n p .1 y);
   }
 
-  edited : Edits f h tag c packet lent a left → a .number ≡ 0 → Edited f h tag c packet a left
+  edited : Edits f h cs packet lent a left → a .number ≡ 0 → Edited f h cs packet a left
   edited e z =
-      let (b, q, s) = wrote lent left a (length packet) (edit f h tag c packet) (numbered f packet h tag c .edit-answers) e z in
+      let (b, q, s) = wrote lent left a (length packet) (edit f h cs packet) (numbered f packet h cs .edit-answers) e z in
       let k = defined .changed b q in
       record {
         changed = record {
@@ -44,21 +44,21 @@ module _ (f : Form) (h : Holder) (tag : ℕ) (c : Change) (packet lent : List �
           new = ap (read f) s ∙ k .new;
           afresh = λ n. k .afresh n ∙ ap ok (sym s);
         };
-        kept = subst (Kept f h tag c packet) (sym s) (defined .kept b q);
+        kept = subst (Kept f h cs packet) (sym s) (defined .kept b q);
         afresh = λ other d after ed zd sd out g then eg.
-            let (n, nq, ns) = wrote other after d (length packet) (normalise f packet) (numbered f packet h tag c .normalise-answers) ed zd in
+            let (n, nq, ns) = wrote other after d (length packet) (normalise f packet) (numbered f packet h cs .normalise-answers) ed zd in
             given out then g _ (eg ∙ ap (leaves out) (k .afresh (nq ∙ ap ok (sym ns ∙ sd)) ∙ ap ok (sym s)));
       }
 
 pub demand-3-calls : Demand3
-demand-3-calls = record { editing = editing; edited = λ f h tag c packet lent a left bytes e z. edited f h tag c packet lent a left bytes e z }
+demand-3-calls = record { editing = editing; edited = λ f h cs packet lent a left bytes e z. edited f h cs packet lent a left bytes e z }
 
 -- nothing else is so answered
-pub one-editing : (f : Form) (h : Holder) (tag : ℕ) (c : Change) (packet lent : List ℕ) (a d : Answer) (left then : List ℕ) → Bytes packet
-    → Editing f h tag c packet lent a left → Editing f h tag c packet lent d then → (a ≡ d) × (left ≡ then)
-one-editing f h tag c packet lent a d left then bytes r s =
-    let k = demand-3 f h tag c packet bytes in
-    one-left (edit f h tag c packet) lent a d left then
+pub one-editing : (f : Form) (h : Holder) (cs : Changes) (packet lent : List ℕ) (a d : Answer) (left then : List ℕ) → Bytes packet
+    → Editing f h cs packet lent a left → Editing f h cs packet lent d then → (a ≡ d) × (left ≡ then)
+one-editing f h cs packet lent a d left then bytes r s =
+    let k = demand-3 f h cs packet bytes in
+    one-left (edit f h cs packet) lent a d left then
     (λ b e. let (t, m, l) = k .accepted b .0 e in (r .allowed b t m l, s .allowed b t m l))
     (λ n p q. r .refusing n p (k .refusal n p .0 q))
     (λ n p q. s .refusing n p (k .refusal n p .0 q))

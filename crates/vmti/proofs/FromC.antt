@@ -17,7 +17,7 @@ pub one-return : (lent : List ℕ) (x : Ans (List ℕ)) (r s : ℕ) (left then :
 one-return lent x r s left then (e, z) (q, y) = (e ∙ sym q, z ∙ sym y)
 
 -- the number is below 256, so that nothing of the place is in it
-taken-apart : (n p : ℕ) → n ≤ 19 → ((256 * p + n) % 256 ≡ n) × ((256 * p + n) / 256 ≡ p)
+taken-apart : (n p : ℕ) → n ≤ 20 → ((256 * p + n) % 256 ≡ n) × ((256 * p + n) / 256 ≡ p)
 taken-apart n p h = (omega arith, omega arith)
 
 module _ (lent : List ℕ) (x : Ans (List ℕ)) (small : Small (answerOf (leaves lent x .number) (leaves lent x .place))) (r : ℕ) (left : List ℕ) where
@@ -34,5 +34,5 @@ from-c = record {
   reads = λ f packet lent r left h e. said-by lent (read f packet) (read-small lent _ _ f packet h refl) r left e;
   writes = λ sheet lent r left e. said-by lent (write sheet) (write-small lent _ _ sheet refl) r left e;
   normalises = λ f packet lent r left h e. said-by lent (normalise f packet) (normalise-small lent _ _ f packet h refl) r left e;
-  edits = λ f h tag c packet lent r left e. said-by lent (edit f h tag c packet) (edit-small lent _ _ f h tag c packet refl) r left e;
+  edits = λ f h cs packet lent r left e. said-by lent (edit f h cs packet) (edit-small lent _ _ f h cs packet refl) r left e;
 }

@@ -6,7 +6,7 @@ use lib.ListN.{length}
 use Rattle.format.specs.Coding.{Bytes}
 use Rattle.format.specs.Table.{Form}
 use Rattle.format.specs.Sheet.{content, sheetBytes}
-use Rattle.format.specs.Edit.{Holder, Change, editSheet}
+use Rattle.format.specs.Edit.{Holder, Changes, editSheet}
 use Rattle.format.specs.demands.Demand3.{Why, Changed, Allowed}
 use Rattle.format.specs.demands.Kept.{Kept}
 use Rattle.answers.specs.declared.Answer.{Answer}
@@ -14,25 +14,25 @@ use Rattle.answers.specs.Meet.{answerOf}
 use Rattle.answers.specs.Given.{Given, Accepted, written}
 use Rattle.answers.specs.Calls.{Writes, Normalises, Edits}
 
-pub record Editing (f : Form) (h : Holder) (tag : ℕ) (c : Change) (packet lent : List ℕ) (a : Answer) (left : List ℕ) : Type 0 where
+pub record Editing (f : Form) (h : Holder) (cs : Changes) (packet lent : List ℕ) (a : Answer) (left : List ℕ) : Type 0 where
   -- what is kept and what is changed is one packet, written where the edit is allowed and that has at most 8,192 bytes
-  pub allowed : (b : List ℕ) (k : Kept f h tag c packet b) → Allowed f h tag c (content (k .packet)) → length b ≤ 8192 → Given b lent a left
-  pub only : Accepted a → (b : List ℕ) × (k : Kept f h tag c packet b) × Allowed f h tag c (content (k .packet)) × (length b ≤ 8192)
+  pub allowed : (b : List ℕ) (k : Kept f h cs packet b) → Allowed f h cs (content (k .packet)) → length b ≤ 8192 → Given b lent a left
+  pub only : Accepted a → (b : List ℕ) × (k : Kept f h cs packet b) × Allowed f h cs (content (k .packet)) × (length b ≤ 8192)
   -- "It is refused exactly when document 01's edit rules refuse it", the packet's own answer before them and its limit after
-  pub refusing : (n p : ℕ) → Why f h tag c packet n p → (a ≡ answerOf n p) × (left ≡ lent)
+  pub refusing : (n p : ℕ) → Why f h cs packet n p → (a ≡ answerOf n p) × (left ≡ lent)
 
 -- of a packet that `edit` changed
-pub record Edited (f : Form) (h : Holder) (tag : ℕ) (c : Change) (packet : List ℕ) (a : Answer) (left : List ℕ) : Type 0 where
+pub record Edited (f : Form) (h : Holder) (cs : Changes) (packet : List ℕ) (a : Answer) (left : List ℕ) : Type 0 where
   -- "gives a packet whose sheet is the old one with that one change": read answers so on both
-  pub changed : Changed f h tag c packet (written a left)
+  pub changed : Changed f h cs packet (written a left)
   -- "Every byte outside that item, the lengths around it and the checksum is kept, in order."
-  pub kept : Kept f h tag c packet (written a left)
+  pub kept : Kept f h cs packet (written a left)
   -- "From normal form, the result equals the edited sheet written afresh": normalise left the packet as it is, write the edited sheet
   pub afresh : (other : List ℕ) (b : Answer) (after : List ℕ) → Normalises f packet other b after → b .number ≡ 0 → written b after ≡ packet
-      → (out : List ℕ) (d : Answer) (then : List ℕ) → Writes (sheetBytes (editSheet h tag c (changed .sheet))) out d then → Given (written a left) out d then
+      → (out : List ℕ) (d : Answer) (then : List ℕ) → Writes (sheetBytes (editSheet h cs (changed .sheet))) out d then → Given (written a left) out d then
 
 pub record Demand3 : Type 0 where
-  pub editing : (f : Form) (h : Holder) (tag : ℕ) (c : Change) (packet lent : List ℕ) (a : Answer) (left : List ℕ) → Bytes packet
-      → Edits f h tag c packet lent a left → Editing f h tag c packet lent a left
-  pub edited : (f : Form) (h : Holder) (tag : ℕ) (c : Change) (packet lent : List ℕ) (a : Answer) (left : List ℕ) → Bytes packet
-      → Edits f h tag c packet lent a left → a .number ≡ 0 → Edited f h tag c packet a left
+  pub editing : (f : Form) (h : Holder) (cs : Changes) (packet lent : List ℕ) (a : Answer) (left : List ℕ) → Bytes packet
+      → Edits f h cs packet lent a left → Editing f h cs packet lent a left
+  pub edited : (f : Form) (h : Holder) (cs : Changes) (packet lent : List ℕ) (a : Answer) (left : List ℕ) → Bytes packet
+      → Edits f h cs packet lent a left → a .number ≡ 0 → Edited f h cs packet a left

@@ -5,7 +5,7 @@ use Prim.Native.Nat.{ℕ, _/_, _%_}
 use Rattle.format.specs.Coding.{Bytes}
 use Rattle.format.specs.Table.{Form}
 use Rattle.format.specs.Calls.{read, write, normalise}
-use Rattle.format.specs.Edit.{Holder, Change, edit}
+use Rattle.format.specs.Edit.{Holder, Changes, edit}
 use Rattle.answers.specs.declared.Answer.{Answer}
 use Rattle.answers.specs.Meet.{answerOf}
 use Rattle.answers.specs.Calls.{Reads, Writes, Normalises, Edits}
@@ -19,5 +19,5 @@ pub record FromC : Type 0 where
   pub writes : (sheet lent : List ℕ) (r : ℕ) (left : List ℕ) → Returns lent (write sheet) r left → Writes sheet lent (saidBy r) left
   pub normalises : (f : Form) (packet lent : List ℕ) (r : ℕ) (left : List ℕ) → Bytes packet → Returns lent (normalise f packet) r left
       → Normalises f packet lent (saidBy r) left
-  pub edits : (f : Form) (h : Holder) (tag : ℕ) (c : Change) (packet lent : List ℕ) (r : ℕ) (left : List ℕ) → Returns lent (edit f h tag c packet) r left
-      → Edits f h tag c packet lent (saidBy r) left
+  pub edits : (f : Form) (h : Holder) (cs : Changes) (packet lent : List ℕ) (r : ℕ) (left : List ℕ) → Returns lent (edit f h cs packet) r left
+      → Edits f h cs packet lent (saidBy r) left

@@ -1,19 +1,23 @@
 // The calls as C makes them: one number comes back.
 ghost use mathlib.Core.Path.{_≡_};
+ghost use mathlib.Core.Bool.{not};
+ghost use lib.Dec.{eqb};
 ghost use Prim.Native.Nat.{_+_, _*_, _≤_};
+ghost use mathlib.Core.List.{[], _∷_};
 ghost use Rattle.format.specs.Calls as Calls;
 ghost use Rattle.format.specs.Edit as Edit;
 ghost use Rattle.vmti.specs.Meet.{Returns, formNamed, holderNamed, changeNamed};
 use answers::Answer;
 use edit::edit;
 use edit_rules::Asked;
+use edit_rules::Change;
 use normalise::normalise;
 use read::read;
 use write::write;
 
 // 256 times the place or count, plus the refusal's number.
 fn one_number(a: Answer) -> u64
-    requires { ⌜ (a .number ≤ 19) × (a .place ≤ 65536) ⌝ }
+    requires { ⌜ (a .number ≤ 20) × (a .place ≤ 65536) ⌝ }
     ensures { λ r. ⌜ r ≡ 256 * a .place + a .number ⌝ }
 {
     256 * (a.place as u64) + a.number
@@ -41,7 +45,17 @@ pub extern "C" fn vmti_normalise(form: u64, packet: &[u8], out: &mut [u8]) -> u6
     one_number(normalise(packet, form != 0, out))
 }
 
-// Level 0 is the set, any other number the target named; removal 0 is a put.
+// Removal 0 is a put, any other number a removal.
+fn change(tag: u64, removal: u64) -> Change
+    ensures { λ r. ⌜ (r .tag ≡ tag) × (r .removal ≡ not (eqb removal 0)) ⌝ }
+{
+    Change {
+        tag,
+        removal: removal != 0,
+    }
+}
+
+// Level 0 is the set, any other number the target named.
 #[no_mangle]
 pub extern "C" fn vmti_edit(
     form: u64,
@@ -54,14 +68,46 @@ pub extern "C" fn vmti_edit(
     out: &mut [u8],
 ) -> u64
     ensures { λ r. ⌜ Returns (now (out .entry))
-        (Edit.edit (formNamed form) (holderNamed level target) tag (changeNamed removal (now (value .entry))) (now (packet .entry)))
+        (Edit.edit (formNamed form) (holderNamed level target) ((tag, changeNamed removal (now (value .entry))) ∷ []) (now (packet .entry)))
         r (now (out .exit)) ⌝ }
 {
     let a = Asked {
         set: level == 0,
         id: target,
-        tag,
-        removal: removal != 0,
+        first: change(tag, removal),
+        two: false,
+        second: change(0, 1),
     };
-    one_number(edit(packet, form != 0, a, value, out))
+    one_number(edit(packet, form != 0, a, value, value, out))
+}
+
+// The same with a second change to the target named: first the one, then the other, judged as one.
+#[no_mangle]
+pub extern "C" fn vmti_edit_two(
+    form: u64,
+    packet: &[u8],
+    level: u64,
+    target: u64,
+    tag: u64,
+    removal: u64,
+    value: &[u8],
+    tag2: u64,
+    removal2: u64,
+    value2: &[u8],
+    out: &mut [u8],
+) -> u64
+    ensures { λ r. ⌜ Returns (now (out .entry))
+        (Edit.edit (formNamed form) (holderNamed level target)
+            ((tag, changeNamed removal (now (value .entry))) ∷ (tag2, changeNamed removal2 (now (value2 .entry))) ∷ [])
+            (now (packet .entry)))
+        r (now (out .exit)) ⌝ }
+{
+    let a = Asked {
+        set: level == 0,
+        id: target,
+        first: change(tag, removal),
+        two: true,
+        second: change(tag2, removal2),
+    };
+    one_number(edit(packet, form != 0, a, value, value2, out))
 }

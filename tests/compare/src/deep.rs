@@ -5,8 +5,8 @@
 
 use second::generate::mutate::repair;
 use second::generate::tree::{Node, Tree, Width};
-use second::generate::{EditCase, PacketCase};
-use second::{read, Form, Level, SHEET_LIMIT};
+use second::generate::{EditCase, EditTwoCase, PacketCase};
+use second::{read, Form, Level, PACKET_LIMIT, SHEET_LIMIT};
 
 /// How many items or packs a level has: past 512 bytes, from where on a look
 /// back is made by passes.
@@ -65,6 +65,36 @@ pub fn edits() -> Vec<EditCase> {
             for (tag, value) in changes {
                 let value = value.map(<[u8]>::to_vec);
                 all.push(EditCase { form, packet: packet.clone(), level, tag, value });
+            }
+        }
+    }
+    all
+}
+
+/// Two changes to a target of what is accepted: those above, each with each,
+/// and a centroid.
+pub fn edits_two() -> Vec<EditTwoCase> {
+    let long: &[u8] = &[7; 200];
+    let stands = u64::from(TAGS + 7);
+    let changes: [(u64, Option<&[u8]>); 8] = [
+        (19, Some(&[0, 5])),
+        (20, Some(&[5])),
+        (9, Some(&[0, 0, 1])),
+        (stands, Some(long)),
+        (stands + 1, None),
+        (stands + 4_000, Some(long)),
+        (stands + 4_000, None),
+        (0, None),
+    ];
+    let mut all = Vec::new();
+    for (form, packet, _) in accepted() {
+        for level in [Level::Set, Level::Target(1)] {
+            for (tag, value) in changes {
+                for (tag2, value2) in changes {
+                    let [value, value2] = [value, value2].map(|value| value.map(<[u8]>::to_vec));
+                    let packet = packet.clone();
+                    all.push(EditTwoCase { form, packet, level, tag, value, tag2, value2, room: PACKET_LIMIT });
+                }
             }
         }
     }

@@ -3,7 +3,7 @@
 //! `cargo run --release --example speed`
 
 use second::generate::named;
-use second::{edit, locate, normalise, read, show, write};
+use second::{edit, edit_two, locate, normalise, read, show, write};
 use second::{Change, Form, Level, Row, PACKET_LIMIT, PACKET_SHEET_LIMIT, ROWS_LIMIT};
 use std::hint::black_box;
 use std::time::{Duration, Instant};
@@ -26,7 +26,7 @@ fn main() {
     let mut sheet = vec![0; PACKET_SHEET_LIMIT];
     let mut out = vec![0; PACKET_LIMIT];
     let mut rows = vec![Row::default(); ROWS_LIMIT];
-    println!("{:24}{:>6}  read write normalise locate edit show", "packet", "bytes");
+    println!("{:24}{:>6}  read write normalise locate edit show edit_two", "packet", "bytes");
     for named in named() {
         let (form, packet): (Form, &[u8]) = (named.form, &named.packet);
         let length = read(form, packet, &mut sheet).expect("named packets are accepted");
@@ -42,6 +42,11 @@ fn main() {
                 _ = black_box(edit(form, black_box(packet), level, tag, change, &mut out));
             }),
             time(|| _ = black_box(show(form, black_box(packet), packet, level, tag))),
+            time(|| {
+                let (packet, one, other) =
+                    (black_box(packet), Change::Put(&[7]), Change::Put(&[9]));
+                _ = black_box(edit_two(form, packet, level, tag, one, 22, other, &mut out));
+            }),
         ];
         let times = times.map(|time| format!("{time:.0}")).join(" ");
         println!("{:24}{:>6}  {times}", named.name, packet.len());

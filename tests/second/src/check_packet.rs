@@ -2,10 +2,10 @@
 //! packs, a pack holds items, and the first fault is answered.
 
 use crate::coding;
-use crate::packet::{quick_item, read_item, read_pack, Form, Item, Visit, KEY};
+use crate::packet::{quick_item, read_item, read_pack, Form, Item, Pack, Visit, KEY};
 use crate::refusal::*;
 use crate::repeat::{first_id, first_tag, Rising};
-use crate::table::{pack_rule, quick_table, set_rule, Kind, QuickTable};
+use crate::table::{pack_rule, quick_table, set_rule, Held, Kind, QuickTable, LOCATED, UNPAIRED};
 use crate::walk::{Ids, Tags};
 use crate::PACKET_LIMIT;
 
@@ -90,40 +90,48 @@ fn check_series(
             return refuse(ID_REPEATED, at);
         }
         visit.pack(&pack);
-        let located = check_pack(&bytes[..pack.end], pack.items, standalone, visit)?;
-        if standalone && !located {
-            return refuse(MISSING, at);
-        }
+        check_pack(&bytes[..pack.end], &pack, standalone, visit)?;
         visit.pack_end(&pack);
         at = pack.end;
     }
     Ok(())
 }
 
-/// The items of a pack, which ends where `bytes` do: is tag 17 there?
+/// The items of a pack, which ends where `bytes` do, then its end.
 #[inline]
 fn check_pack(
     bytes: &[u8],
-    start: usize,
+    pack: &Pack,
     standalone: bool,
     visit: &mut impl Visit,
-) -> Result<bool, Refusal> {
-    let mut level = Level::<false>::new(bytes, start, standalone);
-    let mut located = false;
-    let mut at = start;
+) -> Result<(), Refusal> {
+    let mut level = Level::<false>::new(bytes, pack.items, standalone);
+    let mut held = 0;
+    let mut at = pack.items;
     while at < bytes.len() {
         if let Some(item) = level.quick_item(at) {
-            located |= item.kind == Kind::Location;
+            held ^= item.held;
             visit.pack_item(&item);
             at = item.end;
             continue;
         }
         let item = level.item(at).or_else(|number| refuse(number, at))?;
-        located |= item.kind == Kind::Location;
+        held ^= item.held;
         visit.pack_item(&item);
         at = item.end;
     }
-    Ok(located)
+    check_end(held, standalone).or_else(|number| refuse(number, pack.place))
+}
+
+/// The end of a pack: 20, then 14.
+#[inline(always)]
+fn check_end(held: Held, standalone: bool) -> Result<(), u8> {
+    // One question for both, as nearly every pack is whole.
+    let asked = if standalone { UNPAIRED | LOCATED } else { UNPAIRED };
+    if (held ^ LOCATED) & asked == 0 {
+        return Ok(());
+    }
+    Err(if held & UNPAIRED != 0 { LONE } else { MISSING })
 }
 
 /// A set or a pack while its items are checked.

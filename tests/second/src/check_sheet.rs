@@ -7,7 +7,7 @@ use crate::refusal::*;
 use crate::repeat::{first_id, first_tag, Rising};
 use crate::sheet::{mark, quick_tagged, tagged, target_id, Marks, Tagged};
 use crate::sheet::{IT, OPENING, TARGET, TG, TI, TS};
-use crate::table::{pack_rule, quick_table, set_rule, Kind, Rule};
+use crate::table::{pack_rule, quick_table, set_rule, Held, Kind, Rule, LOCATED, UNPAIRED};
 use crate::{PACKET_LIMIT, SHEET_LIMIT};
 
 /// Checks a sheet: its form and the sizes of its packet, without 16.
@@ -101,7 +101,7 @@ impl<'a> Check<'a> {
         Ok(next)
     }
 
-    /// A `TG`: 17, 10, then its items, then its 14.
+    /// A `TG`: 17, 10, then its items, then its 20 and 14.
     #[inline]
     fn target(&mut self, at: usize) -> Result<usize, Refusal> {
         let id = match target_id(self.sheet, at) {
@@ -113,7 +113,10 @@ impl<'a> Check<'a> {
             return refuse(ID_REPEATED, at);
         }
         let items = check_target(self.sheet, at + TARGET, self.standalone)?;
-        if self.standalone && !items.located {
+        if items.held & UNPAIRED != 0 {
+            return refuse(LONE, at);
+        }
+        if self.standalone && items.held & LOCATED == 0 {
             return refuse(MISSING, at);
         }
         self.sizes.pack = id_width(id) + items.size;
@@ -149,28 +152,28 @@ struct TargetItems {
     end: usize,
     /// Their bytes in a packet.
     size: usize,
-    /// Whether tag 17 is among them.
-    located: bool,
+    /// What the target's end asks of them.
+    held: Held,
 }
 
 /// The `TI` records of a target, up to the first other record.
 #[inline(always)]
 fn check_target(sheet: &[u8], start: usize, standalone: bool) -> Result<TargetItems, Refusal> {
     let mut tags = Rising::new();
-    let (mut at, mut size, mut located) = (start, 0, false);
+    let (mut at, mut size, mut held) = (start, 0, 0);
     loop {
-        if let Some(item) = quick_item(sheet, at, standalone, &mut tags) {
-            located |= item.tag == 17;
+        if let Some((item, more)) = quick_item(sheet, at, standalone, &mut tags) {
+            held ^= more;
             size += 2 + item.end - item.start;
             at = item.end;
             continue;
         }
         if mark(sheet, at) != Some(TI) {
-            return Ok(TargetItems { end: at, size, located });
+            return Ok(TargetItems { end: at, size, held });
         }
         let item = target_item(sheet, start, at, standalone, &mut tags)
             .or_else(|number| refuse(number, at))?;
-        located |= item.tag == 17;
+        held ^= pack_rule(item.tag).held;
         size += Sizes::item(item.tag, item.end - item.start);
         at = item.end;
     }
@@ -178,7 +181,12 @@ fn check_target(sheet: &[u8], start: usize, standalone: bool) -> Result<TargetIt
 
 /// A `TI` with no fault whose tag rises above those before, or nothing.
 #[inline(always)]
-fn quick_item(sheet: &[u8], at: usize, standalone: bool, tags: &mut Rising) -> Option<Tagged> {
+fn quick_item(
+    sheet: &[u8],
+    at: usize,
+    standalone: bool,
+    tags: &mut Rising,
+) -> Option<(Tagged, Held)> {
     let item = quick_tagged(sheet, at)?;
     let quick = quick_table(false, standalone).get(usize::from(item.tag))?;
     let length = item.end - item.start;
@@ -188,7 +196,7 @@ fn quick_item(sheet: &[u8], at: usize, standalone: bool, tags: &mut Rising) -> O
     if quick.number && sheet[item.start] == 0 {
         return None;
     }
-    tags.rises(u64::from(item.tag)).then_some(item)
+    tags.rises(u64::from(item.tag)).then_some((item, quick.held))
 }
 
 /// A `TI`: 17, 7, 9, 13, 11, 12, 17.

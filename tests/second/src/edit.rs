@@ -1,13 +1,14 @@
-//! Edit one item of a packet, keeping all that stands elsewhere.
+//! Edit one item of a packet, or two of one target, keeping all that stands
+//! elsewhere.
 
 use crate::check_packet::check;
-use crate::coding::{length_width, shortest, TAG_LIMIT};
+use crate::coding::{shortest, TAG_LIMIT};
 use crate::find::{Find, Level};
-use crate::normal::Sizes;
 use crate::out::Out;
-use crate::packet::{Form, Item, Pack, KEY};
+use crate::packet::Form;
 use crate::refusal::*;
-use crate::table::{pack_rule, set_rule, Kind, Rule};
+use crate::splice::{NewItem, Splice};
+use crate::table::{pack_rule, set_rule, Kind, Rule, LOCATED, UNPAIRED};
 use crate::PACKET_LIMIT;
 
 /// What an edit does to its item.
@@ -26,10 +27,37 @@ pub fn edit(
     change: Change,
     out: &mut [u8],
 ) -> Answer {
-    let mut found = Find::new(level, tag);
+    edit_all(form, packet, level, [(tag, change)], out)
+}
+
+/// Edits two items of one target, in the order given and judged as one: the
+/// count of bytes written.
+#[allow(clippy::too_many_arguments)]
+pub fn edit_two(
+    form: Form,
+    packet: &[u8],
+    level: Level,
+    tag: u64,
+    change: Change,
+    tag2: u64,
+    change2: Change,
+    out: &mut [u8],
+) -> Answer {
+    edit_all(form, packet, level, [(tag, change), (tag2, change2)], out)
+}
+
+/// The packet's own answer, each change in turn, then 20, 14, 1, 16.
+fn edit_all<const N: usize>(
+    form: Form,
+    packet: &[u8],
+    level: Level,
+    changes: [(u64, Change); N],
+    out: &mut [u8],
+) -> Answer {
+    let mut found = Find::new(level, changes.map(|(tag, _)| tag));
     let start = check(form, packet, &mut found)?;
-    let item = plan(form, level, tag, change, &found).or_else(|number| refuse(number, 0))?;
-    let splice = Splice::new(form, packet, start, item, &found);
+    let items = plan(form, level, changes, &found).or_else(|number| refuse(number, 0))?;
+    let splice = Splice::new(form, packet, start, items, &found);
     if splice.total > PACKET_LIMIT {
         return refuse(OVER_LIMIT, 0);
     }
@@ -38,33 +66,55 @@ pub fn edit(
     Ok(splice.total)
 }
 
-/// The item as it will be written; none on a removal.
-type NewItem<'a> = Option<(u16, &'a [u8])>;
-
-/// 19, 18, then for a put 7, 13, 11, 12, for a removal 14.
-fn plan<'a>(
+/// The items as they will be written, none for a removal: each change in
+/// turn, then what the end of the level asks of the result of all.
+fn plan<'a, const N: usize>(
     form: Form,
     level: Level,
-    tag: u64,
+    changes: [(u64, Change<'a>); N],
+    found: &Find<N>,
+) -> Result<[NewItem<'a>; N], u8> {
+    let standalone = form == Form::Standalone;
+    let mut items = [None; N];
+    for turn in 0..N {
+        let (tag, change) = changes[turn];
+        // A second change names another item of a target.
+        let again = turn > 0 && (level == Level::Set || tag == changes[0].0);
+        if again || !editable(level, tag) {
+            return Err(NOT_EDITABLE);
+        }
+        // So no change before has touched the item that was found.
+        items[turn] = plan_one(standalone, level, tag as u16, change, found, turn)?;
+    }
+    check_result(standalone, level, &items, found)?;
+    Ok(items)
+}
+
+/// Whether an edit may name the tag, for 19.
+fn editable(level: Level, tag: u64) -> bool {
+    (1..=TAG_LIMIT).contains(&tag) && !(level == Level::Set && matches!(tag, 1 | 101))
+}
+
+/// One change after its 19: 18, then for a put 7, 13, 11, 12.
+#[inline(always)]
+fn plan_one<'a, const N: usize>(
+    standalone: bool,
+    level: Level,
+    tag: u16,
     change: Change<'a>,
-    found: &Find,
+    found: &Find<N>,
+    turn: usize,
 ) -> Result<NewItem<'a>, u8> {
     let set = level == Level::Set;
-    if tag == 0 || tag > TAG_LIMIT || set && (tag == 1 || tag == 101) {
-        return Err(NOT_EDITABLE);
-    }
-    let tag = tag as u16;
     if !set && found.pack.is_none() {
         return Err(ABSENT);
     }
-    let standalone = form == Form::Standalone;
     match change {
         Change::Put(value) => {
             let rule = if set { set_rule(tag) } else { pack_rule(tag) };
             Ok(Some((tag, value_to_put(rule, standalone, value)?)))
         }
-        Change::Remove if found.item.is_none() => Err(ABSENT),
-        Change::Remove if standalone && tag == if set { 2 } else { 17 } => Err(MISSING),
+        Change::Remove if found.items[turn].is_none() => Err(ABSENT),
         Change::Remove => Ok(None),
     }
 }
@@ -90,87 +140,32 @@ fn value_to_put<'a>(rule: &Rule, standalone: bool, value: &'a [u8]) -> Result<&'
     Ok(value)
 }
 
-/// The bytes of the result: what is kept, the item, the lengths around it.
-struct Splice<'a> {
-    packet: &'a [u8],
-    /// Where the set begins and where its kept bytes end (at the checksum).
-    start: usize,
-    end: usize,
-    /// The bytes replaced by the item.
-    gap: (usize, usize),
-    item: NewItem<'a>,
-    /// The series and pack around the item with their new lengths.
-    around: Option<Around>,
-    /// The outer length, in standalone.
-    outer: Option<usize>,
-    total: usize,
-}
-
-struct Around {
-    series: Item,
-    pack: Pack,
-    series_length: usize,
-    pack_length: usize,
-}
-
-impl Around {
-    /// The lengths once `gone` bytes of the pack have made room for `put`.
-    fn new(series: Item, pack: Pack, gone: usize, put: usize) -> Around {
-        let pack_length = pack.end - pack.start - gone + put;
-        let kept = series.end - series.start - (pack.end - pack.place);
-        let series_length = kept + length_width(pack_length) + pack_length;
-        Around { series, pack, series_length, pack_length }
-    }
-}
-
-impl<'a> Splice<'a> {
-    fn new(
-        form: Form,
-        packet: &'a [u8],
-        start: usize,
-        item: NewItem<'a>,
-        found: &Find,
-    ) -> Splice<'a> {
-        let end = found.checksum.map_or(packet.len(), |item| item.place);
-        let level_end = found.pack.map_or(end, |pack| pack.end);
-        let gap = found.item.map_or((level_end, level_end), |item| (item.place, item.end));
-        let gone = gap.1 - gap.0;
-        let put = item.map_or(0, |(tag, value)| Sizes::item(tag, value.len()));
-        let around = found.series.zip(found.pack);
-        let around = around.map(|(series, pack)| Around::new(series, pack, gone, put));
-        let (gone, put) = match &around {
-            None => (gone, put),
-            Some(Around { series, series_length, .. }) => {
-                (series.end - series.place, Sizes::item(series.tag, *series_length))
-            }
+/// 20, then 14. The packet was accepted, so a pack had both of 19 and 20 or
+/// neither: one is left alone if just one of them came or went.
+fn check_result<const N: usize>(
+    standalone: bool,
+    level: Level,
+    items: &[NewItem; N],
+    found: &Find<N>,
+) -> Result<(), u8> {
+    let (mut moved, mut untimed) = (0, false);
+    for (new, old) in items.iter().zip(&found.items) {
+        let tag = match (old, new) {
+            (Some(old), None) => old.tag,
+            (None, Some((tag, _))) => *tag,
+            _ => continue,
         };
-        let set = packet.len() - start - gone + put;
-        let outer = (form == Form::Standalone).then_some(set);
-        let total = outer.map_or(0, |set| KEY.len() + length_width(set)) + set;
-        Splice { packet, start, end, gap, item, around, outer, total }
-    }
-
-    fn write(&self, mut out: Out) {
-        let mut from = self.start;
-        if let Some(set) = self.outer {
-            out.copy(&KEY);
-            out.length(set);
-        }
-        if let Some(around) = &self.around {
-            out.copy(&self.packet[from..around.series.place]);
-            out.tag(around.series.tag);
-            out.length(around.series_length);
-            out.copy(&self.packet[around.series.start..around.pack.place]);
-            out.length(around.pack_length);
-            from = around.pack.start;
-        }
-        out.copy(&self.packet[from..self.gap.0]);
-        if let Some((tag, value)) = self.item {
-            out.item(tag, value, value.len());
-        }
-        out.copy(&self.packet[self.gap.1..self.end]);
-        if self.outer.is_some() {
-            out.checksum();
+        match level {
+            Level::Set => untimed |= tag == 2 && new.is_none(),
+            Level::Target(_) => moved ^= pack_rule(tag).held,
         }
     }
+    if moved & UNPAIRED != 0 {
+        return Err(LONE);
+    }
+    // Every standalone pack had tag 17, so there it can only have gone.
+    if standalone && (untimed || moved & LOCATED != 0) {
+        return Err(MISSING);
+    }
+    Ok(())
 }

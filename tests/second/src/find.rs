@@ -1,5 +1,5 @@
-//! Finding one named item, and what stands around it, while a packet is
-//! checked.
+//! Finding named items of one level, and what stands around them, while a
+//! packet is checked.
 
 use crate::packet::{Item, Pack, Visit};
 
@@ -10,30 +10,39 @@ pub enum Level {
     Target(u64),
 }
 
-/// What a checking pass found of a named item.
-pub(crate) struct Find {
+/// What a checking pass found of the items named.
+pub(crate) struct Find<const N: usize> {
     level: Level,
-    tag: u64,
+    tags: [u64; N],
     /// The pack that is passed is the target named.
     inside: bool,
-    pub item: Option<Item>,
+    pub items: [Option<Item>; N],
     pub pack: Option<Pack>,
     pub series: Option<Item>,
     pub checksum: Option<Item>,
 }
 
-impl Find {
-    pub fn new(level: Level, tag: u64) -> Find {
-        let (item, pack, series, checksum) = (None, None, None, None);
-        Find { level, tag, inside: false, item, pack, series, checksum }
+impl<const N: usize> Find<N> {
+    pub fn new(level: Level, tags: [u64; N]) -> Find<N> {
+        let (items, pack, series, checksum) = ([None; N], None, None, None);
+        Find { level, tags, inside: false, items, pack, series, checksum }
+    }
+
+    #[inline(always)]
+    fn note(&mut self, item: &Item) {
+        for (tag, found) in self.tags.iter().zip(&mut self.items) {
+            if *tag == u64::from(item.tag) {
+                *found = Some(*item);
+            }
+        }
     }
 }
 
-impl Visit for Find {
+impl<const N: usize> Visit for Find<N> {
     #[inline]
     fn set_item(&mut self, item: &Item) {
-        if self.level == Level::Set && self.tag == u64::from(item.tag) {
-            self.item = Some(*item);
+        if self.level == Level::Set {
+            self.note(item);
         }
     }
 
@@ -58,8 +67,8 @@ impl Visit for Find {
 
     #[inline]
     fn pack_item(&mut self, item: &Item) {
-        if self.inside && self.tag == u64::from(item.tag) {
-            self.item = Some(*item);
+        if self.inside {
+            self.note(item);
         }
     }
 }

@@ -24,14 +24,15 @@ mod repeat;
 mod rows;
 pub mod sheet;
 mod show;
+mod splice;
 pub mod table;
 mod walk;
 mod write;
 
-pub use edit::{edit, Change};
+pub use edit::{edit, edit_two, Change};
 pub use find::Level;
 pub use normal::normalise;
-pub use numbers::{edit_number, normalise_number, read_number, write_number};
+pub use numbers::{edit_number, edit_two_number, normalise_number, read_number, write_number};
 pub use packet::Form;
 pub use read::read;
 pub use refusal::{answer_number, Answer, Refusal};

@@ -1,7 +1,7 @@
 //! The calls as the C viewer makes them: choices are numbers, and one number
 //! comes back.
 
-use crate::{answer_number, edit, normalise, read, write, Change, Form, Level};
+use crate::{answer_number, edit, edit_two, normalise, read, write, Change, Form, Level};
 
 /// Reads a packet to a sheet.
 pub fn read_number(form: u64, packet: &[u8], sheet: &mut [u8]) -> u64 {
@@ -31,7 +31,41 @@ pub fn edit_number(
     value: &[u8],
     out: &mut [u8],
 ) -> u64 {
-    let level = if level == 0 { Level::Set } else { Level::Target(id) };
-    let change = if removal == 0 { Change::Put(value) } else { Change::Remove };
-    answer_number(edit(Form::from_number(form), packet, level, tag, change, out))
+    let (form, level, change) = (Form::from_number(form), named(level, id), change(removal, value));
+    answer_number(edit(form, packet, level, tag, change, out))
+}
+
+/// Edits two items of one target, its numbers read as for one; where level 0
+/// names the set, the second change is refused in its turn.
+#[allow(clippy::too_many_arguments)]
+pub fn edit_two_number(
+    form: u64,
+    packet: &[u8],
+    level: u64,
+    id: u64,
+    tag: u64,
+    removal: u64,
+    value: &[u8],
+    tag2: u64,
+    removal2: u64,
+    value2: &[u8],
+    out: &mut [u8],
+) -> u64 {
+    let (form, level) = (Form::from_number(form), named(level, id));
+    let (first, second) = (change(removal, value), change(removal2, value2));
+    answer_number(edit_two(form, packet, level, tag, first, tag2, second, out))
+}
+
+fn named(level: u64, id: u64) -> Level {
+    match level {
+        0 => Level::Set,
+        _ => Level::Target(id),
+    }
+}
+
+fn change(removal: u64, value: &[u8]) -> Change<'_> {
+    match removal {
+        0 => Change::Put(value),
+        _ => Change::Remove,
+    }
 }

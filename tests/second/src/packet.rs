@@ -2,7 +2,7 @@
 
 use crate::coding;
 use crate::refusal::{BAD_LENGTH, PAST_END};
-use crate::table::{pack_rule, set_rule, Kind, QuickTable};
+use crate::table::{pack_rule, set_rule, Held, Kind, QuickTable};
 
 /// Which of the two forms a packet has.
 #[derive(Clone, Copy, Debug, PartialEq, Eq)]
@@ -30,8 +30,10 @@ pub const KEY: [u8; 16] = [
 #[derive(Clone, Copy, Debug)]
 pub(crate) struct Item {
     pub tag: u16,
-    /// `Bytes` also for a number that is shortest as it stands.
+    /// `Bytes` also for any value that the quick question took as it stands.
     pub kind: Kind,
+    /// What it is to its pack's end; nothing in a set.
+    pub held: Held,
     /// Where its tag begins.
     pub place: usize,
     /// Where its value begins.
@@ -91,8 +93,8 @@ pub(crate) fn quick_item<const SET: bool>(
         return None;
     }
     let (start, end) = (place + 2, place + 2 + usize::from(*length));
-    let kind = if !SET && *tag == 17 { Kind::Location } else { Kind::Bytes };
-    Some(Item { tag: u16::from(*tag), kind, place, start, short: start, end })
+    let (tag, kind, held) = (u16::from(*tag), Kind::Bytes, quick.held);
+    Some(Item { tag, kind, held, place, start, short: start, end })
 }
 
 /// An item's tag and length, and its value's part: 3, 4, 3, 5, 6.
@@ -122,7 +124,7 @@ pub(crate) fn read_item<const SET: bool>(bytes: &[u8], place: usize) -> Result<I
             short += 1;
         }
     }
-    Ok(Item { tag, kind: rule.kind, place, start, short, end })
+    Ok(Item { tag, kind: rule.kind, held: rule.held, place, start, short, end })
 }
 
 #[inline(never)]

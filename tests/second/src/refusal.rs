@@ -3,7 +3,7 @@
 /// Why a call said no, and where.
 #[derive(Clone, Copy, Debug, PartialEq, Eq)]
 pub struct Refusal {
-    /// 1 to 19, as in document 01's table.
+    /// 1 to 20, as in document 01's table and request 1.
     pub number: u8,
     /// Counted from the input's start; for 16 the number needed.
     pub place: usize,
@@ -39,6 +39,7 @@ pub(crate) const TOO_SHORT: u8 = 16;
 pub(crate) const BAD_RECORD: u8 = 17;
 pub(crate) const ABSENT: u8 = 18;
 pub(crate) const NOT_EDITABLE: u8 = 19;
+pub(crate) const LONE: u8 = 20;
 
 pub(crate) fn refuse<T>(number: u8, place: usize) -> Result<T, Refusal> {
     Err(Refusal { number, place })

@@ -51,7 +51,8 @@ pub fn show(form: Form, reviewer: &[u8], detector: &[u8], level: Level, tag: u64
 
 /// The series of a set is no item to this pass, so tag 101 is not found.
 fn find(form: Form, packet: &[u8], level: Level, tag: u64) -> Result<Option<Item>, Refusal> {
-    let mut find = Find::new(level, tag);
+    let mut find = Find::new(level, [tag]);
     check(form, packet, &mut find)?;
-    Ok(find.item)
+    let [item] = find.items;
+    Ok(item)
 }

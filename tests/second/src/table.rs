@@ -1,5 +1,12 @@
 //! The one constant table of items: per level, tag, kind and lengths.
 
+/// What a pack's end asks of its items, each joined to those before by `^`:
+/// as a tag stands once, `LOCATED` is on if tag 17 stands and `UNPAIRED` if
+/// one of 19 and 20 stands without the other. Two bytes are quicker than one.
+pub(crate) type Held = u16;
+pub(crate) const LOCATED: Held = 1;
+pub(crate) const UNPAIRED: Held = 2;
+
 /// What a value is.
 #[derive(Clone, Copy, Debug, PartialEq, Eq)]
 pub enum Kind {
@@ -23,6 +30,8 @@ pub struct Rule {
     pub kind: Kind,
     /// An offset item of a pack, which standalone may not have.
     pub offset: bool,
+    /// What it is to its pack's end; nothing in a set.
+    pub(crate) held: Held,
     pub least: usize,
     pub greatest: usize,
 }
@@ -44,7 +53,7 @@ impl Rule {
 }
 
 const fn rule(kind: Kind, least: usize, greatest: usize) -> Rule {
-    Rule { kind, offset: false, least, greatest }
+    Rule { kind, offset: false, held: 0, least, greatest }
 }
 
 const fn number(width: usize) -> Rule {
@@ -64,7 +73,11 @@ const fn text(greatest: usize) -> Rule {
 }
 
 const fn offset() -> Rule {
-    Rule { kind: Kind::Bytes, offset: true, least: 3, greatest: 3 }
+    Rule { offset: true, ..bytes(3) }
+}
+
+const fn held(held: Held, rule: Rule) -> Rule {
+    Rule { held, ..rule }
 }
 
 /// One or more bytes.
@@ -102,11 +115,11 @@ const PACK_ITEMS: &[(usize, Rule)] = &[
     (14, offset()),
     (15, offset()),
     (16, offset()),
-    (17, rule(Kind::Location, 10, 22)),
-    (19, pixel(4)),  // centroid row
-    (20, pixel(4)),  // centroid column
-    (22, number(3)), // algorithm
-    (23, bytes(1)),  // detection status
+    (17, held(LOCATED, rule(Kind::Location, 10, 22))),
+    (19, held(UNPAIRED, pixel(4))), // centroid row
+    (20, held(UNPAIRED, pixel(4))), // centroid column
+    (22, number(3)),                // algorithm
+    (23, bytes(1)),                 // detection status
 ];
 
 const fn fill(listed: &[(usize, Rule)]) -> [Rule; 128] {
@@ -143,12 +156,13 @@ pub(crate) struct Quick {
     /// A bit for each length allowed below 32; none where the tag asks more.
     pub lengths: u32,
     pub number: bool,
+    pub held: Held,
 }
 
 pub(crate) type QuickTable = [Quick; 128];
 
 const fn quick(rules: &[Rule; 128], standalone: bool) -> QuickTable {
-    let mut table = [Quick { lengths: 0, number: false }; 128];
+    let mut table = [Quick { lengths: 0, number: false, held: 0 }; 128];
     let mut tag = 1;
     while tag < 128 {
         let rule = &rules[tag];
@@ -159,6 +173,7 @@ const fn quick(rules: &[Rule; 128], standalone: bool) -> QuickTable {
             length += 1;
         }
         table[tag].number = rule.is_number();
+        table[tag].held = rule.held;
         tag += 1;
     }
     table

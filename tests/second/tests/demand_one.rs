@@ -3,10 +3,11 @@
 
 mod common;
 
+use common::edits::Edit;
 use common::rooms::in_every_room;
 use second::generate;
-use second::{answer_number, edit, locate, normalise, read, show, write};
-use second::{edit_number, normalise_number, read_number, write_number};
+use second::{answer_number, edit, edit_two, locate, normalise, read, show, write};
+use second::{edit_number, edit_two_number, normalise_number, read_number, write_number};
 use second::{Form, Level, Row, Side, PACKET_LIMIT};
 
 fn run() -> (u64, u64) {
@@ -25,7 +26,7 @@ fn packets() {
         assert_eq!(sheet.as_ref().err(), normal.as_ref().err(), "case {index}");
         assert_eq!(sheet.as_ref().err(), rows.as_ref().err(), "case {index}");
         if let Err(refusal) = sheet {
-            assert!((1..=15).contains(&refusal.number), "case {index}: {refusal:?}");
+            assert!(matches!(refusal.number, 1..=15 | 20), "case {index}: {refusal:?}");
             assert!(refusal.place <= packet.len(), "case {index}: {refusal:?}");
         }
     }
@@ -56,6 +57,20 @@ fn edits() {
         match edited {
             Ok(edited) => assert!(edited.len() <= PACKET_LIMIT, "case {index}"),
             Err(refusal) => assert!(refusal.place <= packet.len(), "case {index}: {refusal:?}"),
+        }
+    }
+}
+
+#[test]
+fn edits_of_two() {
+    let (seed, cases) = run();
+    for index in 0..cases {
+        let edit = Edit::from(generate::edit_two(seed, index));
+        match in_every_room(|room: &mut [u8]| edit.answer(room)) {
+            Ok(edited) => assert!(edited.len() <= PACKET_LIMIT, "case {index}"),
+            Err(refusal) => {
+                assert!(refusal.place <= edit.packet.len(), "case {index}: {refusal:?}")
+            }
         }
     }
 }
@@ -96,6 +111,33 @@ fn numbers_say_the_same() {
         assert_eq!(number, answer_number(normalise(case.form, &case.packet, &mut other)));
         let sheet = generate::sheet(seed, index).bytes;
         assert_eq!(write_number(&sheet, &mut one), answer_number(write(&sheet, &mut other)));
+        assert_eq!(one, other, "case {index}");
+    }
+}
+
+#[test]
+fn numbers_say_the_same_of_two() {
+    let (seed, cases) = run();
+    let (mut one, mut other) = (vec![7; PACKET_LIMIT + 1], vec![7; PACKET_LIMIT + 1]);
+    for index in 0..cases / 4 {
+        let case = generate::edit_two(seed, index);
+        let form = u64::from(case.form == Form::Standalone) * (1 + index);
+        let (level, id) = match case.level {
+            Level::Set => (0, index),
+            Level::Target(id) => (1 + index, id),
+        };
+        let number = |value: &Option<Vec<u8>>| if value.is_none() { 1 + index } else { 0 };
+        let (removal, removal2) = (number(&case.value), number(&case.value2));
+        let value = case.value.as_deref().unwrap_or(&[9]);
+        let value2 = case.value2.as_deref().unwrap_or(&[]);
+        let (packet, tag, tag2, room) = (&case.packet, case.tag, case.tag2, case.room);
+        let out = &mut one[..room];
+        let number = edit_two_number(
+            form, packet, level, id, tag, removal, value, tag2, removal2, value2, out,
+        );
+        let (first, second, out) = (case.change(), case.change2(), &mut other[..room]);
+        let answer = edit_two(case.form, packet, case.level, tag, first, tag2, second, out);
+        assert_eq!(number, answer_number(answer), "case {index}");
         assert_eq!(one, other, "case {index}");
     }
 }

@@ -3,9 +3,10 @@
 
 mod common;
 
+use common::edits::{unmeasured, Edit};
 use common::model::parse;
-use second::generate::{self, EditCase};
-use second::{edit, locate, read, write, Form, Level, Row};
+use second::generate;
+use second::{locate, read, write, Form, Level, Refusal, Row};
 use second::{PACKET_LIMIT, PACKET_SHEET_LIMIT, ROWS_LIMIT, SHEET_LIMIT};
 use std::collections::BTreeMap;
 
@@ -41,55 +42,112 @@ fn width(length: usize) -> usize {
     }
 }
 
-/// The lengths around an edited item: outer, series, pack.
-fn around(case: &EditCase, packet: &[u8]) -> [usize; 3] {
-    let rows = rows_of(case.form, packet);
+/// The lengths around edited items: outer (0 in embedded), series, pack.
+fn around(edit: &Edit, packet: &[u8]) -> [usize; 3] {
+    let rows = rows_of(edit.form, packet);
     let length = |row: Option<&Row>| row.map_or(0, |row| row.length as usize);
-    let Level::Target(id) = case.level else {
-        return [packet.len(), 0, 0];
+    let outer = match edit.form {
+        Form::Embedded => 0,
+        // Its items begin after the key and the length itself.
+        Form::Standalone => packet.len() - (rows[0].offset as usize - 2),
     };
-    let ids = parse(case.form, packet).ids();
+    let Level::Target(id) = edit.level else {
+        return [outer, 0, 0];
+    };
+    let ids = parse(edit.form, packet).ids();
     let number = ids.iter().position(|&other| other == id).map(|at| at as u32 + 1);
     let series = rows.iter().find(|row| row.target == 0 && row.tag == 101);
     let pack = rows.iter().find(|row| Some(row.target) == number && row.tag == 0);
-    [packet.len(), length(series), length(pack)]
+    [outer, length(series), length(pack)]
 }
 
-/// Notes each length around an edit whose own width changed.
-fn note_widths(counts: &mut Counts, case: &EditCase, result: &[u8]) {
-    let (old, new) = (around(case, &case.packet), around(case, result));
-    for (name, (old, new)) in ["outer", "series", "pack"].iter().zip(old.into_iter().zip(new)) {
-        // The outer length leaves out the key and its own bytes.
-        let own = if *name == "outer" { 18 } else { 0 };
-        let (old, new) = (width(old.saturating_sub(own)), width(new.saturating_sub(own)));
-        if old != new && (*name != "outer" || case.form == Form::Standalone) {
+const AROUND: [&str; 3] = ["outer", "series", "pack"];
+
+/// Notes each length around an edit that is at an edge, and each whose own
+/// width changed.
+fn note_lengths(counts: &mut Counts, edit: &Edit, result: &[u8]) {
+    let (old, new) = (around(edit, &edit.packet), around(edit, result));
+    for (name, (old, new)) in AROUND.iter().zip(old.into_iter().zip(new)) {
+        if matches!(new, 127 | 128 | 255 | 256) {
+            note(counts, format!("{name} of {new}"));
+        }
+        let (old, new) = (width(old), width(new));
+        if old != new {
             note(counts, format!("{name} {old} to {new}"));
         }
     }
 }
 
-#[test]
-fn edits_move_lengths_over_edges() {
-    let mut counts = Counts::new();
-    let mut out = vec![0; PACKET_LIMIT];
-    for index in 0..CASES {
-        let case = generate::edit(SEED, index);
-        let change = case.change();
-        let answer = edit(case.form, &case.packet, case.level, case.tag, change, &mut out);
-        let Ok(count) = answer else {
-            continue;
-        };
-        if count > PACKET_LIMIT - 2 {
-            note(&mut counts, format!("result of {count}"));
+/// Notes what the results of edits come to, refused ones too.
+fn note_edit(counts: &mut Counts, edit: &Edit) {
+    match edit.call() {
+        Ok(result) => {
+            if result.len() > PACKET_LIMIT - 2 {
+                note(counts, format!("result of {}", result.len()));
+            }
+            note_lengths(counts, edit, &result);
         }
-        note_widths(&mut counts, &case, &out[..count]);
+        Err(Refusal { number: 1, .. }) if edit.packet.len() <= PACKET_LIMIT => {
+            let size = unmeasured(edit).map_or(0, |bytes| bytes.len());
+            if size == PACKET_LIMIT + 1 {
+                note(counts, format!("result of {size}"));
+            }
+        }
+        Err(_) => {}
     }
-    let mut met = vec!["result of 8191".to_string(), "result of 8192".to_string()];
-    for name in ["outer", "series", "pack"] {
+}
+
+/// What every kind of edit must meet: results beside the limit, and each
+/// length around an item moved over each edge.
+fn met_by_edits() -> Vec<String> {
+    let mut met: Vec<String> =
+        [8_191, 8_192, 8_193].map(|count| format!("result of {count}")).into();
+    for name in AROUND {
         let widths = [(1, 2), (2, 1), (2, 3), (3, 2)];
         met.extend(widths.map(|(old, new)| format!("{name} {old} to {new}")));
     }
+    met
+}
+
+#[test]
+fn edits_move_lengths_over_edges() {
+    let mut counts = Counts::new();
+    for index in 0..CASES {
+        note_edit(&mut counts, &generate::edit(SEED, index).into());
+    }
+    assert_met(&counts, &met_by_edits());
+}
+
+#[test]
+fn edits_of_two_move_lengths_over_edges() {
+    let mut counts = Counts::new();
+    for index in 0..CASES {
+        note_edit(&mut counts, &generate::edit_two(SEED, index).into());
+    }
+    let mut met = met_by_edits();
+    for name in AROUND {
+        met.extend([127, 128, 255, 256].map(|length| format!("{name} of {length}")));
+    }
     assert_met(&counts, &met);
+}
+
+/// The rooms of edits of two changes lie on either side of what is needed.
+#[test]
+fn edits_of_two_have_rooms_about_their_size() {
+    let mut counts = Counts::new();
+    let mut out = vec![0; PACKET_LIMIT + 1];
+    for index in 0..CASES {
+        let case = generate::edit_two(SEED, index);
+        let room = case.room;
+        match Edit::from(case).answer(&mut out[..room]) {
+            Ok(count) if room - count < 2 => {
+                note(&mut counts, format!("{} to spare", room - count))
+            }
+            Err(Refusal { number: 16, place }) if place == room + 1 => note(&mut counts, "1 short"),
+            _ => {}
+        }
+    }
+    assert_met(&counts, &["0 to spare", "1 to spare", "1 short"].map(String::from));
 }
 
 #[test]
@@ -163,7 +221,9 @@ fn named_packets_are_what_they_say() {
     };
     let packs = |rows: &[Row]| rows.iter().filter(|row| row.target > 0 && row.tag == 0).count();
     assert_eq!(find("example-a").len(), 5);
-    for (name, count) in [("targets-12", 12), ("targets-290", 290), ("ids-strewn-290", 290), ("ids-falling", 290)] {
+    for (name, count) in
+        [("targets-12", 12), ("targets-290", 290), ("ids-strewn-290", 290), ("ids-falling", 290)]
+    {
         assert_eq!(packs(&find(name)), count);
     }
     assert_eq!(packs(&find("targets-290-standalone")), 290);

@@ -3,7 +3,8 @@
 //! word it does no more. Prints for each call and input their names, the
 //! input's bytes and the nanoseconds of one call: read, packet to sheet; write,
 //! that sheet to a packet; normalise; edit, a put of set tag 9; edit-target, a
-//! put of tag 4 of the target 1. Of a sheet it times write alone.
+//! put of tag 4 of the target 1; edit-two, its tags 19 and 20. Of a sheet it
+//! times write alone.
 //! `bench count CALL TIMES NAME` makes one call on a packet so many times, for
 //! who counts its instructions.
 
@@ -11,7 +12,7 @@ use compare::deep::between;
 use second::generate::limits::most_packs;
 use second::generate::tree::{Node, Tree};
 use second::generate::named;
-use second::{edit, normalise, read, write, Change, Form, Level, PACKET_SHEET_LIMIT, SHEET_LIMIT};
+use second::{edit, edit_two, normalise, read, write, Answer, Change, Form, Level, PACKET_SHEET_LIMIT, SHEET_LIMIT};
 use std::hint::black_box;
 use std::time::{Duration, Instant};
 
@@ -56,6 +57,7 @@ fn repeat(call: &str, times: u32, name: &str, out: &mut [u8]) {
             "read" => black_box(read(form, black_box(&packet), black_box(out))),
             "write" => black_box(write(black_box(&sheet), black_box(out))),
             "normalise" => black_box(normalise(form, black_box(&packet), black_box(out))),
+            "edit-two" => black_box(centre(form, black_box(&packet), black_box(out))),
             _ => black_box(edit(form, black_box(&packet), Level::Set, 9, Change::Put(&[1, 0]), black_box(out))),
         }
     });
@@ -75,6 +77,11 @@ fn time_packet(name: &str, form: Form, packet: &[u8], out: &mut [u8]) {
     for (call, level, tag, put) in edits {
         print(call, time(|| _ = black_box(edit(form, black_box(packet), level, tag, put, black_box(out)))));
     }
+    print("edit-two", time(|| _ = black_box(centre(form, black_box(packet), black_box(out)))));
+}
+
+fn centre(form: Form, packet: &[u8], out: &mut [u8]) -> Answer {
+    edit_two(form, packet, Level::Target(1), 19, Change::Put(&[2, 17]), 20, Change::Put(&[5, 131]), out)
 }
 
 fn time_write(name: &str, sheet: &[u8], out: &mut [u8]) {

@@ -2,20 +2,21 @@
 //! reader's answers: `boundary SEED COUNT`, COUNT seeded packets after
 //! document 01's examples, the named ones and those that take the calls deep,
 //! each read and, every other one, normalised, half as many seeded sheets, each
-//! written, and half as many seeded edits; and for every sixteenth a packet and
-//! a sheet of targets laid out alike, one byte of them changed; with two rooms
-//! each.
+//! written, and half as many seeded edits of one change and of two; and for
+//! every sixteenth a packet and a sheet of targets laid out alike, one byte of
+//! them changed; with two rooms each.
 //!
 //! The stream, numbers low byte first: count of inputs (8); for each its call,
-//! form, level, target, tag and removal (8 each), the length (4) and bytes of
-//! the value to put, those of the input, then for each room its size (4), the
-//! one number (8), the count of bytes written (4) and those bytes.
+//! form, level, target, tag and removal, and the second change's tag and removal
+//! (8 each), the length (4) and bytes of the value to put, of the second value,
+//! and of the input, then for each room its size (4), the one number (8), the
+//! count of bytes written (4) and those bytes.
 
 use compare::deep;
 use second::generate::mutate::repair;
 use second::generate::random::Random;
-use second::generate::{edit, named, packet, sheet, EditCase, PacketCase};
-use second::{edit_number, normalise_number, read, read_number, write_number};
+use second::generate::{edit, edit_two, named, packet, sheet, EditCase, EditTwoCase, PacketCase};
+use second::{edit_number, edit_two_number, normalise_number, read, read_number, write_number};
 use second::{Form, Level, PACKET_LIMIT, PACKET_SHEET_LIMIT, SHEET_LIMIT};
 use std::io::{self, BufWriter, Write};
 
@@ -30,15 +31,18 @@ enum Call {
     Write,
     Normalise,
     Edit,
+    EditTwo,
 }
 
 /// A call and what it is made on.
 struct Question {
     call: Call,
     form: u64,
-    /// Level, target, tag and removal of an edit.
-    names: [u64; 4],
-    value: Vec<u8>,
+    /// Level and target of an edit.
+    names: [u64; 2],
+    /// Tag, removal and value of its changes, the second of which an edit of
+    /// one does not look at.
+    changes: [(u64, u64, Vec<u8>); 2],
     input: Vec<u8>,
 }
 
@@ -49,8 +53,13 @@ impl Question {
             Call::Write => write_number(&self.input, room),
             Call::Normalise => normalise_number(self.form, &self.input, room),
             Call::Edit => {
-                let [level, target, tag, removal] = self.names;
-                edit_number(self.form, &self.input, level, target, tag, removal, &self.value, room)
+                let ([level, target], [(tag, removal, value), _]) = (self.names, &self.changes);
+                edit_number(self.form, &self.input, level, target, *tag, *removal, value, room)
+            }
+            Call::EditTwo => {
+                let ([level, target], [(tag, removal, value), (tag2, removal2, value2)]) = (self.names, &self.changes);
+                let (form, input) = (self.form, &self.input);
+                edit_two_number(form, input, level, target, *tag, *removal, value, *tag2, *removal2, value2, room)
             }
         }
     }
@@ -59,7 +68,7 @@ impl Question {
     fn most(&self) -> [usize; 2] {
         match self.call {
             Call::Read => [PACKET_SHEET_LIMIT, SHEET_LIMIT],
-            Call::Write | Call::Normalise | Call::Edit => [PACKET_LIMIT, PACKET_LIMIT + 1],
+            _ => [PACKET_LIMIT, PACKET_LIMIT + 1],
         }
     }
 }
@@ -73,15 +82,19 @@ fn main() -> io::Result<()> {
     first.extend(deep::packets());
     let named = first.len() as u64;
     let edits: Vec<EditCase> = compare::edits().into_iter().chain(deep::edits()).collect();
+    let twos = deep::edits_two();
     let sheets = deep::sheets();
     let out = &mut BufWriter::new(io::stdout().lock());
-    out.write_all(&(2 * named + (edits.len() + sheets.len()) as u64 + 2 * count + count / 2 + 2 * count.div_ceil(16)).to_le_bytes())?;
+    out.write_all(&(2 * named + (edits.len() + twos.len() + sheets.len()) as u64 + 2 * count + 2 * (count / 2) + 2 * count.div_ceil(16)).to_le_bytes())?;
     for (index, case) in first.iter().enumerate() {
         write_case(out, index, &of_packet(Call::Read, index, case))?;
         write_case(out, index, &of_packet(Call::Normalise, index, case))?;
     }
     for (index, case) in edits.into_iter().enumerate() {
         write_case(out, index, &of_edit(index, case))?;
+    }
+    for (index, case) in twos.into_iter().enumerate() {
+        write_case(out, index, &of_edit_two(index, case))?;
     }
     for (index, sheet) in sheets.into_iter().enumerate() {
         write_case(out, index, &of_sheet(sheet))?;
@@ -94,6 +107,7 @@ fn main() -> io::Result<()> {
         } else {
             write_case(out, place / 2, &of_sheet(sheet(seed, index / 2).bytes))?;
             write_case(out, place / 2, &of_edit(place, edit(seed, index / 2)))?;
+            write_case(out, place / 2, &of_edit_two(place, edit_two(seed, index / 2)))?;
         }
     }
     for index in 0..count.div_ceil(16) {
@@ -126,25 +140,43 @@ fn one_changed(random: &mut Random, bytes: &[u8]) -> Vec<u8> {
 }
 
 fn of_packet(call: Call, index: usize, case: &PacketCase) -> Question {
-    Question { call, form: form(index, case.form), names: [0; 4], value: Vec::new(), input: case.bytes.clone() }
+    Question { call, form: form(index, case.form), names: [0; 2], changes: Default::default(), input: case.bytes.clone() }
 }
 
 fn of_sheet(input: Vec<u8>) -> Question {
-    Question { call: Call::Write, form: 0, names: [0; 4], value: Vec::new(), input }
+    Question { call: Call::Write, form: 0, names: [0; 2], changes: Default::default(), input }
 }
 
-/// Where the set is named the target is not looked at, nor the value where
-/// the item is removed.
 fn of_edit(index: usize, case: EditCase) -> Question {
-    let other = |turn: usize| OTHER[(index + turn) % OTHER.len()];
-    let (level, target) = match case.level {
-        Level::Set => (0, other(1)),
-        Level::Target(id) => (other(1), id),
-    };
-    let removal = if case.value.is_some() { 0 } else { other(2) };
-    let value = case.value.unwrap_or_else(|| vec![0; index % 3]);
-    let names = [level, target, case.tag, removal];
-    Question { call: Call::Edit, form: form(index, case.form), names, value, input: case.packet }
+    let changes = [change(index, case.tag, case.value), (0, 0, Vec::new())];
+    let (form, names) = (form(index, case.form), holder(index, case.level));
+    Question { call: Call::Edit, form, names, changes, input: case.packet }
+}
+
+fn of_edit_two(index: usize, case: EditTwoCase) -> Question {
+    let changes = [change(index, case.tag, case.value), change(index + 1, case.tag2, case.value2)];
+    let (form, names) = (form(index, case.form), holder(index, case.level));
+    Question { call: Call::EditTwo, form, names, changes, input: case.packet }
+}
+
+fn other(index: usize, turn: usize) -> u64 {
+    OTHER[(index + turn) % OTHER.len()]
+}
+
+/// Where the set is named the target is not looked at.
+fn holder(index: usize, level: Level) -> [u64; 2] {
+    match level {
+        Level::Set => [0, other(index, 1)],
+        Level::Target(id) => [other(index, 1), id],
+    }
+}
+
+/// Nor is the value where the item is removed.
+fn change(index: usize, tag: u64, value: Option<Vec<u8>>) -> (u64, u64, Vec<u8>) {
+    match value {
+        Some(value) => (tag, 0, value),
+        None => (tag, other(index, 2), vec![0; index % 3]),
+    }
 }
 
 fn form(index: usize, form: Form) -> u64 {
@@ -157,10 +189,12 @@ fn form(index: usize, form: Form) -> u64 {
 fn write_case(out: &mut impl Write, index: usize, question: &Question) -> io::Result<()> {
     out.write_all(&(question.call as u64).to_le_bytes())?;
     out.write_all(&question.form.to_le_bytes())?;
-    for number in question.names {
+    let [(tag, removal, value), (tag2, removal2, value2)] = &question.changes;
+    for number in question.names.iter().chain([tag, removal, tag2, removal2]) {
         out.write_all(&number.to_le_bytes())?;
     }
-    write_bytes(out, &question.value)?;
+    write_bytes(out, value)?;
+    write_bytes(out, value2)?;
     write_bytes(out, &question.input)?;
     let mut room = vec![0; SHEET_LIMIT];
     for size in rooms(index, question) {

@@ -3,8 +3,8 @@
 //!
 //! `definitions SEED COUNT`: COUNT cases of each kind, from index 0.
 
-use second::generate::{edit, packet, sheet, show};
-use second::{Answer, Form, Level, Row, Shown, Side};
+use second::generate::{edit, edit_two, packet, sheet, show};
+use second::{Answer, Change, Form, Level, Row, Shown, Side};
 
 /// The checker computes with numbers, not bytes: long cases cost seconds.
 const LONGEST: usize = 400;
@@ -16,6 +16,7 @@ fn main() {
     packets(seed, count);
     sheets(seed, count);
     edits(seed, count);
+    edits_two(seed, count);
     shows(seed, count);
 }
 
@@ -28,7 +29,7 @@ use Rattle.format.specs.Answer.{Ans, ok, refused}
 use Rattle.format.specs.Table.{Form, embedded, standalone}
 use Rattle.format.specs.Calls.{read, write, normalise}
 use Rattle.format.specs.Rows.{Row, row, locate}
-use Rattle.format.specs.Edit.{Holder, theSet, target, Change, put, remove, edit}
+use Rattle.format.specs.Edit.{Holder, theSet, target, put, remove, Changes, edit}
 use Rattle.format.specs.Show.{Shown, shown, reviewer, detector, show}
 use Rattle.format.proofs.tables.Open.{opened}
 ";
@@ -110,30 +111,41 @@ fn sheets(seed: u64, count: u64) {
 }
 
 fn edits(seed: u64, count: u64) {
-    let short = |case: &second::generate::EditCase| {
-        case.packet.len() + case.value.as_ref().map_or(0, Vec::len) <= LONGEST
+    let cases = (0..count).map(|index| edit(seed, index));
+    let rows = cases.filter(|case| case.packet.len() + len(&case.value) <= LONGEST).map(|case| {
+        let question = edit_asked(case.form, case.level, &[(case.tag, case.change())], &case.packet);
+        (question, bytes_of(|room| second::edit(case.form, &case.packet, case.level, case.tag, case.change(), room)))
+    });
+    edit_table("edits", rows);
+}
+
+fn edits_two(seed: u64, count: u64) {
+    let cases = (0..count).map(|index| edit_two(seed, index));
+    let rows = cases.filter(|case| case.packet.len() + len(&case.value) + len(&case.value2) <= LONGEST).map(|case| {
+        let changes = [(case.tag, case.change()), (case.tag2, case.change2())];
+        let [(tag, change), (tag2, change2)] = changes;
+        let question = edit_asked(case.form, case.level, &changes, &case.packet);
+        (question, bytes_of(|room| second::edit_two(case.form, &case.packet, case.level, tag, change, tag2, change2, room)))
+    });
+    edit_table("twos", rows);
+}
+
+fn len(value: &Option<Vec<u8>>) -> usize {
+    value.as_ref().map_or(0, Vec::len)
+}
+
+fn edit_asked(form: Form, level: Level, changes: &[(u64, Change)], packet: &[u8]) -> String {
+    let one = |(tag, change): &(u64, Change)| match change {
+        Change::Put(value) => format!("({tag}, put ({})) ∷ ", list(value)),
+        Change::Remove => format!("({tag}, remove) ∷ "),
     };
-    let cases = (0..count).map(|index| edit(seed, index)).filter(short);
-    let rows: Vec<_> = cases
-        .map(|case| {
-            let change = match &case.value {
-                Some(value) => format!("put ({})", list(value)),
-                None => "remove".to_string(),
-            };
-            let question = format!(
-                "{}, {}, {}, {change}, {}",
-                form_of(case.form),
-                holder(case.level),
-                case.tag,
-                list(&case.packet)
-            );
-            let result =
-                bytes_of(|room| second::edit(case.form, &case.packet, case.level, case.tag, case.change(), room));
-            (question, result)
-        })
-        .collect();
-    let asks = "edit (c .0 .0) (c .0 .1) (c .0 .2) (c .0 .3) (c .0 .4)";
-    table("edits", ("Form × Holder × ℕ × Change × List ℕ", "Ans (List ℕ)"), asks, &rows);
+    let changes: String = changes.iter().map(one).collect();
+    format!("{}, {}, {changes}[], {}", form_of(form), holder(level), list(packet))
+}
+
+fn edit_table(name: &str, rows: impl Iterator<Item = (String, String)>) {
+    let asks = "edit (c .0 .0) (c .0 .1) (c .0 .2) (c .0 .3)";
+    table(name, ("Form × Holder × Changes × List ℕ", "Ans (List ℕ)"), asks, &rows.collect::<Vec<_>>());
 }
 
 fn shows(seed: u64, count: u64) {

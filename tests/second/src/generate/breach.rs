@@ -1,9 +1,10 @@
-//! Faults against the rules between items and against the table, 9 to 15.
+//! Faults against the rules between items and against the table, 9 to 15
+//! and 20.
 
 use super::damage::{insert, level, pack, packs};
 use super::random::Random;
 use super::tree::{Node, Tail, Tree};
-use super::valid::{self, item, OFFSET_TAGS, PACK_TAGS, SET_TAGS};
+use super::valid::{self, item, CENTROID, OFFSET_TAGS, PACK_TAGS, SET_TAGS};
 use crate::packet::Form;
 use crate::table::{pack_rule, set_rule, Rule};
 
@@ -102,6 +103,35 @@ pub(super) fn missing(random: &mut Random, tree: &mut Tree) {
             let nodes = pack(random, tree);
             nodes.retain(|node| node.tag() != 17);
         }
+    }
+}
+
+/// One of 19 and 20 without the other, with tag 17 or not, and sometimes a
+/// fault that comes later.
+pub(super) fn lone(random: &mut Random, tree: &mut Tree) {
+    let style = random.pick(&[valid::NORMAL, valid::Style { long: 2, padded: 2 }]);
+    let nodes = pack(random, tree);
+    nodes.retain(|node| !CENTROID.contains(&node.tag()));
+    let place = random.below(3);
+    if place < 2 {
+        nodes.retain(|node| node.tag() != 17);
+    }
+    if place == 1 {
+        let node = item(random, false, 17, style);
+        insert(random, nodes, node);
+    }
+    let tag = random.pick(&CENTROID);
+    let node = item(random, false, tag, style);
+    insert(random, nodes, node);
+    match random.below(8) {
+        0 => nodes.push(Node::Raw(random.pick(&[vec![24], vec![0], vec![24, 0]]))),
+        1 => {
+            let bad = random.pick(&[vec![0x80], vec![0], vec![1, 0x80], vec![9, 1]]);
+            packs(random, tree).push(Node::Raw(bad));
+        }
+        2 => tree.set.push(Node::Raw(random.pick(&[vec![0], vec![5, 0], vec![1, 0x81]]))),
+        3 => wrong_sum(random, tree),
+        _ => {}
     }
 }
 

@@ -8,8 +8,8 @@ use super::valid::{self, PACK_TAGS, SET_TAGS};
 use crate::packet::Form;
 use crate::PACKET_LIMIT;
 
-/// The refusals that a packet alone can lead to.
-pub const NUMBERS: [u8; 15] = [1, 2, 3, 4, 5, 6, 7, 8, 9, 10, 11, 12, 13, 14, 15];
+/// The refusals that a packet alone can lead to; 20 has many places.
+pub const NUMBERS: [u8; 18] = [1, 2, 3, 4, 5, 6, 7, 8, 9, 10, 11, 12, 13, 14, 15, 20, 20, 20];
 
 /// Puts one fault into a tree that was accepted.
 pub fn damage(random: &mut Random, tree: &mut Tree, number: u8) {
@@ -28,6 +28,7 @@ pub fn damage(random: &mut Random, tree: &mut Tree, number: u8) {
         12 => pixel_zero(random, tree),
         13 => may_not_stand(random, tree),
         14 => missing(random, tree),
+        20 => lone(random, tree),
         _ => wrong_sum(random, tree),
     }
 }

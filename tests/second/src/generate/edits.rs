@@ -3,14 +3,14 @@
 use super::packets::{mutated, refused};
 use super::random::{self, Random};
 use super::tree::{Node, Outer, Tree};
-use super::valid::{self, Style, EDGES, NORMAL, OFFSET_TAGS, PACK_TAGS, SET_TAGS};
-use super::{limits, EditCase};
+use super::valid::{self, Style, CENTROID, EDGES, NORMAL, OFFSET_TAGS, PACK_TAGS, SET_TAGS};
+use super::{damage, limits, EditCase, PacketCase};
 use crate::packet::Form;
 use crate::table::{pack_rule, set_rule, Kind, Rule};
 use crate::{Level, PACKET_LIMIT};
 
 /// The refusals of the edit's own rules.
-const NUMBERS: [u8; 8] = [1, 7, 11, 12, 13, 14, 18, 19];
+const NUMBERS: [u8; 9] = [1, 7, 11, 12, 13, 14, 18, 19, 20];
 
 /// Which kind of edit an index stands for.
 pub fn edit(seed: u64, index: u64) -> EditCase {
@@ -35,7 +35,8 @@ pub fn rule(level: Level, tag: u16) -> &'static Rule {
     }
 }
 
-fn tree(random: &mut Random, form: Form) -> Tree {
+/// An accepted packet, most often out of normal form.
+pub fn tree(random: &mut Random, form: Form) -> Tree {
     let style = if random.once_in(4) { NORMAL } else { Style::loose(random) };
     valid::tree(random, form, style)
 }
@@ -88,7 +89,8 @@ pub fn value(random: &mut Random, level: Level, tag: u16) -> Vec<u8> {
     }
 }
 
-fn change(random: &mut Random, level: Level, tag: u16) -> Option<Vec<u8>> {
+/// A value to put or a removal, sometimes one that is refused.
+pub fn change(random: &mut Random, level: Level, tag: u16) -> Option<Vec<u8>> {
     match random.below(16) {
         0..=4 => None,
         5 => {
@@ -119,7 +121,7 @@ fn pack_edge(random: &mut Random, form: Form) -> EditCase {
     let ids = tree.ids();
     let level = Level::Target(random.pick(&ids));
     match random.below(6) {
-        0 => case(&tree, level, 19, None),
+        0 => case(&tree, level, 9, None),
         1 => case(&tree, level, 18, None),
         2 => {
             let length = random.pick(&EDGES) - random.below(20);
@@ -128,7 +130,7 @@ fn pack_edge(random: &mut Random, form: Form) -> EditCase {
         }
         3 => any_of(random, &mut tree),
         _ => {
-            let tag = random.pick(&[4, 6, 9, 19, 22, 200]);
+            let tag = random.pick(&[4, 6, 9, 12, 22, 200]);
             let value = value(random, level, tag);
             case(&tree, level, u64::from(tag), Some(value))
         }
@@ -207,6 +209,7 @@ fn own_refusal(random: &mut Random, form: Form, number: u8) -> EditCase {
         13 => (target, u64::from(random.pick(&OFFSET_TAGS)), Some(vec![1; random.between(1, 3)])),
         14 => random.pick(&[(Level::Set, 2, None), (target, 17, None)]),
         18 => absent(random, level, target),
+        20 => lone(random, &mut tree, target),
         _ => not_editable(random, level),
     };
     case(&tree, level, tag, value)
@@ -225,6 +228,14 @@ fn absent(random: &mut Random, level: Level, target: Level) -> Named {
     ])
 }
 
+/// One of 19 and 20 put where neither stands, or removed where both do.
+fn lone(random: &mut Random, tree: &mut Tree, target: Level) -> Named {
+    let tag = random.pick(&CENTROID);
+    let stands = standing(tree, target).contains(&tag);
+    let value = (!stands).then(|| value(random, target, tag));
+    (target, u64::from(tag), value)
+}
+
 fn not_editable(random: &mut Random, level: Level) -> Named {
     let value = random.pick(&[None, Some(vec![1, 2]), Some(Vec::new())]);
     match random.once_in(2) {
@@ -233,12 +244,20 @@ fn not_editable(random: &mut Random, level: Level) -> Named {
     }
 }
 
+/// A packet that is refused.
+pub fn bad_packet(random: &mut Random, form: Form, turn: u64) -> PacketCase {
+    match turn % 4 {
+        0 => mutated(random, form),
+        _ => {
+            let number = random.pick(&damage::NUMBERS);
+            refused(random, form, number)
+        }
+    }
+}
+
 /// An edit of a packet that is itself refused, its own rules broken or not.
 fn packet_refused(random: &mut Random, form: Form, turn: u64) -> EditCase {
-    let packet = match turn % 4 {
-        0 => mutated(random, form),
-        _ => refused(random, form, (turn % 15) as u8 + 1),
-    };
+    let packet = bad_packet(random, form, turn);
     let level = random.pick(&[Level::Set, Level::Target(1), Level::Target(u64::MAX)]);
     let tag = random.pick(&[0, 2, 4, 5, 17, 19, 20_000]);
     let value = random.pick(&[None, Some(vec![1]), Some(Vec::new())]);

@@ -3,7 +3,7 @@
 
 use super::random::Random;
 use super::tree::{Node, Outer, Tree};
-use super::valid::{self, Style, EDGES, NORMAL};
+use super::valid::{self, Style, CENTROID, EDGES, NORMAL};
 use crate::packet::Form;
 use crate::table::{pack_rule, set_rule};
 use crate::PACKET_LIMIT;
@@ -85,10 +85,15 @@ pub fn edges(random: &mut Random, form: Form) -> Tree {
 
 /// A pack whose length is at an edge, or a little off it.
 pub fn edge_pack(random: &mut Random, form: Form, id: u64, style: Style) -> Node {
-    let mut items = vec![valid::item(random, false, 19, style)];
+    let mut tags = vec![9];
     if form == Form::Standalone {
-        items.push(valid::item(random, false, 17, style));
+        tags.push(17);
     }
+    if random.once_in(2) {
+        tags.extend(CENTROID);
+    }
+    let mut items: Vec<Node> =
+        tags.iter().map(|&tag| valid::item(random, false, tag, style)).collect();
     let around = 1 + super::tree::all(&items).len();
     let total = random.pick(&EDGES) + random.below(3);
     let length = total.saturating_sub(around + 2).max(1);

@@ -3,13 +3,13 @@
 
 use super::random::Random;
 use super::sheets::{accepted, item, opening, records, target};
-use super::valid::{self, NORMAL, OFFSET_TAGS, PACK_TAGS, SET_TAGS};
+use super::valid::{self, CENTROID, NORMAL, OFFSET_TAGS, PACK_TAGS, SET_TAGS};
 use crate::packet::Form;
 use crate::table::{pack_rule, set_rule};
 use crate::{PACKET_LIMIT, SHEET_LIMIT};
 
 /// The refusals that a sheet alone can lead to; 17 has the most causes.
-pub const NUMBERS: [u8; 12] = [1, 7, 9, 10, 11, 12, 13, 14, 17, 17, 17, 17];
+pub const NUMBERS: [u8; 14] = [1, 7, 9, 10, 11, 12, 13, 14, 17, 17, 17, 17, 20, 20];
 
 type Records = Vec<Vec<u8>>;
 
@@ -28,6 +28,7 @@ pub fn refused(random: &mut Random, number: u8) -> Vec<u8> {
         12 => pixel_zero(random, &mut records),
         13 => offset(random, &mut records),
         14 => missing(random, &mut records),
+        20 => lone(random, &mut records),
         _ if random.once_in(2) => bad_record(random, &mut records),
         _ => misplaced(random, &mut records),
     }
@@ -62,10 +63,17 @@ fn insert(random: &mut Random, records: &mut Records, set: bool, tag: u16, value
     records.insert(at, item(if set { b"IT" } else { b"TI" }, tag, value));
 }
 
-/// Takes an item's record away, so that its tag can be used again.
+/// Takes an item's records away, so that its tag can be used again; with a
+/// target's 19 goes its 20, and with 20 its 19.
 fn remove(records: &mut Records, set: bool, tag: u16) {
-    let head = item(if set { b"IT" } else { b"TI" }, tag, &[]);
-    records.retain(|record| !record.starts_with(&head[..4]));
+    let mut tags = vec![tag];
+    if !set && CENTROID.contains(&tag) {
+        tags.extend(CENTROID);
+    }
+    for tag in tags {
+        let head = item(if set { b"IT" } else { b"TI" }, tag, &[]);
+        records.retain(|record| !record.starts_with(&head[..4]));
+    }
 }
 
 fn over_limit(random: &mut Random, records: &mut Records) {
@@ -149,6 +157,30 @@ fn missing(random: &mut Random, records: &mut Records) {
             records.push(odd);
         }
     }
+}
+
+/// One of 19 and 20 without the other, with tag 17 or not, in some target,
+/// and sometimes another fault after it.
+fn lone(random: &mut Random, records: &mut Records) {
+    in_target(random, records);
+    let targets: Vec<usize> =
+        (0..records.len()).filter(|&at| records[at].starts_with(b"TG")).collect();
+    let start = random.pick(&targets) + 1;
+    let count = records[start..].iter().take_while(|record| record.starts_with(b"TI")).count();
+    let mut items: Records = records.drain(start..start + count).collect();
+    remove(&mut items, false, 19);
+    if random.once_in(3) {
+        remove(&mut items, false, 17);
+    }
+    let (tag, value) = (random.pick(&CENTROID), random.pick(&[vec![1], vec![1, 0], vec![9; 4]]));
+    items.insert(random.below(items.len() + 1), item(b"TI", tag, &value));
+    let odd = [b"XX".to_vec(), b"T".to_vec(), b"TI".to_vec(), target(1 << 63), item(b"IT", 5, &[])];
+    match random.below(4) {
+        0 => items.push(random.pick(&odd)),
+        1 => records.push(random.pick(&odd)),
+        _ => {}
+    }
+    records.splice(start..start, items);
 }
 
 /// 17: a record that is bad in itself.

@@ -5,7 +5,7 @@ use super::edits::{level, standing, tag};
 use super::packets::accepted;
 use super::random::Random;
 use super::tree::{Node, Tree};
-use super::valid::{self, NORMAL};
+use super::valid::{self, CENTROID, NORMAL};
 use super::ShowCase;
 use crate::packet::Form;
 use crate::Level;
@@ -67,6 +67,10 @@ fn version(random: &mut Random, tree: &Tree, bad: bool) -> Vec<u8> {
 fn vary_pack(random: &mut Random, node: &mut Node, standalone: bool) {
     if let Node::Pack { items, .. } = node {
         vary(random, items, false, if standalone { 17 } else { 0 });
+        let stands = CENTROID.map(|tag| items.iter().any(|node| node.tag() == tag));
+        if stands[0] != stands[1] {
+            items.retain(|node| !CENTROID.contains(&node.tag()));
+        }
     }
 }
 

@@ -9,6 +9,8 @@ use crate::PACKET_LIMIT;
 /// Listed tags that items are made of, without the set's 1 and 101.
 pub const SET_TAGS: [u16; 10] = [2, 3, 4, 5, 6, 8, 9, 10, 11, 12];
 pub const PACK_TAGS: [u16; 15] = [1, 2, 3, 4, 5, 6, 7, 8, 9, 12, 17, 19, 20, 22, 23];
+/// The pack's tags of which a pack has both or neither.
+pub const CENTROID: [u16; 2] = [19, 20];
 /// The pack's tags that standalone may not have.
 pub const OFFSET_TAGS: [u16; 6] = [10, 11, 13, 14, 15, 16];
 /// Lengths where their own coding changes.
@@ -98,7 +100,7 @@ pub fn item(random: &mut Random, set: bool, tag: u16, style: Style) -> Node {
     Node::Item { tag, width, value }
 }
 
-/// Some distinct tags in one of the orders, none of them one of `never`.
+/// Some distinct tags, rising, none of them one of `never`.
 fn tags(random: &mut Random, listed: &[u16], never: &[u16], count: usize) -> Vec<u16> {
     let mut tags: Vec<u16> = (0..count)
         .map(|_| match random.below(8) {
@@ -112,8 +114,19 @@ fn tags(random: &mut Random, listed: &[u16], never: &[u16], count: usize) -> Vec
     }
     tags.sort_unstable();
     tags.dedup();
-    random.order(&mut tags);
     tags
+}
+
+/// Gives one of 19 and 20 the other, or takes it away; the tags are rising.
+fn pair(random: &mut Random, tags: &mut Vec<u16>) {
+    if tags.contains(&19) == tags.contains(&20) {
+        return;
+    }
+    tags.retain(|tag| !CENTROID.contains(tag));
+    if !random.once_in(3) {
+        let at = tags.partition_point(|&tag| tag < 19);
+        tags.splice(at..at, CENTROID);
+    }
 }
 
 /// An id of so many bytes, 1 to 9.
@@ -157,6 +170,8 @@ pub fn pack(random: &mut Random, form: Form, id: u64, most: usize, style: Style)
     }
     let count = random.between(0, most);
     let mut tags = tags(random, &listed, &never, count);
+    pair(random, &mut tags);
+    random.order(&mut tags);
     if form == Form::Standalone && !tags.contains(&17) {
         tags.insert(random.below(tags.len() + 1), 17);
     }
@@ -184,7 +199,13 @@ fn set(random: &mut Random, form: Form, style: Style) -> Vec<Node> {
     if form == Form::Standalone {
         never.push(2);
     }
-    let tags = tags(random, &SET_TAGS, &never, count);
+    let mut tags = tags(random, &SET_TAGS, &never, count);
+    if random.once_in(8) {
+        // In the set these are tags like any other: each may stand alone.
+        tags.extend([17, 19, 20].iter().filter(|_| random.once_in(2)));
+        tags.sort_unstable();
+    }
+    random.order(&mut tags);
     let mut set: Vec<Node> = tags.iter().map(|&tag| item(random, true, tag, style)).collect();
     if random.below(4) < 3 {
         let series = series(random, form, style);

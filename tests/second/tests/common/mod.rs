@@ -1,6 +1,7 @@
 //! What the tests share.
 #![allow(dead_code)]
 
+pub mod edits;
 pub mod model;
 pub mod notation;
 pub mod plain;

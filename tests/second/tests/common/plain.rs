@@ -119,9 +119,12 @@ fn series(form: Form, bytes: &[u8], base: usize) -> Result<(), Refusal> {
         }
         let items_base = base + bytes.len() - after.len() - items.len();
         let level = Level { set: false, form, bytes: items, base: items_base };
-        if !level.tags()?.contains(&17) && form == Form::Standalone {
-            return refuse(14, place);
-        }
+        let tags = level.tags()?;
+        let end = [
+            (20, tags.contains(&19) != tags.contains(&20)),
+            (14, form == Form::Standalone && !tags.contains(&17)),
+        ];
+        first_fault(&end).or_else(|number| refuse(number, place))?;
         rest = after;
     }
     Ok(())

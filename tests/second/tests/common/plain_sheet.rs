@@ -57,9 +57,12 @@ impl Story {
     /// The end of a target, before a record other than `TI` or at the end.
     fn leave_target(&mut self) -> Result<(), Refusal> {
         if self.in_target {
-            if self.standalone && !self.target.1.contains(&17) {
-                return refuse(14, self.target.0);
-            }
+            let (place, tags) = &self.target;
+            let end = [
+                (20, tags.contains(&19) != tags.contains(&20)),
+                (14, self.standalone && !tags.contains(&17)),
+            ];
+            first_fault(&end).or_else(|number| refuse(number, *place))?;
             self.packs += counted(self.pack);
             self.in_target = false;
         }

@@ -153,7 +153,7 @@ pub fn item_rest(
             return tally::later(w, p);
         };
         sum = tally::weights::plus(sum, sizes);
-        held = coding::either(held, m);
+        held = held | m;
         clear = repeats::clear::after(s, p, clear, top, low, tag, false, false, set, bits);
         top = tally::larger(top, tag);
         low = tally::smaller(low, tag);
@@ -227,6 +227,6 @@ pub fn pack_walk(
     }
     Walked::Good {
         sizes: sum,
-        held: false,
+        held: 0,
     }
 }

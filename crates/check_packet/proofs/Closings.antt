@@ -3,11 +3,11 @@ use mathlib.Core.Path.{_≡_, refl, sym, ap, _∙_}
 use Prim.Native.Nat.{ℕ, _+_, _-_, _≤_}
 use native.Mathlib.Omega.{arith}
 use native.Mathlib.Nat.{add-zero}
-use mathlib.Core.Bool.{Bool, true, false, _||_}
+use mathlib.Core.Bool.{Bool, true, false}
 use mathlib.Core.List.{List, [], _∷_, _++_, map}
 use lib.ListN.{length, take, drop, length-drop}
 use lib.Seq.{take-all}
-use lib.Dec.{eqb}
+use lib.Dec.{eqb, lit<}
 use Rattle.format.specs.Answer.{ok, _>>=_, need, after}
 use Rattle.format.specs.Coding.{bytesNumber}
 use Rattle.format.specs.Lists.{has, flatAll}
@@ -22,7 +22,8 @@ use Rattle.format.proofs.reading.Seal.{SetRead, split, split-embedded, split-al
 use Rattle.coding.proofs.Rooms.{tail-part}
 use Rattle.items.specs.Meet.{formOf}
 use Rattle.tally.specs.declared.Sizes.{Sizes}
-use Rattle.tally.specs.Meet.{total, any, weightOfEntry}
+use Rattle.tally.specs.Meet.{total, bits, bitOf, isHeld, weightOfEntry}
+use Rattle.tally.proofs.Bits.{bits-map, bits-has}
 use Rattle.tally.proofs.Walks.{same-sizes}
 use Rattle.tally.proofs.Totals.{parts-sheet, parts-normal, parts-inner, entries-say, says-no-seal, entries-count, seal-last}
 use Rattle.tally.proofs.Parsed.{packetOf}
@@ -104,10 +105,8 @@ fine-alone w es c h o =
 
 -- ---- what is asked of a set at its end is its tag 1
 
-any-has : (es : List Entry) → any (λ e. eqb (tagOfEntry e) 1) es ≡ has 1 (map tagOfEntry es)
-unfolding any has
-any-has [] = refl
-any-has (e ∷ es) = ap (λ b. eqb (tagOfEntry e) 1 || b) (any-has es)
+seal-held : (es : List Entry) → isHeld 1 (bits (λ e. bitOf (tagOfEntry e)) es) ≡ has 1 (map tagOfEntry es)
+seal-held es = ap (isHeld 1) (bits-map tagOfEntry bitOf es) ∙ bits-has 1 (lit< tt) (map tagOfEntry es)
 
 abbrev close : Form → List ℕ → ℕ → List Entry → Checked
 close f s w es = checkedOf (closing f s es >>= λ c. ok (packetOf f w es c))
@@ -124,7 +123,7 @@ close-alone s w es h = by-held (has 1 (map tagOfEntry es)) refl
     by-held true z = by-sum z (sumRight s) refl
     by-held false z = rw z
 
-pub close-set : (f : Form) (s : List ℕ) (w : ℕ) (es : List Entry) → SetRead f [] es → closingBy f s (any (λ e. eqb (tagOfEntry e) 1) es) (summed es) (start f w) ≡ close f s w es
+pub close-set : (f : Form) (s : List ℕ) (w : ℕ) (es : List Entry) → SetRead f [] es → closingBy f s (isHeld 1 (bits (λ e. bitOf (tagOfEntry e)) es)) (summed es) (start f w) ≡ close f s w es
 unfolding closing _>>=_
 close-set embedded s w es h = fine-embedded w es h
-close-set standalone s w es h = ap (λ m. closingBy standalone s m (summed es) (start standalone w)) (any-has es) ∙ close-alone s w es h
+close-set standalone s w es h = ap (λ m. closingBy standalone s m (summed es) (start standalone w)) (seal-held es) ∙ close-alone s w es h

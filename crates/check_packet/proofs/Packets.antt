@@ -2,10 +2,8 @@
 use mathlib.Core.Path.{_≡_, refl, sym, ap, _∙_}
 use Prim.Native.Nat.{ℕ, _-_, _≤_, _<_}
 use native.Mathlib.Omega.{arith}
-use mathlib.Core.Bool.{Bool}
 use mathlib.Core.List.{List}
 use lib.ListN.{length, take, drop, length-drop}
-use lib.Dec.{eqb}
 use borrow.Author.Tests.{lt-leb, le-leb}
 use Rattle.format.specs.Answer.{Ans, ok, Got, _>>=_, after}
 use Rattle.format.specs.Coding.{Bytes}
@@ -23,7 +21,7 @@ use Rattle.items.proofs.Tests.{bind-so, bind-not, need-so, need-not}
 use Rattle.tally.specs.declared.Sizes.{Sizes}
 use Rattle.tally.specs.declared.Walked.{Walked}
 use Rattle.tally.specs.declared.Walked.the-variants.{Good, Bad}
-use Rattle.tally.specs.Meet.{total, weightOfEntry, deepenAt, stepAt, walkedOf, levelWalk, Within}
+use Rattle.tally.specs.Meet.{total, bitOf, isHeld, weightOfEntry, deepenAt, stepAt, walkedOf, levelWalk, Within}
 use Rattle.tally.proofs.Maps.{walked-good, walked-bad}
 use Rattle.tally.proofs.Turns.{within-more}
 use Rattle.tally.proofs.Parsed.{packetOf}
@@ -39,7 +37,7 @@ abbrev setRun : Form → List ℕ → Ans (Got (List Entry))
 setRun f s = run always tagOfEntry (entry f) s
 
 abbrev setWalked : Ans (Got (List Entry)) → Walked
-setWalked x = walkedOf (weightOfEntry set) (λ e. eqb (tagOfEntry e) 1) x
+setWalked x = walkedOf (weightOfEntry set) (λ e. bitOf (tagOfEntry e)) x
 
 walk-run : (f : Form) (s : List ℕ) → levelWalk set f s ≡ setWalked (setRun f s)
 unfolding levelWalk stepAt deepenAt entry
@@ -54,7 +52,7 @@ module _ (s : List ℕ) (k : ℕ) (l : length s ≤ 8192) (x : Walked) (h : With
   pub set-within : Within x 8192
   set-within = within-more x (length (take (length s - k) (drop k s))) 8192 (rw (tail-part, length-drop) (omega arith)) h
 
-  pub good-within : {a : Sizes} {m : Bool} → x ≡ Good a m → a .sheet ≤ 40960
+  pub good-within : {a : Sizes} {m : ℕ} → x ≡ Good a m → a .sheet ≤ 40960
   good-within {a} {m} e = let z : Within (Good a m) 8192 = rw e at set-within in omega (arith, z .sheet)
 
 -- ---- 1, what opens it, the set, what closes it
@@ -92,17 +90,17 @@ module _ (f : Form) (s : List ℕ) where
         pub check-bad : {n p : ℕ} {r : Checked} → x ≡ Bad n p → r ≡ walkFault k x → r ≡ checkedOf (parse f s)
         unfolding _>>=_ after
         check-bad {n} {p} z e =
-            let q = walked-bad (weightOfEntry set) (λ e. eqb (tagOfEntry e) 1) (setRun f (drop (start f w) s)) n p (sym z ∙ walk-is) in
+            let q = walked-bad (weightOfEntry set) (λ e. bitOf (tagOfEntry e)) (setRun f (drop (start f w) s)) n p (sym z ∙ walk-is) in
             e ∙ ap (walkFault k) z ∙ rw (parse-is, q, ek)
 
-        pub check-good : {b : Sizes} {m : Bool} {r : Checked} → Bytes s → x ≡ Good b m → r ≡ closingBy f s m b k → r ≡ checkedOf (parse f s)
+        pub check-good : {b : Sizes} {m : ℕ} {r : Checked} → Bytes s → x ≡ Good b m → r ≡ closingBy f s (isHeld 1 m) b k → r ≡ checkedOf (parse f s)
         check-good {b} {m} h z e =
             let d : List ℕ = drop (start f w) s in
-            let g = walked-good (weightOfEntry set) (λ e. eqb (tagOfEntry e) 1) (setRun f d) b m (sym z ∙ walk-is) in
+            let g = walked-good (weightOfEntry set) (λ e. bitOf (tagOfEntry e)) (setRun f d) b m (sym z ∙ walk-is) in
             let read = set-says f d (g .rs) (bytes-drop (start f w) s h) (g .ran) .1 in
             e
-            ∙ ap (closingBy f s m b) ek
-            ∙ ap (λ y. closingBy f s m y (start f w)) (sym (g .weighs))
-            ∙ ap (λ y. closingBy f s y (total (weightOfEntry set) (g .rs .val)) (start f w)) (sym (g .holds))
+            ∙ ap (closingBy f s (isHeld 1 m) b) ek
+            ∙ ap (λ y. closingBy f s (isHeld 1 m) y (start f w)) (sym (g .weighs))
+            ∙ ap (λ y. closingBy f s (isHeld 1 y) (total (weightOfEntry set) (g .rs .val)) (start f w)) (sym (g .holds))
             ∙ close-set f s w (g .rs .val) read
             ∙ ap checkedOf (sym (parse-is ∙ bind-so _ (closes w) (g .rs) (after-ok (start f w) (setRun f d) (g .rs) (g .ran))))

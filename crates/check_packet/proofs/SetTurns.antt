@@ -2,12 +2,13 @@
 use mathlib.Core.Path.{_≡_, refl, sym, ap, _∙_, subst}
 use Prim.Native.Nat.{ℕ, _+_, _-_, _≤_, _<_}
 use native.Mathlib.Omega.{arith}
-use mathlib.Core.Bool.{Bool, true, false, _&&_, _||_}
+use mathlib.Core.Bool.{true, _&&_}
 use mathlib.Core.List.{List}
 use mathlib.Core.Logic.{inl, inr}
 use lib.ListN.{length, drop, take, getD, length-drop}
 use lib.Seq.{length-take-le}
 use lib.Dec.{eqb}
+use lib.Bits.{bitOr, or-zero-r}
 use borrow.Author.Tests.{eq-eqb}
 use Rattle.format.specs.Answer.{ok}
 use Rattle.format.specs.Coding.{Bytes}
@@ -22,14 +23,13 @@ use Rattle.tally.specs.declared.Sizes.{Sizes}
 use Rattle.tally.specs.declared.Walked.{Walked}
 use Rattle.tally.specs.declared.stages.Stage.{Stage}
 use Rattle.tally.specs.declared.Walked.the-variants.{Good, Bad}
-use Rattle.tally.specs.Meet.{itemSizes, seriesSizes, plusSizes, levelWalk, seriesWalk, seriesFrom, laterBy, Small, Within}
+use Rattle.tally.specs.Meet.{itemSizes, seriesSizes, plusSizes, bitOf, levelWalk, seriesWalk, seriesFrom, laterBy, Small, Within}
 use Rattle.tally.specs.Going.{LevelGoing, LevelTo, stageAt}
 use Rattle.tally.proofs.Turns.{within-more, going-between}
 use Rattle.tally.proofs.Pieces.{piece-within}
 use Rattle.tally.proofs.ItemTurns.{ItemAt, EntryTold, item-told, series-told, good-small, entry-bad, entry-more}
 use Rattle.tally.proofs.Begins.{begun-later}
 use Rattle.quick_items.proofs.Glances.{met-item}
-use Rattle.tally.proofs.Begins.{or-false}
 use Rattle.check_packet.specs.Meet.{HeadIf}
 use Rattle.check_packet.specs.Sets.{SeriesNext}
 
@@ -43,10 +43,6 @@ seal-value : (v : List ℕ) → length v ≡ 2 → (valued (ruleOf set 1) v ≡ 
 unfolding ruleOf rules find sized
 seal-value v e = plainly (B 2) v (omega (arith, e)) (rw e) refl
 
-or-true : (m : Bool) → true ≡ (m || true)
-or-true true = refl
-or-true false = refl
-
 -- ---- an item of the set whose head the code has read at p
 
 pub head-if : (s : List ℕ) (p : ℕ) (h : Head) → p < length s → itemHeadOf h ≡ headOf set (take (length s - p) (drop p s)) → HeadIf s p h
@@ -56,7 +52,7 @@ head-if s p (heads.Fault n) here e = tt
 pub head-within : (s : List ℕ) (p tag u w n : ℕ) → HeadIf s p (heads.Whole tag u w n) → p + u + w + n ≤ length s
 head-within s p tag u w n h = omega (arith, h .0, length-drop p s, piece-within (drop p s) set (h .1) refl)
 
-pub record HeadAt (f : Form) (s : List ℕ) (p : ℕ) (sum : Sizes) (held : Bool) (top low tag u w n : ℕ) : Type 0 where
+pub record HeadAt (f : Form) (s : List ℕ) (p : ℕ) (sum : Sizes) (held top low tag u w n : ℕ) : Type 0 where
   pub going : LevelGoing true f s p sum held top low
   pub it : Head
   pub told : HeadIf s p it
@@ -64,7 +60,7 @@ pub record HeadAt (f : Form) (s : List ℕ) (p : ℕ) (sum : Sizes) (held : Bool
   pub bytes : Bytes s
   pub most : length s ≤ 8192
 
-module _ {f : Form} {s : List ℕ} {p : ℕ} {sum : Sizes} {held : Bool} {top low tag u w n : ℕ} (i : HeadAt f s p sum held top low tag u w n) where
+module _ {f : Form} {s : List ℕ} {p : ℕ} {sum : Sizes} {held top low tag u w n : ℕ} (i : HeadAt f s p sum held top low tag u w n) where
   head-told : HeadIf s p (heads.Whole tag u w n)
   head-told = subst (HeadIf s p) (i .is) (i .told)
 
@@ -98,17 +94,17 @@ module _ {f : Form} {s : List ℕ} {p : ℕ} {sum : Sizes} {held : Bool} {top lo
       most = i .most;
     })
 
-    seal-told : EntryTold seal-item (Good (itemSizes set 1 2) true)
+    seal-told : EntryTold seal-item (Good (itemSizes set 1 2) (bitOf 1))
     seal-told = item-told seal-item {x = true && eqb 1 101} refl refl refl
 
     module _ {z : Sizes} (ez : z ≡ itemSizes set 1 2) where
       pub seal-sums : Small sum × Small z
       seal-sums = rw ez (good-small seal-item seal-told refl)
 
-      pub seal-more : {sum′ : Sizes} → sum′ ≡ plusSizes sum z → {top′ : ℕ} → (top ≤ top′) × (1 ≤ top′) → LevelGoing true f s (p + u + w + n) sum′ true top′ 1
-      seal-more es et =
+      pub seal-more : {sum′ : Sizes} → sum′ ≡ plusSizes sum z → {m : ℕ} → m ≡ bitOf 1 → {top′ : ℕ} → (top ≤ top′) × (1 ≤ top′) → LevelGoing true f s (p + u + w + n) sum′ (bitOr held m) top′ 1
+      seal-more es em et =
           let e : p + u + w + n ≡ p + (u + w) + 2 = omega (arith, next .3) in
-          rw e (entry-more seal-item seal-told refl (es ∙ ap (plusSizes sum) ez) (or-true held) et (omega (arith, next .1), omega arith))
+          rw e (entry-more seal-item seal-told refl (es ∙ ap (plusSizes sum) ez) (ap (bitOr held) em) et (omega (arith, next .1), omega arith))
 
 -- ---- the series after the items that were walked to q
 
@@ -195,8 +191,8 @@ module _ {f : Form} {s : List ℕ} {q : Stage} {from next : ℕ} (i : SeriesAt f
         entry-bad series-item entry-told (ap (seriesFrom (j .used + j .width)) bad)
         (e ∙ ap (laterBy from) bad ∙ ap (Bad n) o ∙ sym (ap (λ x. laterBy (q .at) (seriesFrom (j .used + j .width) x)) bad))
 
-    module _ {a : Sizes} {m : Bool} (good : y ≡ Good a m) where
-      told-so : EntryTold series-item (Good (seriesSizes a) false)
+    module _ {a : Sizes} {m : ℕ} (good : y ≡ Good a m) where
+      told-so : EntryTold series-item (Good (seriesSizes a) 0)
       told-so = series-told series-item {x = true} refl refl walked (ap (seriesFrom (i .series .used + i .series .width)) (sym good))
 
       sums : Small (q .sizes) × Small (seriesSizes a)
@@ -210,4 +206,4 @@ module _ {f : Form} {s : List ℕ} {q : Stage} {from next : ℕ} (i : SeriesAt f
       series-goes e =
           let j = i .series in
           let n-is : next ≡ q .at + (j .used + j .width) + j .size = omega (arith, j .from-is, j .next-is) in
-          rw (e, n-is) (entry-more series-item told-so refl refl (or-false (q .held) refl) (omega (arith, j .new), omega arith) (omega arith, omega (arith, going-between (i .going) (j .later), j .new)))
+          rw (e, n-is) (entry-more series-item told-so refl refl (sym (or-zero-r (q .held))) (omega (arith, j .new), omega arith) (omega arith, omega (arith, going-between (i .going) (j .later), j .new)))

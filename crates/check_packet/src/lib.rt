@@ -5,7 +5,7 @@ ghost use lib.ListN.{length};
 ghost use Rattle.format.specs.Table.{standalone};
 ghost use Rattle.format.specs.Read.{opening, start, parse};
 ghost use Rattle.items.specs.Meet.{formOf, glanceTable};
-ghost use Rattle.tally.specs.Meet.{Within};
+ghost use Rattle.tally.specs.Meet.{isHeld, Within};
 ghost use Rattle.check_packet.specs.Meet.{checkedOf, widthOf, numFault, walkFault, closingBy, fineOf, sumRight};
 use coding::Num;
 use tally::Sizes;
@@ -83,13 +83,13 @@ fn fine(a: Sizes, from: usize) -> Checked
     }
 }
 
-// Of a set of these sizes, with a checksum or without, that begins at `from`: 14, 15.
-fn closing_of(s: &[u8], alone: bool, held: bool, a: Sizes, from: usize) -> Checked
+// Of a set of these sizes, that holds these tags and begins at `from`: 14, 15.
+fn closing_of(s: &[u8], alone: bool, held: u64, a: Sizes, from: usize) -> Checked
     requires { ⌜ (start (formOf alone) 0 ≤ length (now s)) × (length (now s) ≤ 8192) × (a .sheet ≤ 40960) ⌝ }
-    ensures { λ r. ⌜ r ≡ closingBy (formOf alone) (now (s .entry)) held a from ⌝ }
+    ensures { λ r. ⌜ r ≡ closingBy (formOf alone) (now (s .entry)) (isHeld 1 held) a from ⌝ }
 {
     if alone {
-        if !held {
+        if !tally::is_held(1, held) {
             return Checked::Wrong {
                 number: 14,
                 place: s.len(),

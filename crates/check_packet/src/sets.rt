@@ -115,7 +115,13 @@ fn seal(s: &[u8], alone: bool, q: Stage) -> Stage
         return q;
     }
     let sum = tally::weights::plus(q.sizes, tally::weights::plain_sizes(true, 1, 2));
-    stages::stage_at(next, sum, true, tally::larger(q.top, 1), 1)
+    stages::stage_at(
+        next,
+        sum,
+        q.held | tally::bit_of(1),
+        tally::larger(q.top, 1),
+        1,
+    )
 }
 
 // The rest of the set, from where the quick way ended: its checksum, or whatever is left, one by one.

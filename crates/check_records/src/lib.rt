@@ -250,7 +250,7 @@ pub fn target_records(
         }
         let sum = tally::weights::pack_sizes(coding::widths::oid_width(id), sizes);
         clear = repeats::clear::after(s, p, clear, q.top, q.low, id, true, true, false, bits);
-        q = tally_records::after(q, id, sum, false);
+        q = tally_records::after(q, id, sum, 0);
     }
     tally::stages::walked(q)
 }

@@ -2,10 +2,11 @@
 use mathlib.Core.Path.{_≡_, refl, sym, ap, _∙_}
 use Prim.Native.Nat.{ℕ, _+_, _≤_, _<_}
 use native.Mathlib.Omega.{arith}
-use mathlib.Core.Bool.{Bool, true, false}
+use mathlib.Core.Bool.{true}
 use mathlib.Core.List.{List}
 use lib.ListN.{length, drop, length-drop}
 use lib.Dec.{eqb}
+use lib.Bits.{or-zero-r}
 use Rattle.format.specs.Coding.{Bytes}
 use Rattle.format.specs.Table.{Form, set, mayStand}
 use Rattle.format.specs.Sheet.{IT, TS, TG, is}
@@ -20,7 +21,7 @@ use Rattle.tally.specs.Meet.{plusSizes, seriesSizes, seriesFrom, Small, Within}
 use Rattle.tally.specs.Going.{stageAt}
 use Rattle.tally.proofs.Walks.{few-more}
 use Rattle.tally.proofs.Turns.{told-as, going-between, turn-done}
-use Rattle.tally.proofs.Begins.{begun-later, or-false}
+use Rattle.tally.proofs.Begins.{begun-later}
 use Rattle.tally_records.specs.Meet.{IsPart, recordsWalk, targetsWalk}
 use Rattle.tally_records.specs.Going.{After}
 use Rattle.tally_records.proofs.Opens.{series-whole, part-series}
@@ -66,7 +67,7 @@ module _ {f : Form} {glances s : List ℕ} {q : Stage} (k : SetAsked f glances s
 
   -- all its targets are told at a glance, to the set's end
   module _ {d : Stage} (t : TargetsPassed f (targetsAt s (q .at)) d) (all : d .at ≡ length (targetsAt s (q .at))) where
-    told : PartTold series-part (Good (seriesSizes (d .sizes)) false)
+    told : PartTold series-part (Good (seriesSizes (d .sizes)) 0)
     told = series-is (turn-done (t .0) (omega (arith, all))) refl
 
     all-small : Small (d .sizes)
@@ -75,11 +76,11 @@ module _ {f : Form} {glances s : List ℕ} {q : Stage} (k : SetAsked f glances s
     pub all-asks : Small (d .sizes) × Small (q .sizes) × Small (seriesSizes (d .sizes))
     all-asks = let (a, b, _) = part-asks series-part told refl in (all-small, a, b)
 
-    after-all : {r : Stage} → r ≡ stageAt (length s) (plusSizes (q .sizes) (seriesSizes (d .sizes))) (q .held) 101 (q .low) → After q 101 (seriesSizes (d .sizes)) false r
+    after-all : {r : Stage} → r ≡ stageAt (length s) (plusSizes (q .sizes) (seriesSizes (d .sizes))) (q .held) 101 (q .low) → After q 101 (seriesSizes (d .sizes)) 0 r
     after-all e = rw e (record {
       at-is = omega (arith, t .2, all, targets-long);
       sizes-are = refl;
-      held-is = or-false (q .held) refl;
+      held-is = sym (or-zero-r (q .held));
       over = (omega (arith, n .above), omega arith);
       under = (omega arith, omega (arith, going-between (k .going) (n .later), n .above));
     })

@@ -53,7 +53,7 @@ fn set_glanced(glances: &[u32], s: &[u8], alone: bool) -> Stage
     if starts(s, alone) {
         return quick::glance_rising(glances, s, true, alone, quick::first_tag(s));
     }
-    stages::stage_at(0, tally::weights::nothing(), false, 0, 18446744073709551615)
+    stages::stage_at(0, tally::weights::nothing(), 0, 0, 18446744073709551615)
 }
 
 // Whether the series stands next, a target in it, and is told to be new: items stand before it, and none has a tag so high.

@@ -1,7 +1,7 @@
 -- What locate promises, from its contracts and what is promised of the definitions.
 use mathlib.Core.Path.{_≡_, refl, sym, ap, _∙_}
 use mathlib.Core.Logic.{⊎-elim}
-use mathlib.Core.List.{List, map}
+use mathlib.Core.List.{List, [], map}
 use Prim.Native.Nat.{ℕ, _*_}
 use native.Mathlib.Omega.{arith}
 use lib.ListN.{length}
@@ -9,7 +9,7 @@ use borrow.Author.Tests.{le-leb, lt-leb}
 use Rattle.format.specs.Answer.{Ans, ok, refused}
 use Rattle.format.specs.Coding.{Bytes}
 use Rattle.format.specs.Table.{Form}
-use Rattle.format.specs.Edit.{theSet, remove}
+use Rattle.format.specs.Edit.{theSet}
 use Rattle.format.specs.Room.{leaves}
 use Rattle.format.specs.Rows.{Row, locate}
 use Rattle.format.specs.demands.Rows.{RowsPoint}
@@ -66,7 +66,7 @@ module _ {A : Type 0} (f : Form) (packet : List ℕ) (bytes : Bytes packet) (len
         go y (ok rs) e = (rs, locate-points f packet rs bytes e)
         go y (refused n p) e =
             let en : a .number ≡ n = ap (λ x. x .number) (not n p e .0) in
-            let (k, m, s) = numbered f packet theSet 0 remove .locate-answers .by n p e .0 in
+            let (k, m, s) = numbered f packet theSet [] .locate-answers .by n p e .0 in
             absurd (⊎-elim (λ z. omega (arith, k, en, z)) (λ z. s (sym en ∙ z)) y)
 
   -- and nothing else is so answered

@@ -1,16 +1,15 @@
 -- The turns over items whose tags are not listed: each is read as the item walk reads it.
-use mathlib.Core.Path.{_≡_, refl, sym, ap, _∙_}
+use mathlib.Core.Path.{_≡_, refl, ap, _∙_}
 use Prim.Native.Nat.{ℕ, _+_, _-_, _≤_, _<_}
 use native.Mathlib.Omega.{arith}
-use mathlib.Core.Bool.{Bool, true, false, not, _&&_, _||_}
+use mathlib.Core.Bool.{Bool, _&&_}
 use mathlib.Core.List.{List}
 use lib.ListN.{length, drop, take, getD}
-use lib.Dec.{ltb, eqb}
-use borrow.Author.Tests.{ltb-true, ne-eqb}
+use lib.Dec.{eqb}
+use lib.Bits.{bitOr}
 use Rattle.format.specs.Coding.{Bytes}
 use Rattle.format.specs.Table.{Form}
 use Rattle.format.specs.Read.{headOf}
-use Rattle.format.proofs.words.Answers.{and-both}
 use Rattle.coding.proofs.Rooms.{tail-part}
 use Rattle.items.specs.Meet.{levelOf}
 use Rattle.items.specs.Quick as items
@@ -20,20 +19,14 @@ use Rattle.heads.specs.declared.Head.the-variants as heads
 use Rattle.heads.specs.Meet.{itemHeadOf}
 use Rattle.tally.specs.declared.Sizes.{Sizes}
 use Rattle.tally.specs.declared.Walked.the-variants.{Good}
-use Rattle.tally.specs.Meet.{itemSizes, plusSizes, askedTag, Small}
+use Rattle.tally.specs.Meet.{itemSizes, plusSizes, bitOf, Small}
 use Rattle.tally.specs.Going.{LevelGoing}
 use Rattle.quick_items.specs.Items.{Plain}
 use Rattle.tally.proofs.ItemTurns.{ItemAt, EntryTold, level-is, piece-stood, piece-room, item-told, good-small, entry-more}
-use Rattle.tally.proofs.Begins.{or-false}
 use Rattle.quick_items.proofs.Glances.{quick-meets, met-item}
 
--- no such tag is asked for at a level's end
-pub none-held : (b : Bool) (tag : ℕ) → items.beyond b tag ≡ true → eqb tag (askedTag (levelOf b)) ≡ false
-none-held true tag h = let l = ltb-true 12 tag (and-both (ltb 12 tag) (not (eqb tag 101)) h .0) in ne-eqb tag 1 λ e. omega (arith, l, e)
-none-held false tag h = let l = ltb-true 23 tag h in ne-eqb tag 17 λ e. omega (arith, l, e)
-
 -- an item at p whose head the code has read, and that may stand there whatever its value
-pub record PlainAt (b : Bool) (f : Form) (s : List ℕ) (p : ℕ) (sum : Sizes) (held : Bool) (top low tag u w n : ℕ) : Type 0 where
+pub record PlainAt (b : Bool) (f : Form) (s : List ℕ) (p : ℕ) (sum : Sizes) (held top low tag u w n : ℕ) : Type 0 where
   pub going : LevelGoing b f s p sum held top low
   pub here : p < length s
   pub it : Head
@@ -43,7 +36,7 @@ pub record PlainAt (b : Bool) (f : Form) (s : List ℕ) (p : ℕ) (sum : Sizes) 
   pub bytes : Bytes s
   pub most : length s ≤ 8192
 
-module _ {b : Bool} {f : Form} {s : List ℕ} {p : ℕ} {sum : Sizes} {held : Bool} {top low tag u w n : ℕ} (i : PlainAt b f s p sum held top low tag u w n) where
+module _ {b : Bool} {f : Form} {s : List ℕ} {p : ℕ} {sum : Sizes} {held top low tag u w n : ℕ} (i : PlainAt b f s p sum held top low tag u w n) where
   quick : items.Glanced (levelOf b) f tag n (getD s (p + (u + w)) 0)
   quick = quick-beyond b f tag n _ (i .plain .beyond) (i .plain .some)
 
@@ -57,7 +50,7 @@ module _ {b : Bool} {f : Form} {s : List ℕ} {p : ℕ} {sum : Sizes} {held : Bo
     most = i .most;
   })
 
-  told-so : EntryTold plain-item (Good (itemSizes (levelOf b) tag n) (eqb tag (askedTag (levelOf b))))
+  told-so : EntryTold plain-item (Good (itemSizes (levelOf b) tag n) (bitOf tag))
   told-so = item-told plain-item {x = b && eqb tag 101} refl (rw level-is at (quick .no-series)) refl
 
   pub plain-small : (tag ≤ 16383) × (n ≤ 65536)
@@ -71,7 +64,8 @@ module _ {b : Bool} {f : Form} {s : List ℕ} {p : ℕ} {sum : Sizes} {held : Bo
     pub plain-sums : Small sum × Small z
     plain-sums = rw ez (good-small plain-item told-so refl)
 
-    pub plain-more : {sum′ : Sizes} → sum′ ≡ plusSizes sum z → {top′ : ℕ} → (top ≤ top′) × (tag ≤ top′) → {low′ : ℕ} → (low′ ≤ low) × (low′ ≤ tag) → LevelGoing b f s (p + u + w + n) sum′ held top′ low′
-    plain-more es et el =
+    pub plain-more : {sum′ : Sizes} → sum′ ≡ plusSizes sum z → {y held′ : ℕ} → y ≡ bitOf tag → held′ ≡ bitOr held y
+        → {top′ : ℕ} → (top ≤ top′) × (tag ≤ top′) → {low′ : ℕ} → (low′ ≤ low) × (low′ ≤ tag) → LevelGoing b f s (p + u + w + n) sum′ held′ top′ low′
+    plain-more es ey em et el =
         let e : p + u + w + n ≡ p + (u + w) + n = omega arith in
-        rw e (entry-more plain-item told-so refl (es ∙ ap (plusSizes sum) ez) (or-false held (none-held b tag (i .plain .beyond))) et el)
+        rw e (entry-more plain-item told-so refl (es ∙ ap (plusSizes sum) ez) (em ∙ ap (bitOr held) ey) et el)

@@ -7,6 +7,7 @@ use mathlib.Core.List.{List}
 use lib.ListN.{length, take, drop, getD, length-drop}
 use lib.Seq.{getD-drop, getD-take, length-take-le}
 use lib.Dec.{eqb}
+use lib.Bits.{bitOr}
 use Rattle.format.specs.Coding.{Bytes, oidBytes, lenWidth}
 use Rattle.format.specs.Answer.{ok}
 use Rattle.format.specs.Table.{Form, Level, isSet, isAlone, ruleOf, mayStand, valued, short}
@@ -22,7 +23,7 @@ use Rattle.heads.specs.declared.Head.the-variants as heads
 use Rattle.heads.proofs.Heads.{mid-part, item-head-short}
 use Rattle.tally.specs.declared.Piece.the-variants as piece
 use Rattle.tally.specs.declared.Sizes.{Sizes}
-use Rattle.tally.specs.Meet.{pieceOf, sizes, itemSizes, plusSizes, askedTag}
+use Rattle.tally.specs.Meet.{pieceOf, sizes, itemSizes, plusSizes, bitOf}
 use Rattle.tally.specs.Going.{LevelGoing, Begun, New}
 use Rattle.quick_items.specs.Items.{toldSizes, ItemGlanced, GlancedTo}
 use Rattle.format.specs.Read.{headOf, item}
@@ -115,7 +116,7 @@ module _ {b : Bool} {f : Form} {s : List ℕ} {p tag u w n : ℕ} (i : Meets b f
       (sym (ap length (i .shortest value value-size value-head) ∙ value-size))
 
 -- such an item, where the walk goes on, if its tag is told to be new
-pub record MetAt (b : Bool) (f : Form) (s : List ℕ) (p : ℕ) (sum : Sizes) (held : Bool) (top low tag u w n : ℕ) : Type 0 where
+pub record MetAt (b : Bool) (f : Form) (s : List ℕ) (p : ℕ) (sum : Sizes) (held top low tag u w n : ℕ) : Type 0 where
   pub going : LevelGoing b f s p sum held top low
   pub here : p < length s
   pub meets : Meets b f s p tag u w n
@@ -123,7 +124,7 @@ pub record MetAt (b : Bool) (f : Form) (s : List ℕ) (p : ℕ) (sum : Sizes) (h
   pub bytes : Bytes s
   pub most : length s ≤ 8192
 
-pub met-item : {b : Bool} {f : Form} {s : List ℕ} {p : ℕ} {sum : Sizes} {held : Bool} {top low tag u w n : ℕ} → MetAt b f s p sum held top low tag u w n → ItemAt b f s p sum held top low tag (u + w) n n
+pub met-item : {b : Bool} {f : Form} {s : List ℕ} {p : ℕ} {sum : Sizes} {held top low tag u w n : ℕ} → MetAt b f s p sum held top low tag u w n → ItemAt b f s p sum held top low tag (u + w) n n
 met-item {tag = tag} {u = u} {w = w} {n = n} i = record {
   going = i .going;
   here = i .here;
@@ -151,8 +152,8 @@ module _ {b : Bool} {f : Form} {s : List ℕ} {p top n : ℕ} (g : ItemGlanced b
       quick-piece i λ seen q. sym (q .under tag (g .above))
 
   -- x is the tag as the code read it
-  glance-more : {count : ℕ} {held : Bool} {low : ℕ} → LevelGoing b f s p (toldSizes count p) held top low → Bytes s → length s ≤ 8192
-      → {x : ℕ} → x ≡ tag → {y held′ : Bool} → y ≡ eqb x (askedTag (levelOf b)) → held′ ≡ (held || y) → {low′ : ℕ} → (low′ ≤ low) × (low′ ≤ x)
+  glance-more : {count held low : ℕ} → LevelGoing b f s p (toldSizes count p) held top low → Bytes s → length s ≤ 8192
+      → {x : ℕ} → x ≡ tag → {y held′ : ℕ} → y ≡ bitOf x → held′ ≡ bitOr held y → {low′ : ℕ} → (low′ ≤ low) × (low′ ≤ x)
       → LevelGoing b f s (p + 2 + n) (toldSizes (count + 1) (p + 2 + n)) held′ x low′
   glance-more {count = count} {held = held} {low = low} go bytes most ex ey em el =
       let (z, th, nh) = glance-small in
@@ -166,7 +167,7 @@ module _ {b : Bool} {f : Form} {s : List ℕ} {p top n : ℕ} (g : ItemGlanced b
         most = most;
       } in
       entry-more i (item-told i {x = b && eqb tag 101} refl (rw level-is at (g .quick .no-series)) refl) refl (quick-plus (levelOf b) tag n count p (g .quick .no-seal) th nh)
-      (em ∙ ap (λ z. held || z) (ey ∙ ap (λ z. eqb z (askedTag (levelOf b))) ex)) (omega (arith, g .above, ex), omega (arith, ex)) (el .0, omega (arith, ex, el .1))
+      (em ∙ ap (bitOr held) (ey ∙ ap bitOf ex)) (omega (arith, g .above, ex), omega (arith, ex)) (el .0, omega (arith, ex, el .1))
 
 -- an item that ends at next by its length; x is its tag as the code read it
 module _ {b : Bool} {f : Form} {s : List ℕ} {p top next : ℕ} (g : GlancedTo b f s p top next) where
@@ -177,7 +178,7 @@ module _ {b : Bool} {f : Form} {s : List ℕ} {p top next : ℕ} (g : GlancedTo 
     pub glanced-low : {low : ℕ} → (p < length s → top < getD s p 0 → getD s p 0 < 128 → low ≤ getD s p 0) → {x : ℕ} → x ≡ getD s p 0 → low ≤ x
     glanced-low h ex = let i = g .4 room in omega (arith, ex, h (omega (arith, glanced-next)) (i .above) (i .small))
 
-    pub glanced-more : {count : ℕ} {held : Bool} {low : ℕ} → LevelGoing b f s p (toldSizes count p) held top low → Bytes s → length s ≤ 8192
-        → {x : ℕ} → x ≡ getD s p 0 → {y held′ : Bool} → y ≡ eqb x (askedTag (levelOf b)) → held′ ≡ (held || y) → low ≤ x
+    pub glanced-more : {count held low : ℕ} → LevelGoing b f s p (toldSizes count p) held top low → Bytes s → length s ≤ 8192
+        → {x : ℕ} → x ≡ getD s p 0 → {y held′ : ℕ} → y ≡ bitOf x → held′ ≡ bitOr held y → low ≤ x
         → LevelGoing b f s next (toldSizes (count + 1) next) held′ x low
     glanced-more go bytes most ex ey em el = rw (g .1) (glance-more (g .4 room) go bytes most ex ey em (omega arith, el))

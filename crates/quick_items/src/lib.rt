@@ -89,18 +89,18 @@ pub fn glance_items(glances: &[u32], s: &[u8], set: bool, alone: bool) -> Stage
     let low = first_tag(s);
     let mut p: usize = 0;
     let mut count: usize = 0;
-    let mut held = false;
+    let mut held: u64 = 0;
     let mut top: u64 = 0;
     loop {
         let next = glance_item(glances, s, p, most, set, alone, top);
         if next == 0 {
             if s.len() < p {
-                return tally::stages::stage_at(0, tally::weights::nothing(), false, 0, low);
+                return tally::stages::stage_at(0, tally::weights::nothing(), 0, 0, low);
             }
             return tally::stages::stage_at(p, told_sizes(count, p), held, top, low);
         }
         let tag = coding::wide(s[p]);
-        held = coding::either(held, tally::is_asked(set, tag));
+        held = held | tally::bit_of(tag);
         top = tag;
         count += 1;
         p = next;
@@ -145,12 +145,13 @@ pub fn onward(s: &[u8], set: bool, alone: bool, q: Stage) -> Stage
 {
     let mut p = q.at;
     let mut sum = q.sizes;
+    let mut held = q.held;
     let mut top = q.top;
     let mut low = q.low;
     while p < s.len() {
         // the series is no such item
         if tally::is_series(set, coding::wide(s[p])) {
-            return tally::stages::stage_at(p, sum, q.held, top, low);
+            return tally::stages::stage_at(p, sum, held, top, low);
         }
         let h = heads::item_head(&s[p..], set);
         let Head::Whole {
@@ -160,15 +161,16 @@ pub fn onward(s: &[u8], set: bool, alone: bool, q: Stage) -> Stage
             size,
         } = h
         else {
-            return tally::stages::stage_at(p, sum, q.held, top, low);
+            return tally::stages::stage_at(p, sum, held, top, low);
         };
         if !is_plain(set, alone, p, top, low, key, size) {
-            return tally::stages::stage_at(p, sum, q.held, top, low);
+            return tally::stages::stage_at(p, sum, held, top, low);
         }
         sum = tally::weights::plus(sum, tally::weights::plain_sizes(set, key, size));
+        held = held | tally::bit_of(key);
         top = tally::larger(top, key);
         low = tally::smaller(low, key);
         p = p + used + width + size;
     }
-    tally::stages::stage_at(p, sum, q.held, top, low)
+    tally::stages::stage_at(p, sum, held, top, low)
 }

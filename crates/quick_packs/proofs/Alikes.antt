@@ -3,11 +3,11 @@ use mathlib.Core.Path.{_≡_, refl, sym, ap, subst, _∙_}
 use mathlib.Core.Logic.{inl, inr, ⊎-elim}
 use Prim.Native.Nat.{ℕ, _+_, _-_, _≤_, _<_}
 use native.Mathlib.Omega.{arith}
-use mathlib.Core.Bool.{Bool, true, false, not, _||_}
+use mathlib.Core.Bool.{false}
 use mathlib.Core.List.{List}
 use lib.ListN.{length, take, drop, getD, length-drop}
 use lib.Seq.{getD-take, length-take-le}
-use lib.Dec.{eqb}
+use lib.Bits.{bitOr}
 use Rattle.format.specs.Coding.{Bytes}
 use Rattle.format.specs.Table.{Form, Level}
 use Rattle.format.proofs.words.Bytes.{bytes-drop, bytes-take}
@@ -18,7 +18,7 @@ use Rattle.items.specs.Quick as items
 use Rattle.items.proofs.Glances.{quick-as}
 use Rattle.tally.specs.declared.stages.Stage.{Stage}
 use Rattle.quick_packs.specs.declared.Model.{Model}
-use Rattle.tally.specs.Meet.{askedTag}
+use Rattle.tally.specs.Meet.{bitOf}
 use Rattle.tally.specs.Going.{LevelGoing, Begun}
 use Rattle.quick_packs.specs.Packs.{Laid, Told, Modelled}
 use Rattle.tally.proofs.ItemTurns.{level-start}
@@ -46,19 +46,19 @@ module _ {a b m m′ : List ℕ} {p v next : ℕ} (i : ItemMasked m m′ p 2 v) 
   }
 
 -- the items of a up to p, and of whatever is laid out so; past the end nothing is said
-pub record Laying (f : Form) (masks a : List ℕ) (p count : ℕ) (held : Bool) (top low : ℕ) : Type 0 where
+pub record Laying (f : Form) (masks a : List ℕ) (p count held top low : ℕ) : Type 0 where
   pub long : length masks ≡ 160
   pub walked : p ≤ length a → (b : List ℕ) → Bytes b → length b ≡ length a → AlikeTo masks a b p → LevelGoing false f b p (toldSizes count p) held top low
   pub lowest : p < length a → top < getD a p 0 → getD a p 0 < 128 → low ≤ getD a p 0
 
 -- the items themselves
-pub laying-own : {f : Form} {m a : List ℕ} {p count : ℕ} {held : Bool} {top low : ℕ} → Laying f m a p count held top low → p ≤ length a → Bytes a → LevelGoing false f a p (toldSizes count p) held top low
+pub laying-own : {f : Form} {m a : List ℕ} {p count held top low : ℕ} → Laying f m a p count held top low → p ≤ length a → Bytes a → LevelGoing false f a p (toldSizes count p) held top low
 laying-own {m = m} {a = a} {p = p} l h bytes = l .walked h a bytes refl (alike-same m a p)
 
 -- one more, whose tag the code read as x, and its length as n
-pub laying-more : {f : Form} {m a : List ℕ} {p count : ℕ} {held : Bool} {top low : ℕ} → Laying f m a p count held top low → {next : ℕ} → GlancedTo false f a p top next → length a < 128
+pub laying-more : {f : Form} {m a : List ℕ} {p count held top low : ℕ} → Laying f m a p count held top low → {next : ℕ} → GlancedTo false f a p top next → length a < 128
     → {m′ : List ℕ} {x n v : ℕ} → x ≡ getD a p 0 → n ≡ getD a (p + 1) 0 → ItemMasked m m′ p 2 v → (v ≡ 0 → items.Glanced (levelOf false) f x n 0)
-    → {y held′ : Bool} → y ≡ eqb x (askedTag (levelOf false)) → held′ ≡ (held || y)
+    → {y held′ : ℕ} → y ≡ bitOf x → held′ ≡ bitOr held y
     → Laying f m′ a next (count + 1) held′ x low
 laying-more {f = f} {a = a} {p = p} {top = top} {low = low} l {next = next} g few {m′ = m′} {x = x} {n = n} ex en i any ey em = record {
   long = i .long ∙ l .long;

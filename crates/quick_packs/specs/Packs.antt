@@ -22,7 +22,7 @@ pub record Laid (f : Form) (masks a : List ℕ) (q : Stage) : Type 0 where
 -- a pack's items that are walked to their end, with as many rows as the pack has beside its own, and hold what a pack must
 pub record Told (alone : Bool) (b : List ℕ) (rows : ℕ) : Type 0 where
   pub count : ℕ
-  pub held : Bool
+  pub held : ℕ
   pub top : ℕ
   pub low : ℕ
   pub going : LevelGoing false (formOf alone) b (length b) (sizes (4 * count + length b) count (length b) 0) held top low

@@ -40,20 +40,20 @@ fn lay(glances: &[u32], s: &[u8], alone: bool, masks: &mut [u8; 160]) -> Stage
     let low = quick_items::first_tag(s);
     let mut p: usize = 0;
     let mut count: usize = 0;
-    let mut held = false;
+    let mut held: u64 = 0;
     let mut top: u64 = 0;
     loop {
         let next = quick_items::glance_item(glances, s, p, most, false, alone, top);
         if next == 0 {
             if s.len() < p {
-                return stages::stage_at(0, tally::weights::nothing(), false, 0, low);
+                return stages::stage_at(0, tally::weights::nothing(), 0, 0, low);
             }
             return stages::stage_at(p, quick_items::told_sizes(count, p), held, top, low);
         }
         let tag = coding::wide(s[p]);
         let first = items::quick::first_mask(glances, false, alone, tag, coding::wide(s[p + 1]));
         coding::alike::mask_item(masks, p, 2, first);
-        held = coding::either(held, tally::is_asked(false, tag));
+        held = held | tally::bit_of(tag);
         top = tag;
         count += 1;
         p = next;
@@ -175,7 +175,7 @@ fn choose(
 // Where the pack walk goes on after packs of p bytes and so many rows, each with a byte for its length.
 fn passed(p: usize, rows: usize, more: usize, top: u64, low: u64) -> Stage
     requires { ⌜ p + 4 * rows + more ≤ 65536 ⌝ }
-    ensures { λ r. ⌜ r ≡ stageAt p (packedSizes p rows more) false top low ⌝ }
+    ensures { λ r. ⌜ r ≡ stageAt p (packedSizes p rows more) 0 top low ⌝ }
 {
     let sizes = Sizes {
         sheet: p + 4 * rows + more,
@@ -183,7 +183,7 @@ fn passed(p: usize, rows: usize, more: usize, top: u64, low: u64) -> Stage
         normal: p,
         inner: 0,
     };
-    stages::stage_at(p, sizes, false, top, low)
+    stages::stage_at(p, sizes, 0, top, low)
 }
 
 // The packs whose length has one byte and whose id has one or two, and whose items are all told at a glance, one after another, from a series'

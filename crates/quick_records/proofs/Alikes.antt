@@ -2,11 +2,11 @@
 use mathlib.Core.Path.{_≡_, refl, sym, ap, _∙_}
 use Prim.Native.Nat.{ℕ, _+_, _-_, _*_, _≤_, _<_}
 use native.Mathlib.Omega.{arith}
-use mathlib.Core.Bool.{Bool, false, _||_}
+use mathlib.Core.Bool.{false}
 use mathlib.Core.List.{List, [], _∷_}
 use lib.ListN.{length, take, drop, getD, length-drop}
 use lib.Seq.{getD-drop}
-use lib.Dec.{eqb}
+use lib.Bits.{bitOr}
 use Rattle.format.specs.Coding.{Bytes, bytesNumber}
 use Rattle.format.specs.Sheet.{Mark, markOf, is}
 use Rattle.format.specs.Table.{Form}
@@ -14,7 +14,7 @@ use Rattle.coding.specs.Alike.{AlikeTo, ItemMasked}
 use Rattle.coding.proofs.Alikes.{masked-before, masked-head, masked-value}
 use Rattle.items.specs.Meet.{levelOf}
 use Rattle.items.specs.Quick.{Glanced}
-use Rattle.tally.specs.Meet.{askedTag}
+use Rattle.tally.specs.Meet.{bitOf}
 use Rattle.quick_packs.proofs.Alikes.{quick-alike}
 use Rattle.tally_records.specs.Going.{RecordsGoing}
 use Rattle.quick_records.specs.Going.{RecordGlanced}
@@ -58,7 +58,7 @@ module _ {a b m m′ : List ℕ} {p v next : ℕ} (i : ItemMasked m m′ p 6 v) 
       long (g .above) (g .small) (g .few) (quick-alike any (g .quick) (masked-value i room h))
 
 -- the records of a up to p, and while there is room for masks, of whatever is laid out so
-pub record Laying (f : Form) (masks a : List ℕ) (p count : ℕ) (held : Bool) (top : ℕ) : Type 0 where
+pub record Laying (f : Form) (masks a : List ℕ) (p count held top : ℕ) : Type 0 where
   pub long : length masks ≡ 160
   pub own : RecordsGoing false f a p (toldSizes count p) held top 0
   pub few : 4 * count ≤ p
@@ -70,9 +70,9 @@ pub record Remasked (f : Form) (m m′ : List ℕ) (p tag n : ℕ) : Type 0 wher
   pub item : ItemMasked m m′ p 6 first
   pub any : first ≡ 0 → Glanced (levelOf false) f tag n 0
 
-pub laying-more : {f : Form} {m a : List ℕ} {p count : ℕ} {held : Bool} {top : ℕ} → Laying f m a p count held top → {tag next : ℕ} → RecordGlanced false f a p top tag (next - (p + 6)) → Bytes a → length a ≤ 65536
+pub laying-more : {f : Form} {m a : List ℕ} {p count held top : ℕ} → Laying f m a p count held top → {tag next : ℕ} → RecordGlanced false f a p top tag (next - (p + 6)) → Bytes a → length a ≤ 65536
     → {m′ : List ℕ} → length m′ ≡ 160 → (p < 128 → Remasked f m m′ p tag (next - (p + 6)))
-    → {y held′ : Bool} → y ≡ eqb tag (askedTag (levelOf false)) → held′ ≡ (held || y)
+    → {y held′ : ℕ} → y ≡ bitOf tag → held′ ≡ bitOr held y
     → Laying f m′ a next (count + 1) held′ tag
 laying-more {p = p} l {next = next} g bytes most long masked ey em = record {
   long = long;

@@ -7,6 +7,7 @@ use mathlib.Core.List.{List, [], _∷_}
 use lib.ListN.{length, take, drop, getD, length-drop}
 use lib.Seq.{drop-drop, getD-drop, getD-take, length-take-le}
 use lib.Dec.{eqb}
+use lib.Bits.{bitOr}
 use borrow.Author.Tests.{lt-ltb, le-leb, eq-eqb}
 use Rattle.format.specs.Coding.{Bytes, bytesNumber, number, oidBytes, lenWidth}
 use Rattle.format.specs.Table.{Form, Level, isSet, ruleOf, nameable}
@@ -25,7 +26,7 @@ use Rattle.heads.proofs.Spans.{val-whole, a-field}
 use Rattle.tally.specs.declared.Piece.{Piece}
 use Rattle.tally.specs.declared.Piece.the-variants as piece
 use Rattle.tally.specs.declared.Sizes.{Sizes}
-use Rattle.tally.specs.Meet.{sizes, itemSizes, packSizes, plusSizes, askedTag}
+use Rattle.tally.specs.Meet.{sizes, itemSizes, packSizes, plusSizes, bitOf}
 use Rattle.tally.specs.Going.{Begun, stageAt}
 use Rattle.tally.proofs.Walks.{same-sizes}
 use Rattle.tally.proofs.Begins.{begun-later}
@@ -189,8 +190,8 @@ glance-next g = (omega (arith, g .quick .some), omega (arith, glance-room g, g .
 
 -- tags rise; none is below low
 pub glance-more : {b : Bool} {f : Form} {s : List ℕ} {p top tag next : ℕ} → RecordGlanced b f s p top tag (next - (p + 6)) → Begun b f p tag
-    → {count : ℕ} {held : Bool} {low : ℕ} → RecordsGoing b f s p (toldSizes count p) held top low → low ≤ tag → 4 * count ≤ p → Bytes s → length s ≤ 65536
-    → {y held′ : Bool} → y ≡ eqb tag (askedTag (levelOf b)) → held′ ≡ (held || y) → RecordsGoing b f s next (toldSizes (count + 1) next) held′ tag low
+    → {count held low : ℕ} → RecordsGoing b f s p (toldSizes count p) held top low → low ≤ tag → 4 * count ≤ p → Bytes s → length s ≤ 65536
+    → {y held′ : ℕ} → y ≡ bitOf tag → held′ ≡ bitOr held y → RecordsGoing b f s next (toldSizes (count + 1) next) held′ tag low
 glance-more {b = b} {f = f} {s = s} {p = p} {top = top} {tag = tag} {next = next} g begins {count = count} {held = held} {low = low} go above few bytes most {held′ = held′} ey em =
     let n : ℕ = next - (p + 6) in
     let i : PartAt b f s (stageAt p (toldSizes count p) held top low) tag 6 n n = record {
@@ -204,10 +205,10 @@ glance-more {b = b} {f = f} {s = s} {p = p} {top = top} {tag = tag} {next = next
       most = most;
     } in
     let at : next ≡ p + itemSizes (levelOf b) tag n .sheet = omega (arith, glance-next g, ap (λ (a : Sizes). a .sheet) (item-is (levelOf b) tag n (g .quick .no-seal))) in
-    let after : After (stageAt p (toldSizes count p) held top low) tag (itemSizes (levelOf b) tag n) (eqb tag (askedTag (levelOf b))) (stageAt next (toldSizes (count + 1) next) held′ tag low) = record {
+    let after : After (stageAt p (toldSizes count p) held top low) tag (itemSizes (levelOf b) tag n) (bitOf tag) (stageAt next (toldSizes (count + 1) next) held′ tag low) = record {
       at-is = at;
       sizes-are = ap (toldSizes (count + 1)) at ∙ quick-plus (levelOf b) tag n count p (g .quick .no-seal) (g .small) (g .few) few;
-      held-is = em ∙ ap (λ z. held || z) ey;
+      held-is = em ∙ ap (bitOr held) ey;
       over = (omega (arith, g .above), omega arith);
       under = (omega arith, omega arith);
     } in

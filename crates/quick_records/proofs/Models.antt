@@ -2,14 +2,14 @@
 use mathlib.Core.Path.{_≡_, refl, sym}
 use Prim.Native.Nat.{ℕ, _+_, _-_, _*_, _≤_, _<_}
 use native.Mathlib.Omega.{arith}
-use mathlib.Core.Bool.{Bool, true, false, not, _||_}
+use mathlib.Core.Bool.{Bool, true, false}
 use mathlib.Core.List.{List}
 use lib.ListN.{length, drop, length-drop}
 use lib.Dec.{ltb}
 use borrow.Author.Tests.{ltb-true, ltb-false}
 use Rattle.format.specs.Answer.{got}
 use Rattle.format.specs.Coding.{Bytes, oidBytes}
-use Rattle.format.specs.Table.{pack, isAlone}
+use Rattle.format.specs.Table.{pack}
 use Rattle.format.proofs.words.Bytes.{bytes-drop}
 use Rattle.coding.proofs.Rooms.{tail-part}
 use Rattle.items.specs.Meet.{formOf}
@@ -18,11 +18,10 @@ use Rattle.tally.specs.declared.stages.Stage.{Stage}
 use Rattle.quick_packs.specs.declared.Model.{Model}
 use Rattle.tally.specs.declared.Walked.the-variants.{Good}
 use Rattle.tally.specs.declared.Sizes.{Sizes}
-use Rattle.tally.specs.Meet.{sizes, packSizes, Within}
+use Rattle.tally.specs.Meet.{sizes, packSizes, endedBy, Within}
 use Rattle.tally.specs.Going.{stageAt}
 use Rattle.quick_packs.specs.Packs.{As}
 use Rattle.tally.proofs.Turns.{turn-done}
-use Rattle.tally.proofs.PackTurns.{either-is}
 use Rattle.tally_records.specs.Meet.{recordsWalk}
 use Rattle.tally_records.specs.Going.{RecordsGoing, TargetsGoing, After}
 use Rattle.quick_records.specs.Targets.{Laid, Held, Over, Modelled, ModelAt}
@@ -46,9 +45,9 @@ pub model-room : {alone : Bool} {masks s : List ℕ} {from : ℕ} {m : Model} �
 model-room a some = (omega (arith, a .held some .rows-are, a .held some .few), a .over some .within)
 
 -- records from one place on
-module _ (alone : Bool) (s : List ℕ) (from : ℕ) {masks : List ℕ} {q : Stage} (l : Laid (formOf alone) masks (drop from s) q) (located : not alone || q .held ≡ true) where
+module _ (alone : Bool) (s : List ℕ) (from : ℕ) {masks : List ℕ} {q : Stage} (l : Laid (formOf alone) masks (drop from s) q) (ends : endedBy (formOf alone) (q .held) ≡ 0) where
   holds : (b : List ℕ) → RecordsGoing false (formOf alone) b (q .at) (q .sizes) (q .held) (q .top) (q .low) → Held alone b (q .at) (1 + q .sizes .rows)
-  holds b g = record { count = q .sizes .rows; held = q .held; top = q .top; low = q .low; going = rw (← l .sizes-are) g; few = l .few; rows-are = refl; located = located }
+  holds b g = record { count = q .sizes .rows; held = q .held; top = q .top; low = q .low; going = rw (← l .sizes-are) g; few = l .few; rows-are = refl; ends = ends }
 
   pub records-held : Held alone (drop from s) (q .at) (1 + q .sizes .rows)
   records-held = holds (drop from s) (l .own)
@@ -61,7 +60,7 @@ pub as-held : {alone : Bool} {masks s : List ℕ} {m : Model} → Modelled alone
 as-held {s = s} l from bytes most a = l .held (a .small) (drop from s) (bytes-drop from s bytes) (omega (arith, length-drop from s, most)) (omega (arith, length-drop from s, a .within)) (a .alike)
 
 -- a target that holds such, in the series; id takes w bytes in a packet
-module _ {alone : Bool} {s : List ℕ} {p rows normal top low id a b c : ℕ} (i : TargetAt (formOf alone) s (stageAt p (sizes p rows normal 0) false top low) id a b c) {size r : ℕ}
+module _ {alone : Bool} {s : List ℕ} {p rows normal top low id a b c : ℕ} (i : TargetAt (formOf alone) s (stageAt p (sizes p rows normal 0) 0 top low) id a b c) {size r : ℕ}
     (h : Held alone (drop (p + 10) s) size r) (over : Over s (p + 10 + size)) where
   abbrev inner : Sizes
   inner = sizes size (h .count) (size - 4 * h .count) 0
@@ -76,18 +75,15 @@ module _ {alone : Bool} {s : List ℕ} {p rows normal top low id a b c : ℕ} (i
       go true e = records-over going (lent-over i size (over .next (ltb-true (p + 10 + size) (length s) e)))
       go false e = turn-done going (omega (arith, lent-long i, ltb-false (p + 10 + size) (length s) e))
 
-  located : true ≡ (not (isAlone (formOf alone)) || h .held)
-  located = either-is alone (h .held) (sym (h .located))
-
   pub held-looks : peek true true false (drop p s) ≡ got id (10 + size)
-  held-looks = target-looks i walked refl located refl
+  held-looks = target-looks i walked refl (sym (h .ends)) refl
 
   pub held-more : {w : ℕ} → (w ≡ length (oidBytes id)) × (w ≤ 9) → {body : ℕ} → body ≡ w + (size + 4 - 4 * r) → body ≤ 127 → {top′ low′ : ℕ} → (top ≤ top′) × (id ≤ top′) → (low′ ≤ low) × (low′ ≤ id)
-      → TargetsGoing (formOf alone) s (p + 10 + size) (sizes (p + 10 + size) (rows + r) (normal + 1 + body) 0) false top′ low′
+      → TargetsGoing (formOf alone) s (p + 10 + size) (sizes (p + 10 + size) (rows + r) (normal + 1 + body) 0) 0 top′ low′
   held-more {w = w} ew {body = body} eb few {top′ = top′} {low′ = low′} over-top under-low =
       let x : rows + r ≡ rows + 1 + h .count = omega (arith, h .rows-are) in
       let y : body ≡ w + (size - 4 * h .count) = omega (arith, h .rows-are, h .few, eb) in
-      let after : After (stageAt p (sizes p rows normal 0) false top low) id (packSizes w inner) false (stageAt (p + 10 + size) (sizes (p + 10 + size) (rows + r) (normal + 1 + body) 0) false top′ low′)
+      let after : After (stageAt p (sizes p rows normal 0) 0 top low) id (packSizes w inner) 0 (stageAt (p + 10 + size) (sizes (p + 10 + size) (rows + r) (normal + 1 + body) 0) 0 top′ low′)
       = record {
         at-is = omega arith;
         sizes-are = rw (x, y) (passed-plus p rows normal w inner (omega (arith, y, few)));
@@ -95,4 +91,4 @@ module _ {alone : Bool} {s : List ℕ} {p rows normal top low id a b c : ℕ} (i
         over = over-top;
         under = under-low;
       } in
-      target-more i walked refl ew refl located refl after
+      target-more i walked refl ew refl (sym (h .ends)) refl after

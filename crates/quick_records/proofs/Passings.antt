@@ -27,7 +27,7 @@ use Rattle.quick_records.proofs.Models.{no-records, held-looks, held-mo
 
 -- the targets before p are walked, with so many rows and bytes in a packet, their ids within the bounds and noted; another stands there
 pub record Passing (alone : Bool) (s bits masks : List ℕ) (p rows normal : ℕ) (b : Bounds) (m : Model) : Type 0 where
-  pub going : TargetsGoing (formOf alone) s p (sizes p rows normal 0) false (b .top) (b .low)
+  pub going : TargetsGoing (formOf alone) s p (sizes p rows normal 0) 0 (b .top) (b .low)
   pub opens : is TG s ≡ true
   pub begins : p < length s → is TG (drop p s) ≡ true
   pub bounded : Bounded p b
@@ -50,17 +50,17 @@ passing-none tg n long = record {
 
 module _ {alone : Bool} {s bits masks : List ℕ} {p rows normal : ℕ} {b : Bounds} {m : Model} (i : Passing alone s bits masks p rows normal b m) where
   -- the walk may go on there
-  pub passing-stays : TargetsPassed (formOf alone) s (stageAt p (sizes p rows normal 0) false (b .top) (b .low))
+  pub passing-stays : TargetsPassed (formOf alone) s (stageAt p (sizes p rows normal 0) 0 (b .top) (b .low))
   passing-stays = (i .going, omega (arith, i .small), refl, i .opens)
 
   -- an id of two bytes at the most, and the bounds that the code has then
   module _ {id : ℕ} (low : id ≤ 16383) {after : List ℕ} {r : Bounds} (h : Bounding bits after p b id r) where
-    pub passing-wide : TargetsPassed (formOf alone) s (stageAt p (sizes p rows normal 0) false (r .top) (r .low))
+    pub passing-wide : TargetsPassed (formOf alone) s (stageAt p (sizes p rows normal 0) 0 (r .top) (r .low))
     passing-wide = (going-wide (i .going) (h .wide .0) (h .wide .1), omega (arith, h .most 16383 (i .small) low), refl, i .opens)
 
     -- which is that of a target here, and new
     module _ (bytes : Bytes s) (most : length s ≤ 65536) (ten : 10 ≤ length s - p) (ei : id ≡ bytesNumber (take 8 (take (length s - (p + 2)) (drop (p + 2) s)))) (new : IdNew bits after p b id r) where
-      here : TargetAt (formOf alone) s (stageAt p (sizes p rows normal 0) false (b .top) (b .low)) id 10 0 0
+      here : TargetAt (formOf alone) s (stageAt p (sizes p rows normal 0) 0 (b .top) (b .low)) id 10 0 0
       here = record {
         going = i .going;
         here = omega arith;

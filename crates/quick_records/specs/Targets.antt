@@ -1,7 +1,7 @@
 -- Targets laid out alike: what is told of one by the masks of another, its model.
 use mathlib.Core.Path.{_≡_}
 use Prim.Native.Nat.{ℕ, _+_, _-_, _*_, _≤_, _<_}
-use mathlib.Core.Bool.{Bool, true, false, not, _||_}
+use mathlib.Core.Bool.{Bool, true, false}
 use mathlib.Core.List.{List}
 use lib.ListN.{length, drop}
 use Rattle.format.specs.Coding.{Bytes}
@@ -11,7 +11,7 @@ use Rattle.coding.specs.Alike.{AlikeTo}
 use Rattle.items.specs.Meet.{formOf}
 use Rattle.tally.specs.declared.stages.Stage.{Stage}
 use Rattle.quick_packs.specs.declared.Model.{Model}
-use Rattle.tally.specs.Meet.{sizes}
+use Rattle.tally.specs.Meet.{sizes, endedBy}
 use Rattle.tally_records.specs.Going.{RecordsGoing, RecordsFrom}
 
 -- the records of a are walked so far; and if that is not too far for the masks, so is whatever is laid out as they are
@@ -24,13 +24,13 @@ pub record Laid (f : Form) (masks a : List ℕ) (q : Stage) : Type 0 where
 -- a target's records that are walked that far, with as many rows as the target has beside its own, and hold what a target must
 pub record Held (alone : Bool) (b : List ℕ) (size rows : ℕ) : Type 0 where
   pub count : ℕ
-  pub held : Bool
+  pub held : ℕ
   pub top : ℕ
   pub low : ℕ
   pub going : RecordsGoing false (formOf alone) b size (sizes size count (size - 4 * count) 0) held top low
   pub few : 4 * count ≤ size
   pub rows-are : rows ≡ 1 + count
-  pub located : not alone || held ≡ true
+  pub ends : endedBy (formOf alone) held ≡ 0
 
 -- they end there: the sheet does, or another target begins
 pub record Over (s : List ℕ) (p : ℕ) : Type 0 where

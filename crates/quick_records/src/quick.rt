@@ -111,14 +111,14 @@ pub fn glance_rising(glances: &[u32], s: &[u8], set: bool, alone: bool, low: u64
 {
     let mut p: usize = 0;
     let mut count: usize = 0;
-    let mut held = false;
+    let mut held: u64 = 0;
     let mut top: u64 = 0;
     loop {
         let g = glance_record(glances, s, p, set, alone, top);
         if g.next == 0 {
             return tally::stages::stage_at(p, told_sizes(count, p), held, top, low);
         }
-        held = coding::either(held, tally::is_asked(set, g.tag));
+        held = held | tally::bit_of(g.tag);
         top = g.tag;
         count += 1;
         p = g.next;

@@ -28,7 +28,7 @@ fn lay(glances: &[u32], s: &[u8], alone: bool, masks: &mut [u8; 160]) -> Stage
 {
     let mut p: usize = 0;
     let mut count: usize = 0;
-    let mut held = false;
+    let mut held: u64 = 0;
     let mut top: u64 = 0;
     loop {
         let g = quick::glance_record(glances, s, p, false, alone, top);
@@ -40,7 +40,7 @@ fn lay(glances: &[u32], s: &[u8], alone: bool, masks: &mut [u8; 160]) -> Stage
             let first = items::quick::first_mask(glances, false, alone, g.tag, n);
             coding::alike::mask_item(masks, p, 6, first);
         }
-        held = coding::either(held, tally::is_asked(false, g.tag));
+        held = held | tally::bit_of(g.tag);
         top = g.tag;
         count += 1;
         p = g.next;
@@ -110,7 +110,7 @@ fn model_at(
 
 // Where the target walk goes on after targets of p bytes, so many rows, and so many bytes in a packet.
 fn passed(p: usize, rows: usize, normal: usize, b: Bounds) -> Stage
-    ensures { λ r. ⌜ r ≡ stageAt p (sizes p rows normal 0) false (b .top) (b .low) ⌝ }
+    ensures { λ r. ⌜ r ≡ stageAt p (sizes p rows normal 0) 0 (b .top) (b .low) ⌝ }
 {
     let sizes = Sizes {
         sheet: p,
@@ -118,7 +118,7 @@ fn passed(p: usize, rows: usize, normal: usize, b: Bounds) -> Stage
         normal,
         inner: 0,
     };
-    tally::stages::stage_at(p, sizes, false, b.top, b.low)
+    tally::stages::stage_at(p, sizes, 0, b.top, b.low)
 }
 
 // Such targets, one after another, from the series' start: ids rising or falling, or noted in the bits lent, of which most series need none.

@@ -1,5 +1,5 @@
--- What may begin a level, and whatever comes later; a tag that is not asked for at its end.
-use mathlib.Core.Path.{_≡_, refl, sym}
+-- What may begin a level, and whatever comes later.
+use mathlib.Core.Path.{_≡_, refl}
 use Prim.Native.Nat.{ℕ, _<_}
 use native.Mathlib.Omega.{arith}
 use mathlib.Core.Bool.{Bool, true, false, not, _||_}
@@ -16,7 +16,3 @@ begun-later b f p tag h = rw (ne-eqb p 0 (λ e. omega arith)) (any-of (not (isSe
     any-of true y z = refl
     any-of false true z = refl
     any-of false false z = refl
-
-pub or-false : (m : Bool) {c : Bool} → c ≡ false → m ≡ (m || c)
-or-false true e = refl
-or-false false e = sym e

@@ -165,7 +165,7 @@ module _ (f : Form) (seen u : List ℕ) (from size small : ℕ) (k : Stood set f
   unfolding seriesWalk
   series-bad n q e = series-step ∙ go (run always idOfPack (onePack f) (take size (drop from u))) e
     where
-      go : (x : Ans (Got (List Pack))) → Bad n q ≡ walkedOf weightOfPack (λ p. false) x
+      go : (x : Ans (Got (List Pack))) → Bad n q ≡ walkedOf weightOfPack (λ p. 0) x
           → (after from x >>= λ ps. ok (got (series (k .it .val .width) (ps .val)) (k .it .used))) ≡ refused n (from + q)
       go (ok ps) e = absurd (let z : _≡_ {A = ℕ} 0 1 = cc in omega arith)
       go (refused m p) e = unfold _>>=_ after in (let a : m ≡ n = cc in let b : p ≡ q = cc in ap (λ k. refused k (from + p)) a ∙ ap (λ k. refused n (from + k)) b)
@@ -176,10 +176,10 @@ module _ (f : Form) (seen u : List ℕ) (from size small : ℕ) (k : Stood set f
     pub step : stepAt set f seen u ≡ ok (got (series (k .it .val .width) packs) (k .it .used))
     pub weight : total weightOfPack packs ≡ a
 
-  pub series-good : (a : Sizes) (m : Bool) → Good a m ≡ seriesWalk f (take size (drop from u)) → SeriesStood a
+  pub series-good : (a : Sizes) (m : ℕ) → Good a m ≡ seriesWalk f (take size (drop from u)) → SeriesStood a
   unfolding seriesWalk
   series-good a m e = go (run always idOfPack (onePack f) (take size (drop from u))) refl e
     where
-      go : (x : Ans (Got (List Pack))) → run always idOfPack (onePack f) (take size (drop from u)) ≡ x → Good a m ≡ walkedOf weightOfPack (λ p. false) x → SeriesStood a
+      go : (x : Ans (Got (List Pack))) → run always idOfPack (onePack f) (take size (drop from u)) ≡ x → Good a m ≡ walkedOf weightOfPack (λ p. 0) x → SeriesStood a
       go (ok ps) r e = record { packs = ps .val; step = series-step ∙ unfold _>>=_ after in (rw r); weight = cc }
       go (refused n p) r e = absurd (let z : _≡_ {A = ℕ} 0 1 = cc in omega arith)

@@ -1,3 +1,4 @@
+pub mod Bits
 pub mod Maps
 pub mod Pieces
 pub mod Walks

@@ -9,7 +9,7 @@ use Rattle.format.specs.Run.{Step, skip, run}
 use Rattle.format.proofs.words.Answers.{never, ok-inj}
 use Rattle.tally.specs.declared.Sizes.{Sizes}
 use Rattle.tally.specs.declared.Walked.the-variants.{Good, Bad}
-use Rattle.tally.specs.Meet.{total, any, walkedOf}
+use Rattle.tally.specs.Meet.{total, bits, walkedOf}
 
 -- ---- the same run, each thing mapped
 
@@ -54,14 +54,14 @@ module _ {X Y : Type 0} (g : X → Y) where
 
 -- ---- what a walk says of its run
 
-module _ {X : Type 0} (weight : X → Sizes) (held : X → Bool) where
-  pub record Walk (x : Ans (Got (List X))) (a : Sizes) (m : Bool) : Type 0 where
+module _ {X : Type 0} (weight : X → Sizes) (held : X → ℕ) where
+  pub record Walk (x : Ans (Got (List X))) (a : Sizes) (m : ℕ) : Type 0 where
     pub rs : Got (List X)
     pub ran : x ≡ ok rs
     pub weighs : total weight (rs .val) ≡ a
-    pub holds : any held (rs .val) ≡ m
+    pub holds : bits held (rs .val) ≡ m
 
-  pub walked-good : (x : Ans (Got (List X))) (a : Sizes) (m : Bool) → Good a m ≡ walkedOf weight held x → Walk x a m
+  pub walked-good : (x : Ans (Got (List X))) (a : Sizes) (m : ℕ) → Good a m ≡ walkedOf weight held x → Walk x a m
   walked-good (ok rs) a m e = record { rs = rs; ran = refl; weighs = cc; holds = cc }
   walked-good (refused n p) a m e = absurd (let z : _≡_ {A = ℕ} 0 1 = cc in omega arith)
 

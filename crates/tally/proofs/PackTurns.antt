@@ -3,19 +3,18 @@ use mathlib.Core.Path.{_≡_, refl, sym, ap, _∙_, subst}
 use Prim.Native.Nat.{ℕ, zero, suc, _+_, _-_, _≤_, _<_}
 use native.Mathlib.Omega.{arith}
 use native.Mathlib.Nat.{add-zero, add-assoc}
-use mathlib.Core.Bool.{Bool, true, false, not, _||_}
+use mathlib.Core.Bool.{Bool, true, false}
 use mathlib.Core.List.{List, [], _∷_}
 use lib.ListN.{length, take, drop, length-drop}
 use lib.Seq.{drop-drop, length-take-le, take-nil}
 use Rattle.format.specs.Coding.{Bytes}
 use Rattle.format.specs.Lists.{has}
-use Rattle.format.specs.Table.{Form, pack, isAlone}
+use Rattle.format.specs.Table.{Form, pack}
 use Rattle.format.specs.Packet.{idOfPack}
 use Rattle.format.specs.Read.{packHead, onePack}
 use Rattle.format.proofs.words.Bytes.{bytes-drop}
 use Rattle.coding.proofs.Rooms.{tail-part}
 use Rattle.coding.proofs.Counts.{len-most}
-use Rattle.items.specs.Meet.{formOf}
 use Rattle.heads.specs.declared.Head.{Head}
 use Rattle.heads.specs.declared.Head.the-variants as heads
 use Rattle.heads.specs.Meet.{packHeadOf, peek, Past}
@@ -40,11 +39,6 @@ drop-take (suc u) (suc n) (b ∷ s) = let z : suc n - suc u ≡ n - u = omega ar
 pub series-start : (f : Form) (s : List ℕ) → SeriesGoing f s 0 noSizes 0 18446744073709551615
 unfolding seriesWalk
 series-start f s = going-start _ _ _ _ _ _ _ s refl
-
--- `either(!alone, held)`, of the form
-pub either-is : (alone m : Bool) {v : Bool} → v ≡ (not alone || m) → v ≡ (not (isAlone (formOf alone)) || m)
-either-is true m e = e
-either-is false m e = e
 
 module _ (f : Form) {s : List ℕ} {p : ℕ} {sum : Sizes} {top low : ℕ} (g : SeriesGoing f s p sum top low) (h : p < length s) where
   pub head-fault : (a : Head) → packHeadOf a ≡ packHead (take (length s - p) (drop p s)) → {n : ℕ} {d : Piece} {r : Walked} → a ≡ heads.Fault n → d ≡ pieceFault a → r ≡ stopAt p d
@@ -109,7 +103,7 @@ module _ {f : Form} {s : List ℕ} {p : ℕ} {sum : Sizes} {top low k u w n : �
             turn-bad (i .going) (i .here) refl m (w + u + q) (e ∙ ap (laterBy (p + w + u)) t ∙ ap (Bad m) o) (pack-inside f (i .going .seen) (drop p s) k u w n whole first m q (items-bad f _ m q j))
             (omega (arith, l, lent-long, head-room, head-stood .body))
 
-        module _ {z : Sizes} {m : Bool} (ty : y ≡ Good z m) where
+        module _ {z : Sizes} {m : ℕ} (ty : y ≡ Good z m) where
           few : Few z (n - u)
           few = rw lent-long at (subst (λ v. Within v (length lent)) ty (ey .1))
 
@@ -145,7 +139,7 @@ module _ {f : Form} {s : List ℕ} {p : ℕ} {sum : Sizes} {top low k u w n : �
             pack-more tx es et el =
                 items-good f _ z m good λ is ei ez em.
                 let j = head-stood in
-                let read : Reads weightOfPack (λ p. false) idOfPack (onePack f (i .going .seen) (drop p s)) k (w + n) (packSizes u z) false = record {
+                let read : Reads weightOfPack (λ p. 0) idOfPack (onePack f (i .going .seen) (drop p s)) k (w + n) (packSizes u z) 0 = record {
                   it = record { width = w; id = k; items = is .val };
                   reads = pack-good f (i .going .seen) (drop p s) k u w n whole first is ei (ended-says f _ says em .0 tx);
                   key-is = refl;

@@ -2,10 +2,9 @@
 use mathlib.Core.Path.{_≡_, refl, sym, ap, _∙_}
 use Prim.Native.Nat.{ℕ, _+_, _-_, _≤_, _<_, _^_}
 use native.Mathlib.Omega.{arith}
-use mathlib.Core.Bool.{Bool, true, false, not, _||_}
-use mathlib.Core.List.{List, [], _∷_, map}
+use mathlib.Core.Bool.{true, false, not}
+use mathlib.Core.List.{List, map}
 use lib.ListN.{length, take, drop}
-use lib.Dec.{eqb}
 use Rattle.format.specs.Answer.{Ans, ok, refused, Got, got, _>>=_, after}
 use Rattle.format.specs.Coding.{Bytes, oidBytes}
 use Rattle.format.specs.Lists.{has}
@@ -24,7 +23,8 @@ use Rattle.heads.specs.Meet.{packHeadOf}
 use Rattle.tally.proofs.Maps.{mapped, run-map, total-map, mapped-good, mapped-bad, walked-good, walked-bad}
 use Rattle.tally.specs.declared.Sizes.{Sizes}
 use Rattle.tally.specs.declared.Walked.the-variants.{Good, Bad}
-use Rattle.tally.specs.Meet.{total, any, weightOfItem, weightOfEntry, deepenAt, stepAt, levelWalk}
+use Rattle.tally.specs.Meet.{total, bits, weightOfItem, weightOfEntry, bitOf, deepenAt, stepAt, levelWalk}
+use Rattle.tally.proofs.Bits.{bits-map}
 
 -- ---- a pack's items, read as entries
 
@@ -32,25 +32,23 @@ pub run-plain : (f : Form) (s : List ℕ) → run always tagOfEntry (stepAt pack
 unfolding stepAt deepenAt
 run-plain f s = run-map plain always tagOfItem tagOfEntry (item pack f) (stepAt pack f) (λ i. refl) (λ seen t. refl) s
 
-any-plain : (is : List Item) → any (λ e. eqb (tagOfEntry e) 17) (map plain is) ≡ has 17 (map tagOfItem is)
-unfolding any has
-any-plain [] = refl
-any-plain (i ∷ is) = ap (λ b. eqb (i .tag) 17 || b) (any-plain is)
+bits-plain : (is : List Item) → bits (λ e. bitOf (tagOfEntry e)) (map plain is) ≡ bits bitOf (map tagOfItem is)
+bits-plain is = sym (bits-map plain (λ e. bitOf (tagOfEntry e)) is) ∙ bits-map tagOfItem bitOf is
 
 -- what a walk of a pack's items says of the run
-pub items-good : {X : Type 0} (f : Form) (s : List ℕ) (a : Sizes) (m : Bool) → Good a m ≡ levelWalk pack f s
-    → ((is : Got (List Item)) → run always tagOfItem (item pack f) s ≡ ok is → total (weightOfItem pack) (is .val) ≡ a → has 17 (map tagOfItem (is .val)) ≡ m → X) → X
+pub items-good : {X : Type 0} (f : Form) (s : List ℕ) (a : Sizes) (m : ℕ) → Good a m ≡ levelWalk pack f s
+    → ((is : Got (List Item)) → run always tagOfItem (item pack f) s ≡ ok is → total (weightOfItem pack) (is .val) ≡ a → bits bitOf (map tagOfItem (is .val)) ≡ m → X) → X
 unfolding levelWalk
 items-good f s a m e k =
-    let w = walked-good (weightOfEntry pack) (λ e. eqb (tagOfEntry e) 17) (run always tagOfEntry (stepAt pack f) s) a m e in
+    let w = walked-good (weightOfEntry pack) (λ e. bitOf (tagOfEntry e)) (run always tagOfEntry (stepAt pack f) s) a m e in
     let (is, r, q) = mapped-good plain (run always tagOfItem (item pack f) s) (w .rs) (sym (run-plain f s) ∙ w .ran) in
     k is r
     (total-map plain (weightOfItem pack) (weightOfEntry pack) (λ i. refl) (is .val) ∙ ap (total (weightOfEntry pack)) q ∙ w .weighs)
-    (sym (any-plain (is .val)) ∙ ap (any (λ e. eqb (tagOfEntry e) 17)) q ∙ w .holds)
+    (sym (bits-plain (is .val)) ∙ ap (bits (λ e. bitOf (tagOfEntry e))) q ∙ w .holds)
 
 pub items-bad : (f : Form) (s : List ℕ) (n q : ℕ) → Bad n q ≡ levelWalk pack f s → run always tagOfItem (item pack f) s ≡ refused n q
 unfolding levelWalk
-items-bad f s n q e = mapped-bad plain _ n q (sym (run-plain f s) ∙ walked-bad (weightOfEntry pack) (λ e. eqb (tagOfEntry e) 17) (run always tagOfEntry (stepAt pack f) s) n q e)
+items-bad f s n q e = mapped-bad plain _ n q (sym (run-plain f s) ∙ walked-bad (weightOfEntry pack) (λ e. bitOf (tagOfEntry e)) (run always tagOfEntry (stepAt pack f) s) n q e)
 
 -- ---- a pack
 

@@ -2,10 +2,11 @@
 use mathlib.Core.Path.{_≡_, refl, sym, ap, _∙_, subst}
 use Prim.Native.Nat.{ℕ, _+_, _≤_, _<_}
 use native.Mathlib.Omega.{arith}
-use mathlib.Core.Bool.{Bool, true, false, _||_}
+use mathlib.Core.Bool.{Bool, true, false}
 use mathlib.Core.List.{List, _∷_}
 use mathlib.Core.Logic.{inl, inr}
 use lib.ListN.{length, drop}
+use lib.Bits.{bitOr}
 use Rattle.format.specs.Answer.{Ans, ok, refused, Got, got}
 use Rattle.format.specs.Run.{Step}
 use Rattle.format.specs.Lists.{has}
@@ -19,7 +20,7 @@ use Rattle.tally.specs.Going.{Going, New, Reached}
 use Rattle.tally.proofs.Walks.{few-more, going-bad, going-done, going-over, going-more}
 
 -- what was read in n bytes, and what it adds
-pub record Reads {X : Type 0} (weight : X → Sizes) (held : X → Bool) (key : X → ℕ) (step : Ans (Got X)) (k n : ℕ) (a : Sizes) (m : Bool) : Type 0 where
+pub record Reads {X : Type 0} (weight : X → Sizes) (held : X → ℕ) (key : X → ℕ) (step : Ans (Got X)) (k n : ℕ) (a : Sizes) (m : ℕ) : Type 0 where
   pub it : X
   pub reads : step ≡ ok (got it n)
   pub key-is : key it ≡ k
@@ -37,8 +38,8 @@ within-of n e h = subst (λ x. Within x n) (sym e) h
 pub told-as : {w r whole : Walked} (n : ℕ) → w ≡ r → (r ≡ whole) × Within r n → (w ≡ whole) × Within w n
 told-as n e t = (e ∙ t .0, within-of n e (t .1))
 
-module _ {X : Type 0} {look : List ℕ → Got ℕ} {more : List ℕ → Bool} {weight : X → Sizes} {held : X → Bool} {key : X → ℕ} {step : Step X} {whole : Walked} {s : List ℕ} {p : ℕ} {a : Sizes} {m : Bool}
-    {top low : ℕ} (g : Going look more weight held key step whole s p a m top low) where
+module _ {X : Type 0} {look : List ℕ → Got ℕ} {more : List ℕ → Bool} {weight : X → Sizes} {held : X → ℕ} {key : X → ℕ} {step : Step X} {whole : Walked} {s : List ℕ} {p : ℕ} {a : Sizes}
+    {m top low : ℕ} (g : Going look more weight held key step whole s p a m top low) where
   within : Within (Good a m) (length s)
   within = few-more a p (length s) (g .to) (g .few)
 
@@ -70,9 +71,9 @@ module _ {X : Type 0} {look : List ℕ → Got ℕ} {more : List ℕ → Bool} {
       pub turn-bad : {r : Walked} (n q : ℕ) → r ≡ Bad n (p + q) → step (g .seen) (drop p s) ≡ refused n q → p + q ≤ length s → (r ≡ whole) × Within r (length s)
       turn-bad n q e t l = (e ∙ going-bad weight held key step look more whole s p a m top low g h o n q t, within-of (length s) e l)
 
-      pub turn-more : {k n : ℕ} {b : Sizes} {c : Bool} → Reads weight held key (step (g .seen) (drop p s)) k n b c → look (drop p s) ≡ got k n → 0 < n
+      pub turn-more : {k n : ℕ} {b : Sizes} {c : ℕ} → Reads weight held key (step (g .seen) (drop p s)) k n b c → look (drop p s) ≡ got k n → 0 < n
           → (next : ℕ) → next ≡ p + n → next ≤ length s
-          → {a′ : Sizes} → a′ ≡ plusSizes a b → {m′ : Bool} → m′ ≡ (m || c)
+          → {a′ : Sizes} → a′ ≡ plusSizes a b → {m′ : ℕ} → m′ ≡ bitOr m c
           → {top′ : ℕ} → (top ≤ top′) × (k ≤ top′) → {low′ : ℕ} → (low′ ≤ low) × (low′ ≤ k)
           → Going look more weight held key step whole s next a′ m′ top′ low′
       turn-more {k = k} {n = n} r v z next en l {a′ = a′} ea {m′ = m′} em {top′ = top′} t {low′ = low′} w =

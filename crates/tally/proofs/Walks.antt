@@ -4,10 +4,11 @@ use mathlib.Core.Path.{_≡_, refl, sym, ap, _∙_}
 use Prim.Native.Nat.{ℕ, _+_, _≤_, _<_}
 use native.Mathlib.Omega.{arith}
 use native.Mathlib.Nat.{add-zero, add-assoc, zero-add}
-use mathlib.Core.Bool.{Bool, true, false, _||_}
+use mathlib.Core.Bool.{Bool, true, false}
 use mathlib.Core.List.{List, [], _∷_}
 use lib.ListN.{length, drop, length-drop, drop-of-length-le}
 use lib.Seq.{drop-drop}
+use lib.Bits.{bitOr, or-zero-r}
 use Rattle.format.specs.Answer.{Ans, ok, refused, Got, got, _>>=_, after}
 use Rattle.format.specs.Run.{Step, skip, run}
 use Rattle.format.proofs.reading.Runs.{skip-step}
@@ -16,8 +17,9 @@ use Rattle.heads.proofs.Before.{past-none}
 use Rattle.tally.specs.declared.Sizes.{Sizes}
 use Rattle.tally.specs.declared.Walked.{Walked}
 use Rattle.tally.specs.declared.Walked.the-variants.{Good, Bad}
-use Rattle.tally.specs.Meet.{noSizes, plusSizes, total, any, walkedOf, Few}
+use Rattle.tally.specs.Meet.{noSizes, plusSizes, total, bits, walkedOf, Few}
 use Rattle.tally.specs.Going.{resume, Going}
+use Rattle.tally.proofs.Bits.{or-assoc}
 
 pub same-sizes : {a b : Sizes} → a .sheet ≡ b .sheet → a .rows ≡ b .rows → a .normal ≡ b .normal → a .inner ≡ b .inner → a ≡ b
 same-sizes p q r t i = record { sheet = p i; rows = q i; normal = r i; inner = t i }
@@ -52,31 +54,23 @@ few-more a m n l h = record {
   inner = omega (arith, h .inner);
 }
 
-or-assoc : (a b c : Bool) → a || (b || c) ≡ (a || b) || c
-or-assoc true b c = refl
-or-assoc false b c = refl
-
-or-none : (b : Bool) → b || false ≡ b
-or-none true = refl
-or-none false = refl
-
-module _ {X : Type 0} (weight : X → Sizes) (held : X → Bool) (key : X → ℕ) (step : Step X) where
+module _ {X : Type 0} (weight : X → Sizes) (held : X → ℕ) (key : X → ℕ) (step : Step X) where
   -- from the start
-  pub resume-start : (r : Ans (Got (List X))) → walkedOf weight held r ≡ resume weight held noSizes false 0 r
-  resume-start (ok rs) = ap (λ a. Good a (any held (rs .val))) (sym (none-plus (total weight (rs .val))))
+  pub resume-start : (r : Ans (Got (List X))) → walkedOf weight held r ≡ resume weight held noSizes 0 0 r
+  resume-start (ok rs) = ap (λ a. Good a (bits held (rs .val))) (sym (none-plus (total weight (rs .val))))
   resume-start (refused n q) = ap (Bad n) (sym (zero-add q))
 
   -- a thing more
-  resume-more : (a : Sizes) (m : Bool) (p u : ℕ) (x : X) (r : Ans (Got (List X)))
-      → resume weight held a m p (after u r >>= λ rs. ok (got (x ∷ rs .val) (u + rs .used))) ≡ resume weight held (plusSizes a (weight x)) (m || held x) (p + u) r
-  unfolding _>>=_ after total any
+  resume-more : (a : Sizes) (m p u : ℕ) (x : X) (r : Ans (Got (List X)))
+      → resume weight held a m p (after u r >>= λ rs. ok (got (x ∷ rs .val) (u + rs .used))) ≡ resume weight held (plusSizes a (weight x)) (bitOr m (held x)) (p + u) r
+  unfolding _>>=_ after total bits
   resume-more a m p u x (ok rs) =
-      ap (λ b. Good b (m || (held x || any held (rs .val)))) (plus-assoc a (weight x) (total weight (rs .val)))
-      ∙ ap (Good (plusSizes (plusSizes a (weight x)) (total weight (rs .val)))) (or-assoc m (held x) (any held (rs .val)))
+      ap (λ b. Good b (bitOr m (bitOr (held x) (bits held (rs .val))))) (plus-assoc a (weight x) (total weight (rs .val)))
+      ∙ ap (Good (plusSizes (plusSizes a (weight x)) (total weight (rs .val)))) (or-assoc m (held x) (bits held (rs .val)))
   resume-more a m p u x (refused n q) = ap (Bad n) (sym (add-assoc p u q))
 
   module _ (look : List ℕ → Got ℕ) (more : List ℕ → Bool) (whole : Walked) (s : List ℕ) where
-    pub going-start : {low : ℕ} → whole ≡ walkedOf weight held (run more key step s) → Going look more weight held key step whole s 0 noSizes false 0 low
+    pub going-start : {low : ℕ} → whole ≡ walkedOf weight held (run more key step s) → Going look more weight held key step whole s 0 noSizes 0 0 low
     unfolding run
     going-start e = record {
       seen = [];
@@ -86,10 +80,10 @@ module _ {X : Type 0} (weight : X → Sizes) (held : X → Bool) (key : X → �
       to = omega arith;
     }
 
-    module _ (p : ℕ) (a : Sizes) (m : Bool) (top low : ℕ) (g : Going look more weight held key step whole s p a m top low) where
+    module _ (p : ℕ) (a : Sizes) (m top low : ℕ) (g : Going look more weight held key step whole s p a m top low) where
       ended : skip more key step (g .seen) 0 (drop p s) ≡ ok (got [] 0) → Good a m ≡ whole
-      unfolding total any
-      ended e = sym (g .rest ∙ rw e (ap (λ b. Good b (m || false)) (plus-none a) ∙ ap (Good a) (or-none m)))
+      unfolding total bits
+      ended e = sym (g .rest ∙ rw e (ap (λ b. Good b (bitOr m 0)) (plus-none a) ∙ ap (Good a) (or-zero-r m)))
 
       -- the walk's end, at the end of the bytes or where no more of its kind stands
       pub going-done : length s ≤ p → Good a m ≡ whole
@@ -118,14 +112,14 @@ module _ {X : Type 0} (weight : X → Sizes) (held : X → Bool) (key : X → �
 
           pub going-more : (r : Got X) (top′ low′ : ℕ) → step (g .seen) (drop p s) ≡ ok r → 0 < r .used → p + r .used ≤ length s
               → Past look s (p + r .used) top′ low′ (key (r .val) ∷ g .seen) → Few (weight (r .val)) (r .used)
-              → Going look more weight held key step whole s (p + r .used) (plusSizes a (weight (r .val))) (m || held (r .val)) top′ low′
+              → Going look more weight held key step whole s (p + r .used) (plusSizes a (weight (r .val))) (bitOr m (held (r .val))) top′ low′
           going-more r top′ low′ e u l q w = record {
             seen = key (r .val) ∷ g .seen;
             past = q;
             rest = g .rest
                 ∙ ap (resume weight held a m p) (skip-step more key step (λ _. []) (g .seen) (drop p s) r left n e u)
                 ∙ resume-more a m p (r .used) (r .val) _
-                ∙ ap (λ t. resume weight held (plusSizes a (weight (r .val))) (m || held (r .val)) (p + r .used) (skip more key step (key (r .val) ∷ g .seen) 0 t)) (drop-drop (r .used) p s);
+                ∙ ap (λ t. resume weight held (plusSizes a (weight (r .val))) (bitOr m (held (r .val))) (p + r .used) (skip more key step (key (r .val) ∷ g .seen) 0 t)) (drop-drop (r .used) p s);
             few = few-plus a (weight (r .val)) p (r .used) (g .few) w;
             to = l;
           }

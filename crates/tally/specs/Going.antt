@@ -7,6 +7,7 @@ use mathlib.Core.List.{List}
 use mathlib.Core.Logic.{_⊎_}
 use lib.ListN.{length, drop}
 use lib.Dec.{eqb}
+use lib.Bits.{bitOr}
 use Rattle.format.specs.Answer.{Ans, ok, refused, Got}
 use Rattle.format.specs.Packet.{tagOfEntry, idOfPack}
 use Rattle.format.specs.Read.{item, onePack}
@@ -19,15 +20,15 @@ use Rattle.tally.specs.declared.Sizes.{Sizes}
 use Rattle.tally.specs.declared.Walked.{Walked}
 use Rattle.tally.specs.declared.stages.Stage.{Stage}
 use Rattle.tally.specs.declared.Walked.the-variants.{Good, Bad}
-use Rattle.tally.specs.Meet.{pieceOf, plusSizes, total, any, weightOfEntry, weightOfPack, askedTag, stepAt, levelWalk, seriesWalk, Few}
+use Rattle.tally.specs.Meet.{pieceOf, plusSizes, total, bits, weightOfEntry, weightOfPack, bitOf, stepAt, levelWalk, seriesWalk, Few}
 
 -- what was walked so far, and the rest from p
-abbrev pub resume : {X : Type 0} → (X → Sizes) → (X → Bool) → Sizes → Bool → ℕ → Ans (Got (List X)) → Walked
-resume weight held a m p (ok rs) = Good (plusSizes a (total weight (rs .val))) (m || any held (rs .val))
+abbrev pub resume : {X : Type 0} → (X → Sizes) → (X → ℕ) → Sizes → ℕ → ℕ → Ans (Got (List X)) → Walked
+resume weight held a m p (ok rs) = Good (plusSizes a (total weight (rs .val))) (bitOr m (bits held (rs .val)))
 resume weight held a m p (refused n q) = Bad n (p + q)
 
-pub record Going {X : Type 0} (look : List ℕ → Got ℕ) (more : List ℕ → Bool) (weight : X → Sizes) (held : X → Bool) (key : X → ℕ) (step : Step X) (whole : Walked) (s : List ℕ) (p : ℕ)
-    (a : Sizes) (m : Bool) (top low : ℕ) : Type 0 where
+pub record Going {X : Type 0} (look : List ℕ → Got ℕ) (more : List ℕ → Bool) (weight : X → Sizes) (held : X → ℕ) (key : X → ℕ) (step : Step X) (whole : Walked) (s : List ℕ) (p : ℕ)
+    (a : Sizes) (m top low : ℕ) : Type 0 where
   pub seen : List ℕ
   pub past : Past look s p top low seen
   pub rest : whole ≡ resume weight held a m p (skip more key step seen 0 (drop p s))
@@ -35,13 +36,13 @@ pub record Going {X : Type 0} (look : List ℕ → Got ℕ) (more : List ℕ →
   pub to : p ≤ length s
 
 -- the item walk of a level
-abbrev pub LevelGoing : Bool → Form → List ℕ → ℕ → Sizes → Bool → ℕ → ℕ → Type 0
+abbrev pub LevelGoing : Bool → Form → List ℕ → ℕ → Sizes → ℕ → ℕ → ℕ → Type 0
 LevelGoing b f s p a m top low =
-    Going (peek false false b) always (weightOfEntry (levelOf b)) (λ e. eqb (tagOfEntry e) (askedTag (levelOf b))) tagOfEntry (stepAt (levelOf b) f) (levelWalk (levelOf b) f s) s p a m top low
+    Going (peek false false b) always (weightOfEntry (levelOf b)) (λ e. bitOf (tagOfEntry e)) tagOfEntry (stepAt (levelOf b) f) (levelWalk (levelOf b) f s) s p a m top low
 
 -- the pack walk of a series
 abbrev pub SeriesGoing : Form → List ℕ → ℕ → Sizes → ℕ → ℕ → Type 0
-SeriesGoing f s p a top low = Going (peek false true false) always weightOfPack (λ p. false) idOfPack (onePack f) (seriesWalk f s) s p a false top low
+SeriesGoing f s p a top low = Going (peek false true false) always weightOfPack (λ p. 0) idOfPack (onePack f) (seriesWalk f s) s p a 0 top low
 
 -- the two, come to this stage
 abbrev pub LevelTo : Bool → Form → List ℕ → Stage → Type 0
@@ -51,7 +52,7 @@ abbrev pub SeriesTo : Form → List ℕ → Stage → Type 0
 SeriesTo f s q = SeriesGoing f s (q .at) (q .sizes) (q .top) (q .low)
 
 -- where a walk goes on, and what was walked till there
-abbrev pub stageAt : ℕ → Sizes → Bool → ℕ → ℕ → Stage
+abbrev pub stageAt : ℕ → Sizes → ℕ → ℕ → ℕ → Stage
 stageAt p a m top low = record { at = p; sizes = a; held = m; top = top; low = low }
 
 -- a tag may stand at p, if that is where the level begins

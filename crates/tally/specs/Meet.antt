@@ -1,12 +1,13 @@
 -- Where the code that checks a packet meets document 01: what its answers mean.
-use Prim.Native.Nat.{ℕ, _+_, _-_, _*_, _≤_, _<_}
+use Prim.Native.Nat.{ℕ, _+_, _-_, _*_, _/_, _%_, _^_, _≤_, _<_}
 use mathlib.Core.Bool.{Bool, true, false, not, _&&_, _||_}
 use mathlib.Core.List.{List, [], _∷_}
 use lib.ListN.{length}
-use lib.Dec.{eqb}
+use lib.Dec.{ltb, eqb}
+use lib.Bits.{bitOr}
 use Rattle.format.specs.Coding.{lenWidth, oidBytes}
 use Rattle.format.specs.Answer.{Ans, ok, refused, Got, got, _>>=_}
-use Rattle.format.specs.Table.{Form, Level, set, pack, isSet, isAlone, ruleOf, short}
+use Rattle.format.specs.Table.{Form, Level, set, pack, isSet, isAlone, ruleOf, alike, short}
 use Rattle.format.specs.Packet.{Item, Pack, Entry, plain, series, idOfPack, tagOfEntry}
 use Rattle.format.specs.Run.{Step, run, always}
 use Rattle.format.specs.Read.{item, onePack, deepen}
@@ -59,9 +60,10 @@ unfoldable pub total : {X : Type 0} → (X → Sizes) → List X → Sizes
 total weight [] = noSizes
 total weight (x ∷ xs) = plusSizes (weight x) (total weight xs)
 
-unfoldable pub any : {X : Type 0} → (X → Bool) → List X → Bool
-any held [] = false
-any held (x ∷ xs) = held x || any held xs
+-- the bits of all
+unfoldable pub bits : {X : Type 0} → (X → ℕ) → List X → ℕ
+bits held [] = 0
+bits held (x ∷ xs) = bitOr (held x) (bits held xs)
 
 -- of what a sheet says
 abbrev pub weightOfVal : Level → Val → Sizes
@@ -95,24 +97,33 @@ deepenAt pack f i = ok (got (plain (i .val)) (i .used))
 unfoldable pub stepAt : Level → Form → Step Entry
 stepAt l f seen s = item l f seen s >>= λ i. deepenAt l f i
 
--- the tag that is asked for at a level's end: the set's checksum, a pack's location
-abbrev pub askedTag : Level → ℕ
-askedTag set = 1
-askedTag pack = 17
+-- the bit of a tag: one that a level's end asks for is below 64
+unfoldable pub bitOf : ℕ → ℕ
+bitOf tag = elim (ltb tag 64) [ true ↦ 2 ^ tag | false ↦ 0 ]
 
--- with what a pack or a target is refused at its end, 0 if it is not: one that stands alone must hold that tag
-unfoldable pub endedBy : Form → Bool → ℕ
-endedBy f held = elim (not (isAlone f) || held) [ true ↦ 0 | false ↦ 14 ]
+-- whether the bit of a tag is among those held
+unfoldable pub isHeld : ℕ → ℕ → Bool
+isHeld tag held = eqb (held / 2 ^ tag % 2) 1
 
-abbrev pub walkedOf : {X : Type 0} → (X → Sizes) → (X → Bool) → Ans (Got (List X)) → Walked
-walkedOf weight held (ok rs) = Good (total weight (rs .val)) (any held (rs .val))
+-- the first of a pack's or a target's two rules that is not met, 0 if both are
+abbrev pub unmet : Bool → Bool → ℕ
+unmet false located = 20
+unmet true false = 14
+unmet true true = 0
+
+-- with what one that holds these is refused at its end
+unfoldable pub endedBy : Form → ℕ → ℕ
+endedBy f held = unmet (alike (isHeld 19 held) (isHeld 20 held)) (not (isAlone f) || isHeld 17 held)
+
+abbrev pub walkedOf : {X : Type 0} → (X → Sizes) → (X → ℕ) → Ans (Got (List X)) → Walked
+walkedOf weight held (ok rs) = Good (total weight (rs .val)) (bits held (rs .val))
 walkedOf weight held (refused n p) = Bad n p
 
 unfoldable pub levelWalk : Level → Form → List ℕ → Walked
-levelWalk l f s = walkedOf (weightOfEntry l) (λ e. eqb (tagOfEntry e) (askedTag l)) (run always tagOfEntry (stepAt l f) s)
+levelWalk l f s = walkedOf (weightOfEntry l) (λ e. bitOf (tagOfEntry e)) (run always tagOfEntry (stepAt l f) s)
 
 unfoldable pub seriesWalk : Form → List ℕ → Walked
-seriesWalk f s = walkedOf weightOfPack (λ p. false) (run always idOfPack (onePack f) s)
+seriesWalk f s = walkedOf weightOfPack (λ p. 0) (run always idOfPack (onePack f) s)
 
 -- a refusal k bytes further on
 abbrev pub laterBy : ℕ → Walked → Walked
@@ -125,7 +136,7 @@ stopAt p (piece.Fault n) = Bad n p
 
 -- a series, given its packs, whose bytes begin at k
 abbrev pub seriesFrom : ℕ → Walked → Walked
-seriesFrom k (Good a m) = Good (seriesSizes a) false
+seriesFrom k (Good a m) = Good (seriesSizes a) 0
 seriesFrom k (Bad n p) = Bad n (k + p)
 
 -- the larger of two keys is above neither, and below whatever both are below

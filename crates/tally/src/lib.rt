@@ -3,8 +3,9 @@ ghost use mathlib.Core.Path.{_≡_};
 ghost use Prim.Native.Nat.{_≤_, _<_};
 ghost use mathlib.Core.Bool.{true, _&&_};
 ghost use lib.Dec.{eqb};
+ghost use Rattle.format.specs.Table.{alike};
 ghost use Rattle.items.specs.Meet.{formOf, levelOf};
-ghost use Rattle.tally.specs.Meet.{itemSizes, stopAt, laterBy, seriesFrom, askedTag, endedBy, Larger, Within};
+ghost use Rattle.tally.specs.Meet.{itemSizes, stopAt, laterBy, seriesFrom, bitOf, isHeld, endedBy, Larger, Within};
 
 // An item that may stand where it does: its tag, where its value begins, its length, and its shortest length; or the refusal's number.
 pub enum Piece {
@@ -27,9 +28,9 @@ pub struct Sizes {
 
 // ---- walks
 
-// What was walked, and whether it holds the tag that is asked for at its end; or the first fault, from the start of what was walked.
+// What was walked, with the bits of the tags that it holds, for the rules at its end; or the first fault, from the start of what was walked.
 pub enum Walked {
-    Good { sizes: Sizes, held: bool },
+    Good { sizes: Sizes, held: u64 },
     Bad { number: u64, place: usize },
 }
 
@@ -94,24 +95,36 @@ pub fn is_series_new(p: usize, top: u64) -> bool
     top < 101
 }
 
-// The tag that is asked for at a level's end: the set's checksum, a pack's location.
-fn asked_tag(set: bool) -> u64
-    ensures { λ r. ⌜ r ≡ askedTag (levelOf set) ⌝ }
+// The bit of a tag. Only tags below 64 have one: every tag that a level's end asks for is among them.
+pub fn bit_of(tag: u64) -> u64
+    ensures { λ r. ⌜ r ≡ bitOf tag ⌝ }
 {
-    if set { 1 } else { 17 }
+    if tag < 64 { 1 << tag } else { 0 }
 }
 
-pub fn is_asked(set: bool, tag: u64) -> bool
-    ensures { λ r. ⌜ r ≡ eqb tag (askedTag (levelOf set)) ⌝ }
+// Whether the bit of a tag is among those held.
+pub fn is_held(tag: u64, held: u64) -> bool
+    requires { ⌜ tag < 64 ⌝ }
+    ensures { λ r. ⌜ r ≡ isHeld tag held ⌝ }
 {
-    tag == asked_tag(set)
+    (held >> tag) % 2 == 1
 }
 
-// With what a pack or a target is refused at its end, 0 if it is not: one that stands alone must hold its location.
-pub fn ended_of(alone: bool, held: bool) -> u64
+// Both, or neither.
+fn alike(a: bool, b: bool) -> bool
+    ensures { λ r. ⌜ r ≡ alike a b ⌝ }
+{
+    if a { b } else { !b }
+}
+
+// With what a pack or a target is refused at its end, 0 if it is not: 19 and 20 stand together, and one that stands alone must hold its location.
+pub fn ended_of(alone: bool, held: u64) -> u64
     ensures { λ r. ⌜ r ≡ endedBy (formOf alone) held ⌝ }
 {
-    if coding::either(!alone, held) {
+    if !alike(is_held(19, held), is_held(20, held)) {
+        return 20;
+    }
+    if coding::either(!alone, is_held(17, held)) {
         return 0;
     }
     14
@@ -120,11 +133,11 @@ pub fn ended_of(alone: bool, held: bool) -> u64
 // An item that is no series.
 pub fn one_item(set: bool, tag: u64, n: usize) -> Walked
     requires { ⌜ (tag ≤ 16383) × (n ≤ 65536) ⌝ }
-    ensures { λ r. ⌜ r ≡ Walked.Good (itemSizes (levelOf set) tag n) (eqb tag (askedTag (levelOf set))) ⌝ }
+    ensures { λ r. ⌜ r ≡ Walked.Good (itemSizes (levelOf set) tag n) (bitOf tag) ⌝ }
 {
     Walked::Good {
         sizes: weights::plain_sizes(set, tag, n),
-        held: is_asked(set, tag),
+        held: bit_of(tag),
     }
 }
 
@@ -136,7 +149,7 @@ pub fn series_of(w: Walked, k: usize) -> Walked
     match w {
         Walked::Good { sizes, held: _ } => Walked::Good {
             sizes: weights::series_sizes(sizes),
-            held: false,
+            held: 0,
         },
         Walked::Bad { number, place } => Walked::Bad {
             number,

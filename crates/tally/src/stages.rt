@@ -8,12 +8,12 @@ use super::Walked;
 pub struct Stage {
     pub at: usize,
     pub sizes: Sizes,
-    pub held: bool,
+    pub held: u64,
     pub top: u64,
     pub low: u64,
 }
 
-pub fn stage_at(at: usize, sizes: Sizes, held: bool, top: u64, low: u64) -> Stage
+pub fn stage_at(at: usize, sizes: Sizes, held: u64, top: u64, low: u64) -> Stage
     ensures { λ r. ⌜ r ≡ stageAt at sizes held top low ⌝ }
 {
     Stage {

@@ -3,7 +3,7 @@ use mathlib.Core.Path.{_≡_, refl, sym, ap, _∙_, subst}
 use Prim.Native.Nat.{ℕ, _+_, _-_, _≤_, _<_}
 use native.Mathlib.Omega.{arith}
 use native.Mathlib.Nat.{add-zero}
-use mathlib.Core.Bool.{Bool, true, false, _&&_, _||_}
+use mathlib.Core.Bool.{Bool, true, false, _&&_}
 use mathlib.Core.List.{List}
 use lib.ListN.{length, take, drop, length-drop}
 use lib.Seq.{drop-drop}
@@ -28,7 +28,7 @@ use Rattle.tally.specs.declared.Sizes.{Sizes}
 use Rattle.tally.specs.declared.stages.Stage.{Stage}
 use Rattle.tally.specs.declared.Walked.{Walked}
 use Rattle.tally.specs.declared.Walked.the-variants.{Good, Bad}
-use Rattle.tally.specs.Meet.{sizes, noSizes, lengthened, itemSizes, seriesSizes, plusSizes, weightOfTarget, askedTag, seriesFrom, stopAt, laterBy, Few, Small, Within}
+use Rattle.tally.specs.Meet.{sizes, noSizes, lengthened, itemSizes, seriesSizes, plusSizes, weightOfTarget, bitOf, seriesFrom, stopAt, laterBy, Few, Small, Within}
 use Rattle.tally.proofs.Walks.{few-more, going-start}
 use Rattle.tally.proofs.Series.{after-not}
 use Rattle.tally.proofs.ItemTurns.{level-is}
@@ -39,15 +39,15 @@ use Rattle.tally_records.proofs.Parts.{part-fault, ValueStood, value-st
 use Rattle.tally.proofs.Maps.{walked-good, walked-bad}
 use Rattle.tally_records.proofs.Runs.{targets-used, slim-targets, slim-series}
 
-pub records-start : (b : Bool) (f : Form) (s : List ℕ) {low : ℕ} → RecordsGoing b f s 0 noSizes false 0 low
+pub records-start : (b : Bool) (f : Form) (s : List ℕ) {low : ℕ} → RecordsGoing b f s 0 noSizes 0 0 low
 unfolding recordsWalk
 records-start b f s = going-start _ _ _ _ _ _ _ s refl
 
 -- ---- what one part says
 
 -- it was read at u, and takes as many bytes as it adds to the sheet
-pub record PartReads (b : Bool) (f : Form) (seen u : List ℕ) (tag : ℕ) (a : Sizes) (m : Bool) : Type 0 where
-  pub reads : Reads (weightAt (levelOf b)) (λ x. eqb (tagOfPart x) (askedTag (levelOf b))) tagOfPart (partStep (levelOf b) f seen u) tag (a .sheet) a m
+pub record PartReads (b : Bool) (f : Form) (seen u : List ℕ) (tag : ℕ) (a : Sizes) (m : ℕ) : Type 0 where
+  pub reads : Reads (weightAt (levelOf b)) (λ x. bitOf (tagOfPart x)) tagOfPart (partStep (levelOf b) f seen u) tag (a .sheet) a m
   pub peeks : peek true false b u ≡ got tag (a .sheet)
   pub some : 0 < a .sheet
   pub room : a .sheet ≤ length u
@@ -55,9 +55,9 @@ pub record PartReads (b : Bool) (f : Form) (seen u : List ℕ) (tag : ℕ) (a : 
 -- w is the code's answer on it
 pub record Told (b : Bool) (f : Form) (seen u : List ℕ) (tag : ℕ) (w : Walked) : Type 0 where
   pub bad : (k q : ℕ) → w ≡ Bad k q → (partStep (levelOf b) f seen u ≡ refused k q) × (q ≤ length u)
-  pub good : (a : Sizes) (m : Bool) → w ≡ Good a m → PartReads b f seen u tag a m
+  pub good : (a : Sizes) (m : ℕ) → w ≡ Good a m → PartReads b f seen u tag a m
 
-told-good : {b : Bool} {f : Form} {seen u : List ℕ} {tag : ℕ} {a : Sizes} {m : Bool} → PartReads b f seen u tag a m → Told b f seen u tag (Good a m)
+told-good : {b : Bool} {f : Form} {seen u : List ℕ} {tag : ℕ} {a : Sizes} {m : ℕ} → PartReads b f seen u tag a m → Told b f seen u tag (Good a m)
 told-good {b} {f} {seen} {u} {tag} {a} {m} r = record {
   bad = λ n q e. absurd (let y : _≡_ {A = ℕ} 0 1 = cc in omega arith);
   good = λ c n e. let ea : a ≡ c = cc in let em : m ≡ n = cc in subst (λ x. PartReads b f seen u tag x n) ea (subst (PartReads b f seen u tag a) em r);
@@ -74,17 +74,17 @@ pub item-is : (l : Level) (tag n : ℕ) → isSet l && eqb tag 1 ≡ false → i
 unfolding itemSizes
 item-is l tag n z = rw (z, itemSizes)
 
-told-item : (b : Bool) (f : Form) (seen u : List ℕ) (tag size : ℕ) → ValueStood b f seen u tag size → Told b f seen u tag (Good (itemSizes (levelOf b) tag size) (eqb tag (askedTag (levelOf b))))
+told-item : (b : Bool) (f : Form) (seen u : List ℕ) (tag size : ℕ) → ValueStood b f seen u tag size → Told b f seen u tag (Good (itemSizes (levelOf b) tag size) (bitOf tag))
 told-item b f seen u tag size k =
     let e = item-is (levelOf b) tag size (rw (level-is b) (k .no-seal)) in
-    subst (λ a. Told b f seen u tag (Good a (eqb tag (askedTag (levelOf b))))) (sym e)
+    subst (λ a. Told b f seen u tag (Good a (bitOf tag))) (sym e)
     (told-good (record {
       reads = record {
         it = one (k .it);
         reads = k .step;
         key-is = k .tag-is;
         weighs = ap (λ t. itemSizes (levelOf b) t (length (k .it .value))) (k .tag-is) ∙ ap (itemSizes (levelOf b) tag) (k .size-is) ∙ e;
-        holds = ap (λ t. eqb t (askedTag (levelOf b))) (k .tag-is);
+        holds = ap bitOf (k .tag-is);
         few = record { sheet = omega arith; rows = omega arith; normal = omega (arith, oid-most tag, len-most size); inner = omega arith };
       };
       peeks = k .peeks;
@@ -94,12 +94,12 @@ told-item b f seen u tag size k =
 
 -- the series, by the answer on its targets
 told-series : (f : Form) (seen u : List ℕ) → SeriesStood f seen u → Bytes u → (x : Walked) → x ≡ targetsWalk f (drop 2 u) → Within x (length (drop 2 u)) → Told true f seen u 101 (seriesFrom 2 x)
-unfolding targetsWalk peek
+unfolding targetsWalk peek bitOf
 told-series f seen u k b (Bad n q) e h =
-    let r = walked-bad weightOfTarget (λ t. false) (run (is TG) idOfTarget (targetAt f) (drop 2 u)) n q e in
+    let r = walked-bad weightOfTarget (λ t. 0) (run (is TG) idOfTarget (targetAt f) (drop 2 u)) n q e in
     told-bad (k .step ∙ k .rest ∙ bind-not _ _ n (2 + q) (after-not 2 _ n q r)) (omega (arith, h, length-drop 2 u, is-room _ u (k .mark)))
 told-series f seen u k b (Good a c) e h =
-    let w = walked-good weightOfTarget (λ t. false) (run (is TG) idOfTarget (targetAt f) (drop 2 u)) a c e in
+    let w = walked-good weightOfTarget (λ t. 0) (run (is TG) idOfTarget (targetAt f) (drop 2 u)) a c e in
     let (used, within) = targets-used f (drop 2 u) (w .rs) (bytes-drop 2 u b) (w .ran) in
     let took : w .rs .used ≡ a .sheet = used ∙ ap (λ (z : Sizes). z .sheet) (w .weighs) in
     let at = k .rest ∙ bind-so _ _ (w .rs) (after-ok 2 _ (w .rs) (w .ran)) ∙ ap (λ n. ok (got (targets (w .rs .val)) (2 + n))) took in
@@ -163,7 +163,7 @@ module _ {b : Bool} {f : Form} {s : List ℕ} {q : Stage} {tag from size small :
       pub item-small : (tag ≤ 16383) × (size ≤ 65536)
       item-small = (item-stood .tag-small, omega (arith, item-stood .room, length-drop (q .at) s, i .most))
 
-      pub item-told : {w : Walked} → w ≡ Good (itemSizes (levelOf b) tag size) (eqb tag (askedTag (levelOf b))) → PartTold w
+      pub item-told : {w : Walked} → w ≡ Good (itemSizes (levelOf b) tag size) (bitOf tag) → PartTold w
       item-told ew = subst PartTold (sym ew) (told-item b f (i .going .seen) here tag size item-stood)
 
     module _ (tx : x ≡ true) where
@@ -199,7 +199,7 @@ module _ {b : Bool} {f : Form} {s : List ℕ} {q : Stage} {tag from size small :
     pub bad-within : {n j : ℕ} → w ≡ Bad n j → Within w 65536 × (q .at ≤ 65536)
     bad-within {n = n} {j = j} t = (within-of 65536 t (omega (arith, k .bad n j t .1, length-drop (q .at) s, i .most)), omega (arith, i .here, i .most))
 
-    module _ {z : Sizes} {m : Bool} (t : w ≡ Good z m) where
+    module _ {z : Sizes} {m : ℕ} (t : w ≡ Good z m) where
       read : PartReads b f (i .going .seen) here tag z m
       read = k .good z m t
 

@@ -2,13 +2,12 @@
 use mathlib.Core.Path.{_≡_, refl, sym, ap, _∙_}
 use Prim.Native.Nat.{ℕ, _+_, _-_, _≤_}
 use native.Mathlib.Omega.{arith}
-use mathlib.Core.Bool.{Bool, _||_}
+use mathlib.Core.Bool.{Bool}
 use mathlib.Core.List.{List, [], _∷_, map}
 use lib.ListN.{length, length-append}
-use lib.Dec.{eqb}
 use Rattle.format.specs.Answer.{ok, refused, Got}
 use Rattle.format.specs.Coding.{Bytes, oidBytes}
-use Rattle.format.specs.Lists.{has, flatAll}
+use Rattle.format.specs.Lists.{flatAll}
 use Rattle.format.specs.Table.{Form, pack}
 use Rattle.format.specs.Run.{Step, run}
 use Rattle.format.specs.Sheet.{Val, Target, one, tagOfVal, idOfTarget, tagOfPart, TG, TI, is, valBytes, targetBytes, valueAt, targetAt}
@@ -18,7 +17,8 @@ use Rattle.format.proofs.sheets.Targets.{target-faithful}
 use Rattle.coding.proofs.Counts.{len-most, oid-most}
 use Rattle.tally.specs.declared.Sizes.{Sizes}
 use Rattle.tally.specs.declared.Walked.the-variants.{Good, Bad}
-use Rattle.tally.specs.Meet.{itemSizes, packSizes, seriesSizes, total, any, weightOfVal, weightOfTarget, Few}
+use Rattle.tally.specs.Meet.{itemSizes, packSizes, seriesSizes, total, bits, bitOf, weightOfVal, weightOfTarget, Few}
+use Rattle.tally.proofs.Bits.{bits-map}
 use Rattle.tally.proofs.Maps.{mapped, run-map, mapped-good, mapped-bad, walked-good, walked-bad}
 use Rattle.tally.proofs.Walks.{few-plus}
 use Rattle.tally.proofs.Maps.{total-map}
@@ -31,33 +31,31 @@ pub vals-run : (f : Form) (s : List ℕ) → run (moreAt pack) tagOfPart (partSt
 unfolding partStep
 vals-run f s = run-map one (is TI) tagOfVal tagOfPart (valueAt pack f) (partStep pack f) (λ v. refl) (λ seen t. refl) s
 
-any-one : (vs : List Val) → any (λ p. eqb (tagOfPart p) 17) (map one vs) ≡ has 17 (map tagOfVal vs)
-unfolding any has
-any-one [] = refl
-any-one (v ∷ vs) = ap (λ b. eqb (v .tag) 17 || b) (any-one vs)
+bits-one : (vs : List Val) → bits (λ p. bitOf (tagOfPart p)) (map one vs) ≡ bits bitOf (map tagOfVal vs)
+bits-one vs = sym (bits-map one (λ p. bitOf (tagOfPart p)) vs) ∙ bits-map tagOfVal bitOf vs
 
 -- what a walk of a target's values says of their run
-pub record ValsRun (f : Form) (s : List ℕ) (a : Sizes) (m : Bool) : Type 0 where
+pub record ValsRun (f : Form) (s : List ℕ) (a : Sizes) (m : ℕ) : Type 0 where
   pub vs : Got (List Val)
   pub ran : run (is TI) tagOfVal (valueAt pack f) s ≡ ok vs
   pub weighs : total (weightOfVal pack) (vs .val) ≡ a
-  pub holds : has 17 (map tagOfVal (vs .val)) ≡ m
+  pub holds : bits bitOf (map tagOfVal (vs .val)) ≡ m
 
-pub vals-good : (f : Form) (s : List ℕ) (a : Sizes) (m : Bool) → Good a m ≡ recordsWalk pack f s → ValsRun f s a m
+pub vals-good : (f : Form) (s : List ℕ) (a : Sizes) (m : ℕ) → Good a m ≡ recordsWalk pack f s → ValsRun f s a m
 unfolding recordsWalk
 vals-good f s a m e =
-    let w = walked-good (weightAt pack) (λ p. eqb (tagOfPart p) 17) (run (moreAt pack) tagOfPart (partStep pack f) s) a m e in
+    let w = walked-good (weightAt pack) (λ p. bitOf (tagOfPart p)) (run (moreAt pack) tagOfPart (partStep pack f) s) a m e in
     let (vs, r, q) = mapped-good one (run (is TI) tagOfVal (valueAt pack f) s) (w .rs) (sym (vals-run f s) ∙ w .ran) in
     record {
       vs = vs;
       ran = r;
       weighs = total-map one (weightOfVal pack) (weightAt pack) (λ v. refl) (vs .val) ∙ ap (total (weightAt pack)) q ∙ w .weighs;
-      holds = sym (any-one (vs .val)) ∙ ap (any (λ p. eqb (tagOfPart p) 17)) q ∙ w .holds;
+      holds = sym (bits-one (vs .val)) ∙ ap (bits (λ p. bitOf (tagOfPart p))) q ∙ w .holds;
     }
 
 pub vals-bad : (f : Form) (s : List ℕ) (n q : ℕ) → Bad n q ≡ recordsWalk pack f s → run (is TI) tagOfVal (valueAt pack f) s ≡ refused n q
 unfolding recordsWalk
-vals-bad f s n q e = mapped-bad one _ n q (sym (vals-run f s) ∙ walked-bad (weightAt pack) (λ p. eqb (tagOfPart p) 17) (run (moreAt pack) tagOfPart (partStep pack f) s) n q e)
+vals-bad f s n q e = mapped-bad one _ n q (sym (vals-run f s) ∙ walked-bad (weightAt pack) (λ p. bitOf (tagOfPart p)) (run (moreAt pack) tagOfPart (partStep pack f) s) n q e)
 
 -- ---- what a run took: its bytes in the sheet
 

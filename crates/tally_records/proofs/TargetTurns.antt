@@ -3,7 +3,7 @@ use mathlib.Core.Path.{_≡_, refl, sym, ap, _∙_, subst}
 use Prim.Native.Nat.{ℕ, _+_, _-_, _^_, _≤_, _<_}
 use native.Mathlib.Omega.{arith}
 use native.Mathlib.Nat.{add-zero, add-assoc}
-use mathlib.Core.Bool.{Bool, true, false, not, _||_}
+use mathlib.Core.Bool.{Bool, true, false}
 use mathlib.Core.List.{List, map}
 use lib.ListN.{length, take, drop, length-drop}
 use lib.Seq.{drop-drop}
@@ -11,15 +11,14 @@ use lib.Dec.{leb}
 use borrow.Author.Tests.{leb-true, leb-false}
 use Rattle.format.specs.Answer.{ok, refused, Got, got}
 use Rattle.format.specs.Coding.{Bytes, oidBytes}
-use Rattle.format.specs.Lists.{has}
-use Rattle.format.specs.Table.{Form, pack, isAlone, ended}
+use Rattle.format.specs.Table.{Form, pack, ended}
 use Rattle.format.specs.Run.{Step, run}
 use Rattle.format.specs.Sheet.{Val, tagOfVal, idOfTarget, TG, TI, is, valueAt, targetAt}
 use Rattle.format.proofs.words.Answers.{after-ok}
 use Rattle.format.proofs.words.Bytes.{bytes-drop}
 use Rattle.format.proofs.sheets.Values.{mark-says}
 use Rattle.coding.proofs.Rooms.{tail-part}
-use Rattle.items.proofs.Tests.{bind-so, bind-not, need-so, need-not}
+use Rattle.items.proofs.Tests.{bind-so, bind-not}
 use Rattle.heads.specs.Meet.{peek, Past}
 use Rattle.heads.proofs.SheetRuns.{target-peek}
 use Rattle.tally.specs.declared.Piece.{Piece}
@@ -28,28 +27,29 @@ use Rattle.tally.specs.declared.Sizes.{Sizes}
 use Rattle.tally.specs.declared.stages.Stage.{Stage}
 use Rattle.tally.specs.declared.Walked.{Walked}
 use Rattle.tally.specs.declared.Walked.the-variants.{Good, Bad}
-use Rattle.tally.specs.Meet.{noSizes, packSizes, plusSizes, total, weightOfVal, weightOfTarget, stopAt, laterBy, Few, Small, Within}
+use Rattle.tally.specs.Meet.{endedBy, noSizes, packSizes, plusSizes, total, weightOfVal, weightOfTarget, stopAt, laterBy, Few, Small, Within}
 use Rattle.tally.specs.Going.{Going}
 use Rattle.tally.proofs.Walks.{few-more, going-start}
 use Rattle.tally.proofs.Series.{after-not}
+use Rattle.tally.proofs.Ends.{ended-says}
 use Rattle.tally.proofs.Turns.{Reads, within-more, turn-done, turn-over, turn-bad, turn-more}
 use Rattle.tally_records.specs.Meet.{IsTarget, recordsWalk, targetsWalk}
 use Rattle.tally_records.specs.Going.{TargetsGoing, TargetsFrom, After}
 use Rattle.tally_records.proofs.Parts.{targetEnd, target-fault, TargetStood, target-stood}
 use Rattle.tally_records.proofs.Runs.{ValsRun, vals-good, vals-bad, vals-used, slim-vals, slim-pack}
 
-pub targets-start : (f : Form) (s : List ℕ) → TargetsGoing f s 0 noSizes false 0 18446744073709551615
+pub targets-start : (f : Form) (s : List ℕ) → TargetsGoing f s 0 noSizes 0 0 18446744073709551615
 unfolding targetsWalk
 targets-start f s = going-start _ _ _ _ _ _ _ s refl
 
 -- ---- a target by its values
 
-pub same-good : {a b : Sizes} {m n : Bool} → a ≡ b → m ≡ n → Good a m ≡ Good b n
+pub same-good : {a b : Sizes} {m n : ℕ} → a ≡ b → m ≡ n → Good a m ≡ Good b n
 same-good e g = cc
 
 -- a walk is over where no more of its kind stands, be it at the end of the bytes
-pub records-over : {X : Type 0} {look : List ℕ → Got ℕ} {more : List ℕ → Bool} {weight : X → Sizes} {held : X → Bool} {key : X → ℕ} {step : Step X} {whole : Walked} {s : List ℕ} {p : ℕ} {a : Sizes} {m : Bool}
-    {top low : ℕ} → Going look more weight held key step whole s p a m top low → more (drop p s) ≡ false → (Good a m ≡ whole) × Within (Good a m) (length s)
+pub records-over : {X : Type 0} {look : List ℕ → Got ℕ} {more : List ℕ → Bool} {weight : X → Sizes} {held : X → ℕ} {key : X → ℕ} {step : Step X} {whole : Walked} {s : List ℕ} {p : ℕ} {a : Sizes}
+    {m top low : ℕ} → Going look more weight held key step whole s p a m top low → more (drop p s) ≡ false → (Good a m ≡ whole) × Within (Good a m) (length s)
 records-over {whole = whole} {s = s} {p = p} {a = a} {m = m} g n = go (leb (length s) p) refl
   where
     go : (t : Bool) → leb (length s) p ≡ t → (Good a m ≡ whole) × Within (Good a m) (length s)
@@ -64,13 +64,11 @@ module _ (f : Form) (seen u : List ℕ) (i : ℕ) (k : TargetStood f seen u i) w
     target-ended : targetAt f seen u ≡ targetEnd f i vs
     target-ended = k .rest ∙ bind-so _ (targetEnd f i) vs (after-ok 10 _ vs r)
 
-    pub target-14 : not (isAlone f) || has 17 (map tagOfVal (vs .val)) ≡ false → targetAt f seen u ≡ refused 14 0
-    unfolding ended
-    target-14 z = target-ended ∙ need-not _ _ _ z
+    pub target-refused : {x : ℕ} → ended f (map tagOfVal (vs .val)) ≡ refused x 0 → targetAt f seen u ≡ refused x 0
+    target-refused {x = x} z = target-ended ∙ bind-not _ _ x 0 z
 
-    pub target-good : not (isAlone f) || has 17 (map tagOfVal (vs .val)) ≡ true → targetAt f seen u ≡ ok (got (record { id = i; vals = vs .val }) (10 + vs .used))
-    unfolding ended
-    target-good z = target-ended ∙ need-so _ _ _ z
+    pub target-good : ended f (map tagOfVal (vs .val)) ≡ ok tt → targetAt f seen u ≡ ok (got (record { id = i; vals = vs .val }) (10 + vs .used))
+    target-good z = target-ended ∙ bind-so _ _ tt z
 
 -- ---- the turn
 
@@ -129,7 +127,7 @@ module _ {f : Form} {s : List ℕ} {q : Stage} {id from size small : ℕ} (i : T
         turn-bad (i .going) (i .here) (i .more) n (10 + j) (e ∙ ap (laterBy (q .at + 10)) t ∙ ap (Bad n) (add-assoc (q .at) 10 j))
         (target-inside f (i .going .seen) here id stood n j (vals-bad f _ n j x)) (omega (arith, l, lent-long))
 
-    module _ {z : Sizes} {m : Bool} (ty : y ≡ Good z m) where
+    module _ {z : Sizes} {m : ℕ} (ty : y ≡ Good z m) where
       ran : ValsRun f (drop 10 here) z m
       ran = vals-good f _ z m (rw lent-is at (sym ty ∙ ey .0))
 
@@ -148,22 +146,22 @@ module _ {f : Form} {s : List ℕ} {q : Stage} {id from size small : ℕ} (i : T
       pub vals-small : Small z
       vals-small = few-more z (z .sheet) 65536 (omega (arith, next-room, i .most)) slim
 
-      -- v: no location is wanted, or there is one
-      module _ {v : Bool} (ev : v ≡ (not (isAlone f) || m)) where
-        pub no-location : {r : Walked} → v ≡ false → r ≡ Bad 14 (q .at) → (r ≡ targetsWalk f s) × Within r (length s)
-        no-location tv e =
-            turn-bad (i .going) (i .here) (i .more) 14 0 (e ∙ ap (Bad 14) (sym (add-zero (q .at))))
-            (target-14 f (i .going .seen) here id stood (ran .vs) (ran .ran) (rw (ran .holds) (sym ev ∙ tv))) (omega arith)
+      -- number: with what it is refused at its end, if not 0
+      module _ {number : ℕ} (says : number ≡ endedBy f m) where
+        pub not-ended : {r : Walked} → (number ≡ 0 → ⊥) → r ≡ Bad number (q .at) → (r ≡ targetsWalk f s) × Within r (length s)
+        not-ended tx e =
+            turn-bad (i .going) (i .here) (i .more) number 0 (e ∙ ap (Bad number) (sym (add-zero (q .at))))
+            (target-refused f (i .going .seen) here id stood (ran .vs) (ran .ran) (ended-says f _ says (ran .holds) .1 tx)) (omega arith)
 
         -- the target, and what a look at it reads
-        it-reads : v ≡ true → targetAt f (i .going .seen) here ≡ ok (got (record { id = id; vals = ran .vs .val }) (10 + z .sheet))
-        it-reads tv =
-            target-good f (i .going .seen) here id stood (ran .vs) (ran .ran) (rw (ran .holds) (sym ev ∙ tv))
+        it-reads : number ≡ 0 → targetAt f (i .going .seen) here ≡ ok (got (record { id = id; vals = ran .vs .val }) (10 + z .sheet))
+        it-reads tx =
+            target-good f (i .going .seen) here id stood (ran .vs) (ran .ran) (ended-says f _ says (ran .holds) .0 tx)
             ∙ ap (λ n. ok (got (record { id = id; vals = ran .vs .val }) (10 + n))) took
 
-        pub target-looks : v ≡ true → peek true true false here ≡ got id (10 + z .sheet)
+        pub target-looks : number ≡ 0 → peek true true false here ≡ got id (10 + z .sheet)
         unfolding peek
-        target-looks tv = target-peek f false (i .going .seen) here _ (it-reads tv)
+        target-looks tx = target-peek f false (i .going .seen) here _ (it-reads tx)
 
       -- w is how many bytes its id takes in a packet, a its sizes
       module _ {w : ℕ} (ew : (w ≡ length (oidBytes id)) × (w ≤ 9)) {a : Sizes} (ea : a ≡ packSizes w z) where
@@ -175,18 +173,18 @@ module _ {f : Form} {s : List ℕ} {q : Stage} {id from size small : ℕ} (i : T
           rw ea (omega (arith, next-room, i .most)),
         )
 
-        pub target-less : {r : Stage} → After q id a false r → length s - r .at < length s - q .at
+        pub target-less : {r : Stage} → After q id a 0 r → length s - r .at < length s - q .at
         target-less h = omega (arith, h .at-is, ap (λ (x : Sizes). x .sheet) ea, next-room)
 
-        pub target-more : {v : Bool} → v ≡ (not (isAlone f) || m) → v ≡ true → {r : Stage} → After q id a false r → TargetsFrom f s r
-        target-more ev tv h =
-            let read : Reads weightOfTarget (λ t. false) idOfTarget (targetAt f (i .going .seen) here) id (10 + z .sheet) (packSizes w z) false = record {
+        pub target-more : {number : ℕ} → number ≡ endedBy f m → number ≡ 0 → {r : Stage} → After q id a 0 r → TargetsFrom f s r
+        target-more says tx h =
+            let read : Reads weightOfTarget (λ t. 0) idOfTarget (targetAt f (i .going .seen) here) id (10 + z .sheet) (packSizes w z) 0 = record {
               it = record { id = id; vals = ran .vs .val };
-              reads = it-reads ev tv;
+              reads = it-reads says tx;
               key-is = refl;
               weighs = ap (λ n. packSizes n (total (weightOfVal pack) (ran .vs .val))) (sym (ew .0)) ∙ ap (packSizes w) (ran .weighs);
               holds = refl;
               few = slim-pack w z (ew .1) slim;
             } in
             let at = h .at-is ∙ ap (λ (x : Sizes). q .at + x .sheet) ea in
-            rw at (turn-more (i .going) (i .here) (i .more) read (target-looks ev tv) (omega arith) (q .at + (10 + z .sheet)) refl (omega (arith, next-room)) (h .sizes-are ∙ ap (plusSizes (q .sizes)) ea) (h .held-is) (h .over) (h .under))
+            rw at (turn-more (i .going) (i .here) (i .more) read (target-looks says tx) (omega arith) (q .at + (10 + z .sheet)) refl (omega (arith, next-room)) (h .sizes-are ∙ ap (plusSizes (q .sizes)) ea) (h .held-is) (h .over) (h .under))

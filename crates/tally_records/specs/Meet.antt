@@ -4,7 +4,7 @@ use Prim.Native.Nat.{ℕ, _^_}
 use mathlib.Core.Bool.{Bool, true, false, not}
 use mathlib.Core.List.{List}
 use lib.ListN.{length, take, drop}
-use lib.Dec.{leb, ltb, eqb}
+use lib.Dec.{leb, ltb}
 use Rattle.format.specs.Answer.{Ans, ok, refused, Got, got, _>>=_, need}
 use Rattle.format.specs.Coding.{bytesNumber}
 use Rattle.format.specs.Lists.{has}
@@ -17,7 +17,7 @@ use Rattle.tally.specs.declared.Piece.{Piece}
 use Rattle.tally.specs.declared.Piece.the-variants as piece
 use Rattle.tally.specs.declared.Sizes.{Sizes}
 use Rattle.tally.specs.declared.Walked.{Walked}
-use Rattle.tally.specs.Meet.{seriesSizes, total, weightOfVal, weightOfTarget, walkedOf, askedTag}
+use Rattle.tally.specs.Meet.{seriesSizes, total, weightOfVal, weightOfTarget, walkedOf, bitOf}
 
 -- ---- one record: what was read, or the refusal's number
 
@@ -93,7 +93,7 @@ weightAt l (one v) = weightOfVal l v
 weightAt l (targets ts) = seriesSizes (total weightOfTarget ts)
 
 unfoldable pub recordsWalk : Level → Form → List ℕ → Walked
-recordsWalk l f s = walkedOf (weightAt l) (λ p. eqb (tagOfPart p) (askedTag l)) (run (moreAt l) tagOfPart (partStep l f) s)
+recordsWalk l f s = walkedOf (weightAt l) (λ p. bitOf (tagOfPart p)) (run (moreAt l) tagOfPart (partStep l f) s)
 
 unfoldable pub targetsWalk : Form → List ℕ → Walked
-targetsWalk f s = walkedOf weightOfTarget (λ t. false) (run (is TG) idOfTarget (targetAt f) s)
+targetsWalk f s = walkedOf weightOfTarget (λ t. 0) (run (is TG) idOfTarget (targetAt f) s)

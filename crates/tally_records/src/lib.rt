@@ -22,17 +22,16 @@ pub fn goes_on(s: &[u8], p: usize, set: bool) -> bool
 }
 
 // Where a walk goes on after one more with this tag or id, of these sizes: it takes as many bytes as it adds to the sheet.
-pub fn after(q: Stage, key: u64, sizes: Sizes, held: bool) -> Stage
+pub fn after(q: Stage, key: u64, sizes: Sizes, held: u64) -> Stage
     requires { ⌜ Small (q .sizes) × Small sizes × (q .at + sizes .sheet ≤ 65536) ⌝ }
     ensures { λ r. ⌜ After q key sizes held r × Larger (q .top) key (r .top) ⌝ }
 {
     let next = q.at + sizes.sheet;
     let sum = tally::weights::plus(q.sizes, sizes);
-    let any = coding::either(q.held, held);
     tally::stages::stage_at(
         next,
         sum,
-        any,
+        q.held | held,
         tally::larger(q.top, key),
         tally::smaller(q.low, key),
     )

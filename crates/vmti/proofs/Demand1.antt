@@ -1,5 +1,5 @@
 -- Demand 1 of the calls, from their contracts and the numbers and places of the definitions.
-use mathlib.Core.List.{List}
+use mathlib.Core.List.{List, []}
 use lib.ListN.{length}
 use Rattle.format.specs.Table.{embedded}
 use Rattle.format.specs.Calls.{read, write, normalise}

@@ -1,6 +1,6 @@
 -- Demand 2 of the calls, from their contracts and that demand of the definitions.
 use mathlib.Core.Path.{_≡_, refl, sym, ap, _∙_}
-use mathlib.Core.List.{List}
+use mathlib.Core.List.{List, []}
 use Prim.Native.Nat.{ℕ, _≤_}
 use lib.ListN.{length}
 use borrow.Author.Tests.{le-leb}
@@ -12,7 +12,7 @@ use Rattle.format.specs.Read.{parse, limit}
 use Rattle.format.specs.Room.{leaves}
 use Rattle.format.specs.Sheet.{Sheet, content, sheetBytes, unsheet}
 use Rattle.format.specs.Calls.{packetOf, packed, read, write, normalise}
-use Rattle.format.specs.Edit.{theSet, remove}
+use Rattle.format.specs.Edit.{theSet}
 use Rattle.format.specs.Valid.{Lies}
 use Rattle.format.proofs.words.Answers.{ok-inj, bind-then}
 use Rattle.format.proofs.reading.Packets.{parse-says, lies-parses}

@@ -15,6 +15,7 @@ use Rattle.format.proofs.demands.Demand1.{numbered}
 use Rattle.format.proofs.demands.Demand3.{demand-3}
 use Rattle.answers.specs.declared.Answer.{Answer}
 use Rattle.answers.specs.Calls.{Edits}
+use Rattle.answers.specs.Given.{written}
 use Rattle.vmti.specs.Demand3.{Editing, Edited, Demand3}
 use Rattle.answers.proofs.Given.{given, refusing, accepted-only, wrote, one-left}
 
@@ -48,6 +49,10 @@ module _ (f : Form) (h : Holder) (cs : Changes) (packet lent : List ℕ) (a : An
         afresh = λ other d after ed zd sd out g then eg.
             let (n, nq, ns) = wrote other after d (length packet) (normalise f packet) (numbered f packet h cs .normalise-answers) ed zd in
             given out then g _ (eg ∙ ap (leaves out) (k .afresh (nq ∙ ap ok (sym ns ∙ sd)) ∙ ap ok (sym s)));
+        in-turn = λ ds apart other d after ed zd out g then eg.
+            let first = written a left in
+            let (n, nq, ns) = wrote other after d (length first) (edit f h ds first) (numbered f first h ds .edit-answers) ed zd in
+            given out then g _ (eg ∙ ap (leaves out) (defined .in-turn ds b n apart q (ap (edit f h ds) (sym s) ∙ nq) ∙ ap ok (sym ns)));
       }
 
 pub demand-3-calls : Demand3

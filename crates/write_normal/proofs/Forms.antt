@@ -2,10 +2,8 @@
 use mathlib.Core.Path.{_≡_, refl, sym, ap, _∙_}
 use Prim.Native.Nat.{ℕ, _+_}
 use native.Mathlib.Omega.{arith}
-use mathlib.Core.Bool.{Bool}
 use mathlib.Core.List.{List, [], _∷_, _++_, append-assoc, map}
 use lib.ListN.{length}
-use lib.Dec.{eqb}
 use Rattle.format.specs.Answer.{Ans, ok, refused, Got}
 use Rattle.format.specs.Coding.{lenWidth, lenBytes, oidBytes}
 use Rattle.format.specs.Lists.{flatAll}
@@ -17,7 +15,7 @@ use Rattle.format.specs.Valid.{All}
 use Rattle.tally.specs.declared.Sizes.{Sizes}
 use Rattle.tally.specs.declared.Walked.{Walked}
 use Rattle.tally.specs.declared.Walked.the-variants.{Good, Bad}
-use Rattle.tally.specs.Meet.{total, any, weightOfVal, weightOfItem, weightOfEntry, walkedOf, levelWalk}
+use Rattle.tally.specs.Meet.{total, bits, bitOf, weightOfVal, weightOfItem, weightOfEntry, walkedOf, levelWalk}
 use Rattle.tally.specs.Runs.{levelRun, madeOf}
 use Rattle.tally.proofs.Maps.{total-map}
 use Rattle.tally.proofs.Totals.{body-normal}
@@ -83,15 +81,15 @@ no-inner n (i ∷ is) = (tt, no-inner n is)
 -- ---- what the item walk says of a pack's items
 
 module _ (f : Form) (s : List ℕ) (is : List Item) {es : Got (List Entry)} (r : levelRun pack f s ≡ ok es) (e : es .val ≡ map plain is) where
-  walk-is : levelWalk pack f s ≡ Good (total (weightOfEntry pack) (map plain is)) (any (λ e. eqb (tagOfEntry e) 17) (map plain is))
+  walk-is : levelWalk pack f s ≡ Good (total (weightOfEntry pack) (map plain is)) (bits (λ e. bitOf (tagOfEntry e)) (map plain is))
   unfolding levelWalk levelRun
-  walk-is = ap (walkedOf (weightOfEntry pack) (λ e. eqb (tagOfEntry e) 17)) r ∙ ap (λ xs. Good (total (weightOfEntry pack) xs) (any (λ e. eqb (tagOfEntry e) 17) xs)) e
+  walk-is = ap (walkedOf (weightOfEntry pack) (λ e. bitOf (tagOfEntry e))) r ∙ ap (λ xs. Good (total (weightOfEntry pack) xs) (bits (λ e. bitOf (tagOfEntry e)) xs)) e
 
-  pub walk-sizes : {w : Walked} → w ≡ levelWalk pack f s → {z : Sizes} {m : Bool} → w ≡ Good z m → total (weightOfItem pack) is ≡ z
+  pub walk-sizes : {w : Walked} → w ≡ levelWalk pack f s → {z : Sizes} {m : ℕ} → w ≡ Good z m → total (weightOfItem pack) is ≡ z
   walk-sizes ew {z = z} {m = m} tw =
-      let q : Good z m ≡ Good (total (weightOfEntry pack) (map plain is)) (any (λ e. eqb (tagOfEntry e) 17) (map plain is)) = sym tw ∙ ew ∙ walk-is in
+      let q : Good z m ≡ Good (total (weightOfEntry pack) (map plain is)) (bits (λ e. bitOf (tagOfEntry e)) (map plain is)) = sym tw ∙ ew ∙ walk-is in
       total-map plain (weightOfItem pack) (weightOfEntry pack) (λ i. refl) is ∙ cc
 
   pub walk-fault : {X : Type 0} {w : Walked} → w ≡ levelWalk pack f s → {n q : ℕ} → w ≡ Bad n q → X
   walk-fault ew {n = n} {q = q} tw =
-      absurd (let z : Bad n q ≡ Good (total (weightOfEntry pack) (map plain is)) (any (λ e. eqb (tagOfEntry e) 17) (map plain is)) = sym tw ∙ ew ∙ walk-is in let c : _≡_ {A = ℕ} 0 1 = cc in omega arith)
+      absurd (let z : Bad n q ≡ Good (total (weightOfEntry pack) (map plain is)) (bits (λ e. bitOf (tagOfEntry e)) (map plain is)) = sym tw ∙ ew ∙ walk-is in let c : _≡_ {A = ℕ} 0 1 = cc in omega arith)

@@ -103,7 +103,7 @@ module _ {f : Form} {s out₀ out : List ℕ} {p k key used width size : ℕ} (i
   pub no-fault : {X : Type 0} {n q : ℕ} → y ≡ Bad n q → X
   no-fault t = let w = pack-stands i in walk-fault f (itemsAt i) (w .items) (items-run i) (w .entries-are) (ey .0) t
 
-  module _ {z : Sizes} {held : Bool} (ty : y ≡ Good z held) where
+  module _ {z : Sizes} {held : ℕ} (ty : y ≡ Good z held) where
     pub body-few : used + z .normal ≤ 65536
     body-few = let l : z .normal ≤ 3 * length (itemsAt i) = within-of (length (itemsAt i)) (sym ty) (ey .1) .normal in omega (arith, l, items-long i, pack-room i)
 

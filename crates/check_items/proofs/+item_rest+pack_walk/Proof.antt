@@ -29,7 +29,6 @@ use Rattle.check_items.proofs.+item_rest+pack_walk.Lts-pack_walk as pac
 use Rattle.repeats.proofs.clear.after.Reads as after-reads
 use Rattle.repeats.proofs.is_seen.Reads as is-seen-reads
 use Rattle.heads.proofs.quick_pack_head.Reads as quick-pack-head-reads
-use Rattle.coding.proofs.either.Reads as either-reads
 use Rattle.tally.proofs.ended_of.Reads as ended-of-reads
 use Rattle.tally.proofs.is_series.Reads as is-series-reads
 use Rattle.check_items.proofs.item_at.Reads as item-at-reads
@@ -93,8 +92,6 @@ item-claims t = (
   later-reads.Learnt,
   plus-reads.Asked,
   plus-reads.Learnt,
-  either-reads.Asked,
-  either-reads.Learnt,
   after-reads.Asked,
   after-reads.Learnt,
   larger-reads.Asked,
@@ -281,11 +278,8 @@ module _ (t : ℕ) where
   item-rest-plus-requires : item-rest-lts.Need-plus-requires (item-claims t) (item-rest-at t) item-rest.Post item-rest-Inv-loop item-rest-μ-loop
   item-rest-plus-requires c κs = let j = c .before .before .before in good-small (item-here (entry-item j)) (item-told-at j) (c .before .w .given .1)
 
-  item-rest-either-requires : item-rest-lts.Need-either-requires (item-claims t) (item-rest-at t) item-rest.Post item-rest-Inv-loop item-rest-μ-loop
-  item-rest-either-requires c κs = search needs
-
   item-rest-after-requires : item-rest-lts.Need-after-requires (item-claims t) (item-rest-at t) item-rest.Post item-rest-Inv-loop item-rest-μ-loop
-  item-rest-after-requires c κs = item-turn (entry-item (c .before .before .before .before .before .before)) .loop .inv .1
+  item-rest-after-requires c κs = item-turn (entry-item (c .before .before .before .before .before)) .loop .inv .1
 
   item-rest-larger-requires : item-rest-lts.Need-larger-requires (item-claims t) (item-rest-at t) item-rest.Post item-rest-Inv-loop item-rest-μ-loop
   item-rest-larger-requires c κs = search needs
@@ -295,14 +289,14 @@ module _ (t : ℕ) where
 
   item-rest-loop-less : item-rest-lts.Need-loop-less (item-claims t) (item-rest-at t) item-rest.Post item-rest-Inv-loop item-rest-μ-loop
   item-rest-loop-less c =
-      let a = entry-item (c .before .before .before .before .before .before .before .before .before) in
+      let a = entry-item (c .before .before .before .before .before .before .before .before) in
       omega (arith, piece-stood (item-here a) .some, a .before .before .before .loop-test .taken)
 
   item-rest-loop-again : item-rest-lts.Need-loop-again (item-claims t) (item-rest-at t) item-rest.Post item-rest-Inv-loop item-rest-μ-loop
   item-rest-loop-again c =
-      let w = c .before .before .before .before .before .before .before in
+      let w = c .before .before .before .before .before .before in
       let j = w .before .before in
-      let more = entry-more (item-here (entry-item j)) (item-told-at j) (w .w .given .1) (c .before .before .before .before .before .plus .ensures) (c .before .before .before .before .either .ensures) (c .before .larger .ensures .over) (c .smaller .ensures) in
+      let more = entry-more (item-here (entry-item j)) (item-told-at j) (w .w .given .1) (c .before .before .before .before .plus .ensures) refl (c .before .larger .ensures .over) (c .smaller .ensures) in
       (more, c .before .before .after .ensures)
 
   item-rest-returns-3 : item-rest-lts.Need-returns-3 (item-claims t) (item-rest-at t) item-rest.Post item-rest-Inv-loop item-rest-μ-loop
@@ -538,7 +532,7 @@ pub +item-rest+pack-walk-spec : {M : Type 1} → statement M
     (item-rest-onward-requires t) (item-rest-loop-holds t) (item-rest-item-at-requires t) (item-rest-enum-known-a t) (item-rest-enum-told t) (item-rest-stop-requires t) (item-rest-returns t)
     (item-rest-add-at t) (item-rest-add-next t) (item-rest-is-series-requires t) (item-rest-sub-packs t) (item-rest-part-packs-start t) (item-rest-part-packs-end t)
     (item-rest-packs-requires t) (item-rest-pack-walk-requires t) (item-rest-series-of-requires t) (item-rest-one-item-requires t) (item-rest-enum-known-w t) (item-rest-enum-told-2 t)
-    (item-rest-later-requires t) (item-rest-returns-2 t) (item-rest-plus-requires t) (item-rest-either-requires t) (item-rest-after-requires t) (item-rest-larger-requires t)
+    (item-rest-later-requires t) (item-rest-returns-2 t) (item-rest-plus-requires t) (item-rest-after-requires t) (item-rest-larger-requires t)
     (item-rest-smaller-requires t) (item-rest-loop-less t) (item-rest-loop-again t) (item-rest-returns-3 t))
     (λ t. pack-walk-lts.spec (pack-claims t) (pack-walk-at t) pack-walk.Post pack-walk-Inv-loop pack-walk-μ-loop
     (pack-walk-noted-requires t) (pack-walk-loop-holds t) (pack-walk-sub-quick-pack-head t) (pack-walk-part-quick-pack-head-start t) (pack-walk-part-quick-pack-head-end t)

@@ -1,6 +1,6 @@
 -- `check_records::item_records` and `check_records::target_records` meet their contracts: each turn moves one part or target from what is to come to what was
 -- walked. In either's answers `l` is where the loop stands, and `a` where a record was read, or a target found.
-use mathlib.Core.Path.{_≡_, refl, sym, ap, _∙_}
+use mathlib.Core.Path.{_≡_, refl, sym, _∙_}
 use mathlib.Core.Bool.{Bool, true, false}
 use mathlib.Core.List.{List}
 use mathlib.Core.Logic.{⊎-elim}
@@ -16,17 +16,15 @@ use Rattle.format.specs.Table.{Form, pack}
 use Rattle.items.specs.Meet.{formOf}
 use Rattle.heads.specs.Meet.{peek, Clear}
 use Rattle.repeats.proofs.Clears.{clear-none}
-use Rattle.tally.specs.declared.Walked.the-variants.{Bad, Good}
+use Rattle.tally.specs.declared.Walked.the-variants.{Good}
 use Rattle.tally.specs.Meet.{Within}
 use Rattle.tally.proofs.Turns.{within-more, told-as, turn-done, turn-over}
 use Rattle.tally.proofs.ItemTurns.{depth, series-deep}
-use Rattle.tally.proofs.Ends.{ended-held, ended-unheld}
-use Rattle.tally.proofs.PackTurns.{either-is}
 use Rattle.tally_records.specs.Meet.{recordsWalk}
 use Rattle.tally_records.specs.Going.{RecordsFrom, TargetsFrom}
 use Rattle.tally_records.proofs.PartTurns.{PartAt, piece-fault, PartTold, item-small, item-told, series-room, lent-small, lent-opens, series-told, part-bad, bad-within, part-asks, part-less, part-more}
 use Rattle.tally_records.proofs.TargetTurns as targets
-use Rattle.tally_records.proofs.TargetTurns.{TargetAt, same-good, records-over, head-fault, target-room, lent, vals-within, vals-fault, vals-small, no-location, target-asks, target-less, target-more}
+use Rattle.tally_records.proofs.TargetTurns.{TargetAt, same-good, records-over, head-fault, target-room, lent, vals-within, vals-fault, vals-small, not-ended, target-asks, target-less, target-more}
 use Rattle.check_records.proofs.item_records.Reads as item-records
 use Rattle.check_records.proofs.item_records.Kinds as item-records-kinds
 use Rattle.check_records.proofs.+item_records+target_records.Lts-item_records as item-records-lts
@@ -453,9 +451,7 @@ module _ (t : ℕ) where
   target-returns-4 : target-records-lts.Need-returns-4 target-claims (target-records-at t) target-records.Post target-Inv target-μ
   target-returns-4 c =
       let j = c .before .before in
-      let l = target-loop (walked-target j) in
-      let (bare, is-14) = ended-unheld (l .before .before .before .before .before .before .args .alone) _ (c .before .ended-of .ensures) (c .if4 .taken) in
-      no-location (target-here (walked-target j)) (target-told j) refl refl bare (ap (λ n. Bad n (l .loop .q .at)) is-14)
+      not-ended (target-here (walked-target j)) (target-told j) refl (c .before .ended-of .ensures) (c .if4 .taken) refl
 
   target-oid-width-requires : target-records-lts.Need-oid-width-requires target-claims (target-records-at t) target-records.Post target-Inv target-μ
   target-oid-width-requires c κs = target-room (target-here (c .before .before .before .before .before .before .before .before)) .1
@@ -477,12 +473,10 @@ module _ (t : ℕ) where
       let j = c .before .before .before .before .before .before .before in
       let i = target-here (walked-target j) in
       let l = target-loop (walked-target j) in
-      let alone = l .before .before .before .before .before .before .args .alone in
       let e = c .before .before .before .before .before .before .ended-of in
       let none : e .result ≡ 0 = omega (arith, c .before .before .before .before .before .if4 .left) in
-      let some = either-is alone _ (sym (ended-held alone _ (e .ensures) none)) in
       let (after, top) = c .after2 .ensures in (
-        target-more i (target-told j) refl (c .before .before .before .before .oid-width .ensures) (c .before .before .before .pack-sizes .ensures) some refl after,
+        target-more i (target-told j) refl (c .before .before .before .before .oid-width .ensures) (c .before .before .before .pack-sizes .ensures) (e .ensures) none after,
         c .before .after .ensures,
         top .below _ (l .loop .inv .2) (target-room i .1),
       )

@@ -81,7 +81,7 @@ after-requires : tie.Need-after-requires
 after-requires c κs = let r = c .before .before .before in part-asks (part r) (told r) (c .before .w .given .1)
 
 slice-aggregate-item-records : tie.Need-slice-aggregate-item-records
-slice-aggregate-item-records c = search needs
+slice-aggregate-item-records c = search (needs, c .before .before .before .before .before .before .before .before .before .before .table .ok)
 
 item-records-requires : tie.Need-item-records-requires
 item-records-requires c κs =

@@ -15,9 +15,8 @@ use Rattle.quick_items.proofs.glance_items.Statement.{statement}
 use Rattle.quick_items.proofs.glance_items.Tie as tie
 use Rattle.quick_items.proofs.glance_items.Reads as reads
 use Rattle.quick_items.proofs.glance_items.Lts as lts
-use Rattle.coding.proofs.either.Reads as either-reads
 use Rattle.coding.proofs.wide.Reads as wide-reads
-use Rattle.tally.proofs.is_asked.Reads as is-asked-reads
+use Rattle.tally.proofs.bit_of.Reads as bit-of-reads
 use Rattle.tally.proofs.stages.stage_at.Reads as stage-at-reads
 use Rattle.tally.proofs.weights.nothing.Reads as nothing-reads
 use Rattle.quick_items.proofs.first_tag.Reads as first-tag-reads
@@ -50,10 +49,8 @@ claims = (
   told-sizes-reads.Learnt,
   wide-reads.Asked,
   wide-reads.Learnt,
-  is-asked-reads.Asked,
-  is-asked-reads.Learnt,
-  either-reads.Asked,
-  either-reads.Learnt,
+  bit-of-reads.Asked,
+  bit-of-reads.Learnt,
 )
 
 abbrev Turn : Type 0
@@ -113,31 +110,28 @@ shared-slice-read-wide c = omega (arith, glanced-next (glanced (c .before)))
 wide-requires : tie.Need-wide-requires Inv-loop μ-loop
 wide-requires c κs = search needs
 
-is-asked-requires : tie.Need-is-asked-requires Inv-loop μ-loop
-is-asked-requires c κs = search needs
-
-either-requires : tie.Need-either-requires Inv-loop μ-loop
-either-requires c κs = search needs
+bit-of-requires : tie.Need-bit-of-requires Inv-loop μ-loop
+bit-of-requires c κs = search needs
 
 add-count : tie.Need-add-count Inv-loop μ-loop
 add-count c =
-    let e = c .before .before .before .before in
+    let e = c .before .before .before in
     let n = glanced-next (glanced e) in
     let i = turn e .loop .inv .0 (omega (arith, n)) in
     omega (arith, i .few .rows, n, start (turn e) .pre .1)
 
 loop-less : tie.Need-loop-less Inv-loop μ-loop
-loop-less c = omega (arith, glanced-next (glanced (c .before .before .before .before)))
+loop-less c = omega (arith, glanced-next (glanced (c .before .before .before)))
 
 loop-again : tie.Need-loop-again Inv-loop μ-loop
 loop-again c =
-    let e = c .before .before .before .before in
+    let e = c .before .before .before in
     let u = turn e in
     let g = glanced e in
     let i = u .loop .inv in
-    let x = c .before .before .wide .ensures .0 in (
+    let x = c .before .wide .ensures .0 in (
       λ r.
-          glanced-more g r (i .0 (omega (arith, glanced-next g))) (λ k. u .before .before .before .shared-slice-known2 .given k .fits) (start u .pre .1) x (c .before .is-asked .ensures) (c .either .ensures)
+          glanced-more g r (i .0 (omega (arith, glanced-next g))) (λ k. u .before .before .before .shared-slice-known2 .given k .fits) (start u .pre .1) x (c .bit-of .ensures) refl
           (glanced-low g r (i .1) x),
       λ h m _. omega (arith, glanced-low g (omega (arith, h)) (i .1) x, m),
     )
@@ -160,8 +154,7 @@ glance-items-spec =
     returns-2
     shared-slice-read-wide
     wide-requires
-    is-asked-requires
-    either-requires
+    bit-of-requires
     add-count
     loop-less
     loop-again)

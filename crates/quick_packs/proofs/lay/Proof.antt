@@ -17,11 +17,10 @@ use Rattle.quick_packs.proofs.lay.Statement.{statement}
 use Rattle.quick_packs.proofs.lay.Tie as tie
 use Rattle.quick_packs.proofs.lay.Reads as reads
 use Rattle.quick_packs.proofs.lay.Lts as lts
-use Rattle.coding.proofs.either.Reads as either-reads
 use Rattle.coding.proofs.wide.Reads as wide-reads
 use Rattle.coding.proofs.alike.mask_item.Reads as mask-item-reads
 use Rattle.items.proofs.quick.first_mask.Reads as first-mask-reads
-use Rattle.tally.proofs.is_asked.Reads as is-asked-reads
+use Rattle.tally.proofs.bit_of.Reads as bit-of-reads
 use Rattle.tally.proofs.stages.stage_at.Reads as stage-at-reads
 use Rattle.tally.proofs.weights.nothing.Reads as nothing-reads
 use Rattle.quick_items.proofs.first_tag.Reads as first-tag-reads
@@ -55,10 +54,8 @@ claims = (
   first-mask-reads.Learnt,
   mask-item-reads.Asked,
   mask-item-reads.Learnt,
-  is-asked-reads.Asked,
-  is-asked-reads.Learnt,
-  either-reads.Asked,
-  either-reads.Learnt,
+  bit-of-reads.Asked,
+  bit-of-reads.Learnt,
 )
 
 abbrev Turn : Type 0
@@ -142,27 +139,24 @@ first-mask-requires c κs = search needs
 mask-item-requires : tie.Need-mask-item-requires Inv-loop μ-loop
 mask-item-requires c κs = let e = c .before .before .before .before .before .before in (omega (arith, glanced-next (glanced e), start (turn e) .pre .1), turn e .loop .inv .long)
 
-is-asked-requires : tie.Need-is-asked-requires Inv-loop μ-loop
-is-asked-requires c κs = search needs
-
-either-requires : tie.Need-either-requires Inv-loop μ-loop
-either-requires c κs = search needs
+bit-of-requires : tie.Need-bit-of-requires Inv-loop μ-loop
+bit-of-requires c κs = search needs
 
 add-count : tie.Need-add-count Inv-loop μ-loop
 add-count c =
-    let e = c .before .before .before .before .before .before .before .before .before in
+    let e = c .before .before .before .before .before .before .before .before in
     let n = glanced-next (glanced e) in
     let i = laying-own (turn e .loop .inv) (omega (arith, n)) (bytes (turn e)) in
     omega (arith, i .few .rows, n, start (turn e) .pre .1)
 
 loop-less : tie.Need-loop-less Inv-loop μ-loop
-loop-less c = omega (arith, glanced-next (glanced (c .before .before .before .before .before .before .before .before .before)))
+loop-less c = omega (arith, glanced-next (glanced (c .before .before .before .before .before .before .before .before)))
 
 loop-again : tie.Need-loop-again Inv-loop μ-loop
 loop-again c =
-    let e = c .before .before .before .before .before .before .before .before .before in
-    laying-more (turn e .loop .inv) (glanced e) (start (turn e) .pre .1) (c .before .before .before .before .before .before .before .wide .ensures .0) (c .before .before .before .before .before .wide2 .ensures .0) (c .before .before .mask-item .ensures)
-    (c .before .before .before .before .first-mask .ensures) (c .before .is-asked .ensures) (c .either .ensures)
+    let e = c .before .before .before .before .before .before .before .before in
+    laying-more (turn e .loop .inv) (glanced e) (start (turn e) .pre .1) (c .before .before .before .before .before .before .wide .ensures .0) (c .before .before .before .before .wide2 .ensures .0) (c .before .mask-item .ensures)
+    (c .before .before .before .first-mask .ensures) (c .bit-of .ensures) refl
 
 pub lay-spec : {M : Type 1} → statement M
 lay-spec =
@@ -187,8 +181,7 @@ lay-spec =
     wide-requires-2
     first-mask-requires
     mask-item-requires
-    is-asked-requires
-    either-requires
+    bit-of-requires
     add-count
     loop-less
     loop-again)

@@ -1,7 +1,6 @@
 -- `tally::series_of` meets its contract.
 use mathlib.Core.Path.{sym, ap, _∙_, subst}
 use native.Mathlib.Omega.{arith}
-use mathlib.Core.Bool.{false}
 use Rattle.tally.specs.declared.Walked.the-variants.{Good}
 use Rattle.tally.specs.Meet.{seriesFrom, Within}
 use borrow.Author.Needs.{needs}
@@ -23,7 +22,7 @@ add-t8 c =
     omega (arith, a .pre .1, subst (λ w. Within w 65536) (c .before .w2 .given .1) (a .pre .0))
 
 returns : tie.Need-returns
-returns c = ap (λ a. Good a false) (c .series-sizes .ensures) ∙ sym (ap (seriesFrom (c .before .before .before .before .args .k)) (c .before .before .w .given .1))
+returns c = ap (λ a. Good a 0) (c .series-sizes .ensures) ∙ sym (ap (seriesFrom (c .before .before .before .before .args .k)) (c .before .before .w .given .1))
 
 returns-2 : tie.Need-returns-2
 returns-2 c = sym (ap (seriesFrom (c .before .before .before .args .k)) (c .before .w2 .given .1))

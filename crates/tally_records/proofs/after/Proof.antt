@@ -10,9 +10,6 @@ add-next c = search needs
 plus-requires : tie.Need-plus-requires
 plus-requires c κs = search needs
 
-either-requires : tie.Need-either-requires
-either-requires c κs = search needs
-
 larger-requires : tie.Need-larger-requires
 larger-requires c κs = search needs
 
@@ -29,7 +26,7 @@ returns c =
       record {
         at-is = refl;
         sizes-are = c .before .before .before .before .plus .ensures;
-        held-is = c .before .before .before .either .ensures;
+        held-is = refl;
         over = over .over;
         under = c .before .smaller .ensures;
       },
@@ -42,7 +39,6 @@ after-spec =
     (tie.spec
     add-next
     plus-requires
-    either-requires
     larger-requires
     smaller-requires
     stage-at-requires

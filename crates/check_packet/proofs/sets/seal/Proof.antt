@@ -13,6 +13,7 @@ use Rattle.check_packet.proofs.sets.seal.Statement.{statement}
 use Rattle.check_packet.proofs.sets.seal.Tie as tie
 use Rattle.check_packet.proofs.sets.seal.Reads as reads
 use Rattle.check_packet.proofs.sets.seal.Lts as lts
+use Rattle.tally.proofs.bit_of.Reads as bit-of-reads
 use Rattle.tally.proofs.larger.Reads as larger-reads
 use Rattle.tally.proofs.stages.stage_at.Reads as stage-at-reads
 use Rattle.check_packet.proofs.sets.head_at.Reads as head-at-reads
@@ -30,6 +31,8 @@ claims = (
   plain-sizes-reads.Learnt,
   plus-reads.Asked,
   plus-reads.Learnt,
+  bit-of-reads.Asked,
+  bit-of-reads.Learnt,
   larger-reads.Asked,
   larger-reads.Learnt,
   stage-at-reads.Asked,
@@ -107,6 +110,9 @@ plus-requires c κs =
     let t = c .before .before .is-seal-next .ensures (not-false _ (c .before .if1 .left)) in
     seal-sums (here (c .before .before .before .before)) (ap (λ x. isAlone (formOf x)) (t .0)) (t .1, t .2, t .3, t .4) (eqb-true _ _ (t .5)) (c .plain-sizes .ensures)
 
+bit-of-requires : tie.Need-bit-of-requires
+bit-of-requires c κs = search needs
+
 larger-requires : tie.Need-larger-requires
 larger-requires c κs = search needs
 
@@ -115,11 +121,11 @@ stage-at-requires c κs = search needs
 
 returns-3 : tie.Need-returns-3
 returns-3 c =
-    let t = c .before .before .before .before .before .is-seal-next .ensures (not-false _ (c .before .before .before .before .if1 .left)) in
-    let a = c .before .before .before .before .before .before .before in
+    let t = c .before .before .before .before .before .before .before .is-seal-next .ensures (not-false _ (c .before .before .before .before .before .before .if1 .left)) in
+    let a = c .before .before .before .before .before .before .before .before .before in
     rw (c .stage-at .ensures)
-    (seal-more (here a) (ap (λ x. isAlone (formOf x)) (t .0)) (t .1, t .2, t .3, t .4) (eqb-true _ _ (t .5)) (c .before .before .before .plain-sizes .ensures) (c .before .before .plus .ensures)
-    (c .before .larger .ensures .over))
+    (seal-more (here a) (ap (λ x. isAlone (formOf x)) (t .0)) (t .1, t .2, t .3, t .4) (eqb-true _ _ (t .5)) (c .before .before .before .before .before .plain-sizes .ensures) (c .before .before .before .before .plus .ensures)
+    (c .before .before .before .bit-of .ensures) (c .before .larger .ensures .over))
 
 pub seal-spec : {M : Type 1} → statement M
 seal-spec =
@@ -136,6 +142,7 @@ seal-spec =
     returns-2
     plain-sizes-requires
     plus-requires
+    bit-of-requires
     larger-requires
     stage-at-requires
     returns-3)

@@ -1,4 +1,5 @@
 -- `quick_records::quick::glance_rising` meets its contract: each turn is a turn of the walk.
+use mathlib.Core.Path.{refl}
 use Prim.Native.Nat.{_-_, _*_, _≤_, _<_}
 use native.Mathlib.Omega.{arith}
 use lib.ListN.{length}
@@ -35,24 +36,21 @@ returns c =
     let l = c .before .before .before .before .before in
     rw (c .stage-at .ensures, c .before .told-sizes .ensures) (going-wide (l .loop .inv .0) (omega arith) (l .before .before .before .pre .3))
 
-is-asked-requires : tie.Need-is-asked-requires Inv-loop μ-loop
-is-asked-requires c κs = search needs
-
-either-requires : tie.Need-either-requires Inv-loop μ-loop
-either-requires c κs = search needs
+bit-of-requires : tie.Need-bit-of-requires Inv-loop μ-loop
+bit-of-requires c κs = search needs
 
 add-count : tie.Need-add-count Inv-loop μ-loop
-add-count c = omega (arith, c .before .before .before .before .before .loop .inv .1, glance-next (c .before .before .before .before .glance-record .ensures (omega (arith, c .before .before .if1 .left))), c .before .before .before .before .before .before .before .before .pre .1)
+add-count c = omega (arith, c .before .before .before .before .loop .inv .1, glance-next (c .before .before .before .glance-record .ensures (omega (arith, c .before .if1 .left))), c .before .before .before .before .before .before .before .pre .1)
 
 loop-less : tie.Need-loop-less Inv-loop μ-loop
-loop-less c = omega (arith, glance-next (c .before .before .before .before .glance-record .ensures (omega (arith, c .before .before .if1 .left))))
+loop-less c = omega (arith, glance-next (c .before .before .before .glance-record .ensures (omega (arith, c .before .if1 .left))))
 
 loop-again : tie.Need-loop-again Inv-loop μ-loop
 loop-again c =
-    let g = c .before .before .before .before .glance-record .ensures (omega (arith, c .before .before .if1 .left)) in
-    let i = c .before .before .before .before .before .loop .inv in
-    let k = c .before .before .before .before .before .before in
-    (glance-more g (glance-begun g (k .before .before .pre .2)) (i .0) (first-least g (i .2)) (i .1) (λ j. k .shared-slice-known2 .given j .fits) (k .before .before .pre .1) (c .before .is-asked .ensures) (c .either .ensures), omega (arith, i .1, glance-next g), λ _. first-least g (i .2))
+    let g = c .before .before .before .glance-record .ensures (omega (arith, c .before .if1 .left)) in
+    let i = c .before .before .before .before .loop .inv in
+    let k = c .before .before .before .before .before in
+    (glance-more g (glance-begun g (k .before .before .pre .2)) (i .0) (first-least g (i .2)) (i .1) (λ j. k .shared-slice-known2 .given j .fits) (k .before .before .pre .1) (c .bit-of .ensures) refl, omega (arith, i .1, glance-next g), λ _. first-least g (i .2))
 
 pub glance-rising-spec : {M : Type 1} → statement M
 glance-rising-spec =
@@ -65,8 +63,7 @@ glance-rising-spec =
     told-sizes-requires
     stage-at-requires
     returns
-    is-asked-requires
-    either-requires
+    bit-of-requires
     add-count
     loop-less
     loop-again)

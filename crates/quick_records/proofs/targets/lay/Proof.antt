@@ -85,24 +85,21 @@ first-mask-requires c κs = c .before .before .before .before .before .before .b
 mask-item-requires : tie.Need-mask-item-requires Inv-loop μ-loop
 mask-item-requires c κs = (omega (arith, c .before .before .before .if2 .taken), c .before .before .before .before .before .before .before .loop .inv .long)
 
-is-asked-requires : tie.Need-is-asked-requires Inv-loop μ-loop
-is-asked-requires c κs = search needs
-
-either-requires : tie.Need-either-requires Inv-loop μ-loop
-either-requires c κs = search needs
+bit-of-requires : tie.Need-bit-of-requires Inv-loop μ-loop
+bit-of-requires c κs = search needs
 
 add-count : tie.Need-add-count Inv-loop μ-loop
-add-count c = omega (arith, c .before .before .before .before .before .before .loop .inv .few, glance-next (told (c .before .before .before)), c .before .before .before .before .before .before .before .before .before .pre .1)
+add-count c = omega (arith, c .before .before .before .before .before .loop .inv .few, glance-next (told (c .before .before)), c .before .before .before .before .before .before .before .before .pre .1)
 
 loop-less : tie.Need-loop-less Inv-loop μ-loop
-loop-less c = omega (arith, glance-next (told (c .before .before .before)))
+loop-less c = omega (arith, glance-next (told (c .before .before)))
 
 loop-again : tie.Need-loop-again Inv-loop μ-loop
 loop-again c =
-    let j = c .before .before in
+    let j = c .before in
     let l = turn (j .before) in
     laying-more (l .loop .inv) (told (j .before)) (λ i. l .before .shared-slice-known2 .given i .fits) (l .before .before .before .pre .1) (masked j .0) (masked j .1)
-    (c .before .is-asked .ensures) (c .either .ensures)
+    (c .bit-of .ensures) refl
 
 pub lay-spec : {M : Type 1} → statement M
 lay-spec =
@@ -119,8 +116,7 @@ lay-spec =
     sub-n
     first-mask-requires
     mask-item-requires
-    is-asked-requires
-    either-requires
+    bit-of-requires
     add-count
     loop-less
     loop-again)

@@ -1,10 +1,9 @@
 -- `quick_records::targets::model_of` meets its contract.
-use mathlib.Core.Path.{_≡_}
+use mathlib.Core.Path.{_≡_, sym, _∙_}
 use native.Mathlib.Omega.{arith}
 use lib.ListN.{length-drop}
 use borrow.Author.Tests.{not-false}
 use Rattle.coding.proofs.Rooms.{tail-part}
-use Rattle.tally.proofs.Ends.{ended-held}
 use Rattle.quick_records.proofs.Models.{no-model, records-held, records-model}
 use borrow.Author.Needs.{needs}
 use Rattle.quick_records.proofs.targets.model_of.Statement.{statement}
@@ -51,12 +50,12 @@ returns-3 c =
     let a = c .before .before .before .before .before .before .before .before .before .before .before in
     let l = rw (tail-part (a .args .from) (a .args .s .now)) at (c .before .before .before .before .before .lay .ensures) in
     let none : c .before .before .ended-of .result ≡ 0 = omega (arith, c .before .if2 .left) in
-    let located = ended-held (a .args .alone) _ (c .before .before .ended-of .ensures) none in
+    let ends = sym (c .before .before .ended-of .ensures) ∙ none in
     let over = c .before .before .before .before .is-over .ensures (not-false _ (c .before .before .before .if1 .left)) in
     record {
-      modelled = records-model (a .args .alone) (a .args .s .now) (a .args .from) (l .0) located (l .1) (a .pre .2);
+      modelled = records-model (a .args .alone) (a .args .s .now) (a .args .from) (l .0) ends (l .1) (a .pre .2);
       before = omega arith;
-      held = λ _. records-held (a .args .alone) (a .args .s .now) (a .args .from) (l .0) located;
+      held = λ _. records-held (a .args .alone) (a .args .s .now) (a .args .from) (l .0) ends;
       over = λ _. record { within = omega (arith, l .0 .own .to, length-drop (a .args .from) (a .args .s .now), a .pre .2); next = over };
     }
 

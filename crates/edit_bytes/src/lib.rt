@@ -1,109 +1,109 @@
-// The set's bytes with an item put at its place, or without the one that stands there: how many, and these, stored into a lent output.
+// The set's bytes with two cuts, what they put in place of what they take out: how many, and these, stored into a lent output.
 ghost use mathlib.Core.Path.{_≡_};
-ghost use Prim.Native.Nat.{_+_, _-_, _≤_};
+ghost use Prim.Native.Nat.{_+_, _≤_};
 ghost use lib.ListN.{length};
-ghost use Rattle.format.specs.Coding.{lenWidth};
 ghost use Rattle.items.specs.Meet.{levelOf};
-ghost use Rattle.find.specs.Places.{Ordered};
-ghost use Rattle.edit_rules.specs.Meet.{itemSize, bodySize, frontOf, withSize, Putting, StoredAt, ItemStored, EditStored};
-use edit_rules::Asked;
-use find::Place;
+ghost use Rattle.edit_rules.specs.Cuts.{cutPut, cutSize, bodySize, packsSize, frontOf, Spans, Small, Putting, putSize, cutBytes, StoredAt};
+use edit_rules::Cut;
+use edit_rules::Cuts;
 
 // ---- the item
 
-// The bytes of the item that is put, with m bytes of the value; none for a removal.
-pub fn item_size(a: Asked, m: usize) -> usize
-    requires { ⌜ (a .tag ≤ 16383) × (m ≤ 8192) ⌝ }
-    ensures { λ r. ⌜ r ≡ itemSize (a .removal) (a .tag) m ⌝ }
+// The bytes of the item that a cut puts; none for a removal.
+fn cut_size(c: Cut) -> usize
+    requires { ⌜ Small c ⌝ }
+    ensures { λ r. ⌜ r ≡ cutSize c ⌝ }
 {
-    if a.removal {
+    if c.removal {
         return 0;
     }
-    coding::widths::short_total(a.tag, m)
+    coding::widths::short_total(c.tag, c.size)
 }
 
-// The item that is put, with the last m bytes of the value; where it ends.
-fn put_item(out: &mut [u8], at: usize, a: Asked, v: &[u8], m: usize) -> usize
-    requires { ⌜ (a .tag ≤ 16383) × (m ≤ length (now v)) × (m ≤ 8192) × (at + itemSize (a .removal) (a .tag) m ≤ length (now out)) ⌝ }
-    ensures { λ r. ⌜ ItemStored a (now (v .entry)) m (now (out .entry)) at r (now (out .exit)) ⌝ }
+// The item that a cut puts, with the last bytes of the value; where it ends.
+fn put_cut(out: &mut [u8], at: usize, c: Cut, v: &[u8]) -> usize
+    requires { ⌜ Small c × (c .size ≤ length (now v)) × (at + cutSize c ≤ length (now out)) ⌝ }
+    ensures { λ r. ⌜ StoredAt (now (out .entry)) at (cutPut c (now (v .entry))) r (now (out .exit)) ⌝ }
 {
-    if a.removal {
+    if c.removal {
         return at;
     }
-    store_coded::put_short(out, at, a.tag, &v[v.len() - m..])
+    let m = c.size;
+    store_coded::put_short(out, at, c.tag, &v[v.len() - m..])
 }
 
-// ---- the lengths around it
+// ---- the lengths around the cuts
 
-// The bytes of the pack under its length, with an item of n bytes.
-fn body_size(p: Place, n: usize) -> usize
-    requires { ⌜ Ordered 8192 p × (n ≤ 16384) ⌝ }
-    ensures { λ r. ⌜ r ≡ bodySize p n ⌝ }
+// The bytes of the pack under its length, or of the set.
+fn body_size(k: Cuts) -> usize
+    requires { ⌜ Spans 8192 k × Small (k .lo) × Small (k .hi) ⌝ }
+    ensures { λ r. ⌜ r ≡ bodySize k (cutSize (k .lo)) (cutSize (k .hi)) ⌝ }
 {
-    (p.at - p.body) + n + (p.last - p.next)
+    let m = cut_size(k.lo);
+    let n = cut_size(k.hi);
+    (k.lo.at - k.place.body) + m + (k.hi.at - k.lo.next) + n + (k.place.last - k.hi.next)
 }
 
 // The bytes of the series under its length, with a pack of n.
-fn packs_size(p: Place, n: usize) -> usize
-    requires { ⌜ Ordered 8192 p × (n ≤ 32768) ⌝ }
-    ensures { λ r. ⌜ r ≡ (p .pack - p .packs) + (lenWidth n + n) + (p .tail - p .last) ⌝ }
+fn packs_size(k: Cuts, n: usize) -> usize
+    requires { ⌜ Spans 8192 k × (n ≤ 40960) ⌝ }
+    ensures { λ r. ⌜ r ≡ packsSize (k .place) n ⌝ }
 {
-    (p.pack - p.packs) + (coding::widths::len_width(n) + n) + (p.tail - p.last)
+    (k.place.pack - k.place.packs)
+        + (coding::widths::len_width(n) + n)
+        + (k.place.tail - k.place.last)
 }
 
 // ---- the entries
 
-// How many bytes the entries take with an item of n at the place.
-pub fn edited_size(set: bool, p: Place, n: usize) -> usize
-    requires { ⌜ Ordered 8192 p × (n ≤ 16384) ⌝ }
-    ensures { λ r. ⌜ r ≡ withSize (levelOf set) p n ⌝ }
+// How many bytes the entries take with what the cuts put.
+pub fn edited_size(k: Cuts) -> usize
+    requires { ⌜ Spans 8192 k × Small (k .lo) × Small (k .hi) ⌝ }
+    ensures { λ r. ⌜ r ≡ putSize k ⌝ }
 {
-    if set {
-        return p.at + n + (p.stop - p.next);
+    let n = body_size(k);
+    if k.set {
+        return n;
     }
-    let packs = packs_size(p, body_size(p, n));
-    p.series + 1 + coding::widths::len_width(packs) + packs + (p.stop - p.tail)
+    let packs = packs_size(k, n);
+    k.place.series + 1 + coding::widths::len_width(packs) + packs + (k.place.stop - k.place.tail)
 }
 
-// What stands before the item, of n bytes; where it ends.
-fn put_front(s: &[u8], set: bool, p: Place, n: usize, out: &mut [u8]) -> usize
-    requires { ⌜ (length (now s) ≤ 8192) × Ordered (length (now s)) p × (n ≤ 16384)
-        × (length (frontOf (levelOf set) (now s) p n) ≤ length (now out)) ⌝ }
-    ensures { λ r. ⌜ StoredAt (now (out .entry)) 0 (frontOf (levelOf set) (now (s .entry)) p n) r (now (out .exit)) ⌝ }
+// What stands before the lower cut, around which the pack has n bytes; where it ends.
+fn put_front(s: &[u8], k: Cuts, n: usize, out: &mut [u8]) -> usize
+    requires { ⌜ (length (now s) ≤ 8192) × Spans (length (now s)) k × (n ≤ 40960)
+        × (length (frontOf (levelOf (k .set)) (now s) (k .place) (k .lo .at) n) ≤ length (now out)) ⌝ }
+    ensures { λ r. ⌜ StoredAt (now (out .entry)) 0 (frontOf (levelOf (k .set)) (now (s .entry)) (k .place) (k .lo .at) n) r (now (out .exit)) ⌝ }
 {
-    let at = p.at;
-    if set {
+    let at = k.lo.at;
+    if k.set {
         return stores::copy_all(out, 0, &s[0..at]);
     }
-    let series = p.series;
-    let packs = p.packs;
-    let pack = p.pack;
-    let body = p.body;
-    let m = body_size(p, n);
-    let size = packs_size(p, m);
+    let series = k.place.series;
+    let packs = k.place.packs;
+    let pack = k.place.pack;
+    let body = k.place.body;
+    let size = packs_size(k, n);
     let a = stores::copy_all(out, 0, &s[0..series]);
     let b = store_coded::put_series(out, a, size);
     let c = stores::copy_all(out, b, &s[packs..pack]);
-    let d = store_coded::put_len(out, c, m);
+    let d = store_coded::put_len(out, c, n);
     stores::copy_all(out, d, &s[body..at])
 }
 
-// The entries, with m bytes of the value in an item of n at the place, at the start of out; how many bytes.
-pub fn put_edited(
-    s: &[u8],
-    a: Asked,
-    p: Place,
-    v: &[u8],
-    m: usize,
-    n: usize,
-    out: &mut [u8],
-) -> usize
-    requires { ⌜ Putting a (now s) (now v) p m n (length (now out)) ⌝ }
-    ensures { λ r. ⌜ EditStored a (now (s .entry)) (now (v .entry)) p m (now (out .entry)) r (now (out .exit)) ⌝ }
+// The entries with what the cuts put of v, the lower, and of w, at the start of out; how many bytes.
+pub fn put_edited(s: &[u8], k: Cuts, v: &[u8], w: &[u8], out: &mut [u8]) -> usize
+    requires { ⌜ Putting (now s) k (now v) (now w) × (putSize k ≤ length (now out)) ⌝ }
+    ensures { λ r. ⌜ StoredAt (now (out .entry)) 0 (cutBytes (now (s .entry)) k (now (v .entry)) (now (w .entry))) r (now (out .exit)) ⌝ }
 {
-    let from = put_front(s, a.set, p, n, out);
-    let to = put_item(out, from, a, v, m);
-    let next = p.next;
-    let stop = p.stop;
-    stores::copy_all(out, to, &s[next..stop])
+    let n = body_size(k);
+    let a = put_front(s, k, n, out);
+    let b = put_cut(out, a, k.lo, v);
+    let low = k.lo.next;
+    let high = k.hi.at;
+    let c = stores::copy_all(out, b, &s[low..high]);
+    let d = put_cut(out, c, k.hi, w);
+    let next = k.hi.next;
+    let stop = k.place.stop;
+    stores::copy_all(out, d, &s[next..stop])
 }

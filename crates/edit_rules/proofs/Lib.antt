@@ -1,6 +1,10 @@
 pub mod Levels
-pub mod Sets
 pub mod Targets
+pub mod Sets
+pub mod Items
+pub mod Edits
 pub mod Rules
+pub mod Ends
+pub mod Judging
 pub mod Storing
 pub mod Callers

@@ -1,28 +1,32 @@
--- The rules of an edit, case by case, as the code asks them.
-use mathlib.Core.Path.{_≡_, refl, sym, ap, _∙_}
-use Prim.Native.Nat.{ℕ, zero, suc, _<_}
+-- The rules of a change in its turn, case by case, as the code asks them.
+use mathlib.Core.Path.{_≡_, refl, sym, ap, _∙_, subst}
+use Prim.Native.Nat.{ℕ, zero, suc, _<_, _≤_}
 use native.Mathlib.Omega.{arith}
-use mathlib.Core.Bool.{Bool, true, false, not, _&&_}
-use mathlib.Core.List.{List}
+use mathlib.Core.Bool.{Bool, true, false, not, _||_}
+use mathlib.Core.List.{List, [], _∷_, map}
 use lib.ListN.{length, getD}
-use lib.Dec.{eqb}
-use borrow.Author.Tests.{lt-ltb, le-ltb}
-use Rattle.format.specs.Answer.{Ans, ok, refused, need}
+use lib.Dec.{eqb, ltb}
+use borrow.Author.Tests.{lt-ltb, le-ltb, eq-eqb, ne-eqb}
+use Rattle.format.specs.Answer.{Ans, ok, refused, need, _>>=_}
 use Rattle.format.specs.Coding.{Bytes}
 use Rattle.format.specs.Lists.{has}
-use Rattle.format.specs.Table.{Form, Level, isAlone, Rule, ruleOf, nameable, mayStand, valued, short}
-use Rattle.format.specs.Edit.{Change, put, remove, mustStay, changeRules, editRules}
-use Rattle.format.specs.Edit as Edit
-use Rattle.items.specs.Meet.{formOf, levelOf, answerOf}
+use Rattle.format.specs.Table.{Form, Level, Rule, ruleOf, nameable, mayStand, valued, short}
+use Rattle.format.specs.Sheet.{partOf}
+use Rattle.format.specs.Edit.{Change, put, remove, tagsAt, changeRules, mayFollow}
+use Rattle.items.specs.Meet.{levelOf, answerOf}
 use Rattle.items.specs.Quick.{Glanced}
 use Rattle.items.proofs.Glances.{as-same}
 use Rattle.items.proofs.Tests.{bind-so, bind-not, need-so, need-not}
 use Rattle.find.specs.declared.Place.{Place}
-use Rattle.find.specs.Places.{holderOf, SetOf, Placed, Unheld}
+use Rattle.find.specs.Places.{holderOf, SetOf, keptOf, Placed, Unheld}
+use Rattle.edit_rules.specs.declared.Change as told
+use Rattle.edit_rules.specs.declared.Cut.{Cut}
 use Rattle.edit_rules.specs.declared.Valued.the-variants.{Size, Fault}
-use Rattle.edit_rules.specs.declared.Judged.the-variants.{Fine, Wrong}
-use Rattle.edit_rules.specs.Meet.{changeOf, sheetOf, shortOf, EditedAt, ValuedAs, JudgedAs}
-use Rattle.edit_rules.proofs.Targets.{edited-at, no-tags}
+use Rattle.edit_rules.specs.declared.Asked.{Asked}
+use Rattle.edit_rules.specs.declared.Turn.{Turn}
+use Rattle.edit_rules.specs.declared.Turn.the-variants as turn
+use Rattle.edit_rules.specs.Meet.{changeOf, askedHolder, shortOf, cutOf, noCut, turnRules, ValuedAs, TurnAt, TurnAs, SecondIf, SecondAs}
+use Rattle.edit_rules.proofs.Edits.{level-at, level-none}
 
 -- some bytes
 pub some-of : (n : ℕ) → (n ≡ 0 → ⊥) → 0 < n
@@ -34,25 +38,7 @@ pub number : (k : ℕ) → (k ≡ 0 → ⊥) → _≡_ {A = Ans (Unit {0})} (ref
 number zero z = absurd (z refl)
 number (suc k) z = refl
 
--- ---- the change
-
-module _ (f : Form) (l : Level) (tag : ℕ) (tags : List ℕ) where
-  pub out-18 : has tag tags ≡ false → refused 18 0 ≡ changeRules f l tag tags remove
-  unfolding changeRules
-  out-18 h = sym (need-not _ _ _ h)
-
-  module _ (h : has tag tags ≡ true) {x : Bool} (ex : x ≡ (isAlone f && eqb tag (mustStay l))) where
-    out-stays : need (not x) 14 ≡ changeRules f l tag tags remove
-    unfolding changeRules
-    out-stays = rw ex (sym (need-so _ _ _ h))
-
-    pub out-14 : x ≡ true → refused 14 0 ≡ changeRules f l tag tags remove
-    unfolding need
-    out-14 z = ap (λ y. need (not y) 14) (sym z) ∙ out-stays
-
-    pub out-ok : x ≡ false → ok tt ≡ changeRules f l tag tags remove
-    unfolding need
-    out-ok z = ap (λ y. need (not y) 14) (sym z) ∙ out-stays
+-- ---- a put
 
 module _ (f : Form) (l : Level) (tag : ℕ) (v : List ℕ) where
   pub put-7 : length v ≡ 0 → ValuedAs f l tag v (Fault 7)
@@ -84,62 +70,88 @@ module _ (f : Form) (l : Level) (tag : ℕ) (v : List ℕ) where
   pub put-told : Glanced l f tag (length v) (getD v 0 0) → ValuedAs f l tag v (Size (length v))
   put-told q = ((λ tags. put-value (q .some) (q .stands true) tags (sym (q .allowed v refl (as-same _ _ refl)))), sym (ap length (q .shortest v refl (as-same _ _ refl))))
 
--- ---- what must stay
+-- ---- a change in its turn
 
-pub stays-in : (tag : ℕ) {a b : Bool} → a ≡ true → b ≡ true → eqb tag 2 ≡ (isAlone (formOf a) && eqb tag (mustStay (levelOf b)))
-stays-in tag ea eb = rw (ea, eb)
+module _ (f : Form) (l : Level) (tag : ℕ) (c : Change) where
+  turn-19 : nameable l tag ≡ false → (at : Ans (List ℕ)) → turnRules f l tag c at ≡ refused 19 0
+  unfolding turnRules
+  turn-19 n at = need-not _ _ _ n
 
-pub stays-under : (tag : ℕ) {a b : Bool} → a ≡ true → b ≡ false → eqb tag 17 ≡ (isAlone (formOf a) && eqb tag (mustStay (levelOf b)))
-stays-under tag ea eb = rw (ea, eb)
+  module _ (n : nameable l tag ≡ true) where
+    turn-18 : (at : Ans (List ℕ)) → at ≡ refused 18 0 → turnRules f l tag c at ≡ refused 18 0
+    unfolding turnRules
+    turn-18 at e = need-so _ _ _ n ∙ bind-not _ _ _ _ e
 
--- ---- the edit
+    turn-is : (at : Ans (List ℕ)) {tags : List ℕ} → at ≡ ok tags → turnRules f l tag c at ≡ changeRules f l tag tags c
+    unfolding turnRules
+    turn-is at e = need-so _ _ _ n ∙ bind-so _ _ _ e
 
-pub level-is : (b : Bool) (id : ℕ) → Edit.levelOf (holderOf b id) ≡ levelOf b
-level-is true id = refl
-level-is false id = refl
+module _ (f : Form) (b : Bool) (id : ℕ) (c : told.Change) (v s : List ℕ) where
+  pub unnamed : nameable (levelOf b) (c .tag) ≡ false → TurnAs f b id c v s (turn.Wrong 19)
+  unnamed n = turn-19 f (levelOf b) (c .tag) _ n _
 
-module _ (f : Form) (b : Bool) (id tag : ℕ) (c : Change) (s : List ℕ) where
-  pub judged-19 : nameable (levelOf b) tag ≡ false → JudgedAs f (holderOf b id) tag c s (Wrong 19)
-  unfolding editRules
-  judged-19 n = record { verdict = sym (need-not _ _ _ (ap (λ l. nameable l tag) (level-is b id) ∙ n)); placed = tt }
+  module _ (n : nameable (levelOf b) (c .tag) ≡ true) where
+    pub unheld : Unheld f (holderOf b id) s → TurnAs f b id c v s (turn.Wrong 18)
+    unheld u = turn-18 f (levelOf b) (c .tag) _ n _ (level-none f s b id u)
 
-  module _ (n : nameable (levelOf b) tag ≡ true) where
-    named : nameable (Edit.levelOf (holderOf b id)) tag ≡ true
-    named = ap (λ l. nameable l tag) (level-is b id) ∙ n
+    module _ (h : Bytes s) (k : SetOf f s) (p : Place) (t : Placed f (holderOf b id) (c .tag) s p) where
+      abbrev tags : List ℕ
+      tags = level-at f s h k b id (c .tag) n p t .0
 
-    pub judged-18 : Unheld f (holderOf b id) s → JudgedAs f (holderOf b id) tag c s (Wrong 18)
-    unfolding editRules
-    judged-18 u = record { verdict = sym (need-so _ _ _ named ∙ bind-not _ _ 18 0 (no-tags f s (holderOf b id) u)); placed = tt }
+      tags-are : tagsAt (holderOf b id) (map partOf (keptOf f s)) ≡ ok tags
+      tags-are = level-at f s h k b id (c .tag) n p t .1
 
-    pub at-it : Bytes s → SetOf f s → (p : Place) → Placed f (holderOf b id) tag s p → EditedAt f (holderOf b id) tag s p
-    at-it h k p t = edited-at f s h k (holderOf b id) tag named p t
+      stands : has (c .tag) tags ≡ ltb (p .at) (p .next)
+      stands = level-at f s h k b id (c .tag) n p t .2
 
-    module _ {p : Place} (e : EditedAt f (holderOf b id) tag s p) where
-      change-is : {m : Ans (Unit {0})} → m ≡ changeRules f (levelOf b) tag (e .tags) c → m ≡ editRules (holderOf b id) tag c (sheetOf f s)
-      unfolding editRules
-      change-is q =
-          q ∙ ap (λ l. changeRules f l tag (e .tags) c) (sym (level-is b id))
-          ∙ sym (need-so _ _ _ named ∙ bind-so _ _ _ (e .tags-are))
+      let-through : ok tt ≡ changeRules f (levelOf b) (c .tag) tags (changeOf (c .removal) v) → {m : ℕ} → m ≡ shortOf (levelOf b) (c .tag) (changeOf (c .removal) v)
+          → {x : Cut} → x ≡ cutOf c p m → TurnAs f b id c v s (turn.Fine p x)
+      let-through e em ex = record { placed = t; tags = tags; tags-are = tags-are; stands = stands; named = n; ruled = sym e; cut-is = ex ∙ ap (cutOf c p) em }
 
-      pub judged-ok : ok tt ≡ changeRules f (levelOf b) tag (e .tags) c → {m : ℕ} → m ≡ shortOf (levelOf b) tag c → JudgedAs f (holderOf b id) tag c s (Fine p m)
-      judged-ok q em = record { verdict = change-is q; placed = (e, em ∙ ap (λ l. shortOf l tag c) (sym (level-is b id))) }
+      kept-out : {j : ℕ} → refused j 0 ≡ changeRules f (levelOf b) (c .tag) tags (changeOf (c .removal) v) → TurnAs f b id c v s (turn.Wrong j)
+      kept-out e = turn-is f (levelOf b) (c .tag) (changeOf (c .removal) v) n _ tags-are ∙ sym e
 
-      pub judged-not : {k : ℕ} → refused k 0 ≡ changeRules f (levelOf b) tag (e .tags) c → JudgedAs f (holderOf b id) tag c s (Wrong k)
-      judged-not q = record { verdict = change-is q; placed = tt }
+      module _ (r : c .removal ≡ true) where
+        removal-is : need (ltb (p .at) (p .next)) 18 ≡ changeRules f (levelOf b) (c .tag) tags (changeOf (c .removal) v)
+        unfolding changeRules
+        removal-is = rw (r, ← stands)
 
--- ---- by the change that is asked
+        pub removed : p .at < p .next → {x : Cut} → x ≡ cutOf c p 0 → TurnAs f b id c v s (turn.Fine p x)
+        unfolding need
+        removed l ex = let-through (ap (λ y. need y 18) (sym (lt-ltb _ _ l)) ∙ removal-is) (rw r) ex
 
-module _ (f : Form) (b : Bool) (id tag : ℕ) (v s : List ℕ) (n : nameable (levelOf b) tag ≡ true) {p : Place} (e : EditedAt f (holderOf b id) tag s p) {x : Bool} where
-  module _ (ex : x ≡ true) (k : ℕ) (q : answerOf k ≡ changeRules f (levelOf b) tag (e .tags) remove) where
-    pub removed-ok : k ≡ 0 → JudgedAs f (holderOf b id) tag (changeOf x v) s (Fine p 0)
-    removed-ok z = rw ex (judged-ok f b id tag remove s n e (ap answerOf (sym z) ∙ q) refl)
+        pub absent : p .next ≤ p .at → TurnAs f b id c v s (turn.Wrong 18)
+        unfolding need
+        absent l = kept-out (ap (λ y. need y 18) (sym (le-ltb _ _ l)) ∙ removal-is)
 
-    pub removed-not : (k ≡ 0 → ⊥) → JudgedAs f (holderOf b id) tag (changeOf x v) s (Wrong k)
-    removed-not z = rw ex (judged-not f b id tag remove s n e (number k z ∙ q))
+      module _ (r : c .removal ≡ false) where
+        pub put-in : {m : ℕ} → ValuedAs f (levelOf b) (c .tag) v (Size m) → {x : Cut} → x ≡ cutOf c p m → TurnAs f b id c v s (turn.Fine p x)
+        put-in (q, em) ex = let-through (rw r (q tags)) (rw r em) ex
 
-  module _ (ex : x ≡ false) where
-    pub put-ok : {m : ℕ} → ValuedAs f (levelOf b) tag v (Size m) → JudgedAs f (holderOf b id) tag (changeOf x v) s (Fine p m)
-    put-ok (q, em) = rw ex (judged-ok f b id tag (put v) s n e (q (e .tags)) em)
+        pub put-out : {j : ℕ} → ValuedAs f (levelOf b) (c .tag) v (Fault j) → TurnAs f b id c v s (turn.Wrong j)
+        put-out q = kept-out (rw r (q tags))
 
-    pub put-not : {k : ℕ} → ValuedAs f (levelOf b) tag v (Fault k) → JudgedAs f (holderOf b id) tag (changeOf x v) s (Wrong k)
-    put-not q = rw ex (judged-not f b id tag (put v) s n e (q (e .tags)))
+-- ---- the second
+
+module _ (f : Form) (a : Asked) (w s : List ℕ) (p : Place) where
+  second-by : (t : Turn) (two m : Bool) → a .two ≡ two → mayFollow (askedHolder a) (a .first .tag ∷ []) (a .second .tag) ≡ m → SecondIf f a w s p t two m → SecondAs f a w s p t
+  second-by t two m et em q =
+      subst (λ x. SecondIf f a w s p t x (mayFollow (askedHolder a) (a .first .tag ∷ []) (a .second .tag))) (sym et) (subst (SecondIf f a w s p t two) (sym em) q)
+
+  pub no-second : a .two ≡ false → {x : Cut} → x ≡ noCut (p .next) → SecondAs f a w s p (turn.Fine p x)
+  no-second e ex = second-by _ false _ e refl (ap (turn.Fine p) ex)
+
+  module _ (e : a .two ≡ true) where
+    pub second-in-set : a .set ≡ true → SecondAs f a w s p (turn.Wrong 19)
+    second-in-set es = second-by _ true false e (ap (λ b. mayFollow (holderOf b (a .id)) (a .first .tag ∷ []) (a .second .tag)) es) refl
+
+    module _ (es : a .set ≡ false) where
+      follow-is : mayFollow (askedHolder a) (a .first .tag ∷ []) (a .second .tag) ≡ not (eqb (a .first .tag) (a .second .tag) || false)
+      unfolding has
+      follow-is = ap (λ b. mayFollow (holderOf b (a .id)) (a .first .tag ∷ []) (a .second .tag)) es
+
+      pub second-same : a .first .tag ≡ a .second .tag → SecondAs f a w s p (turn.Wrong 19)
+      second-same z = second-by _ true false e (follow-is ∙ ap (λ b. not (b || false)) (eq-eqb _ _ z)) refl
+
+      pub second-turned : (a .first .tag ≡ a .second .tag → ⊥) → (t : Turn) → TurnAs f (a .set) (a .id) (a .second) w s t → SecondAs f a w s p t
+      second-turned z t q = second-by _ true true e (follow-is ∙ ap (λ b. not (b || false)) (ne-eqb _ _ z)) q

@@ -1,52 +1,65 @@
-// One item of a packet put or removed: whether it may be, where, and how many bytes of its value are put.
+// One or two items of a packet put or removed: whether they may be, where, and how many bytes of their values are put.
 ghost use mathlib.Core.Path.{_≡_};
-ghost use mathlib.Core.Bool.{true, _&&_};
+ghost use mathlib.Core.Bool.{true};
 ghost use mathlib.Core.List.{List};
 ghost use Prim.Native.Nat.{ℕ};
 ghost use lib.ListN.{length, getD};
-ghost use lib.Dec.{eqb};
-ghost use Rattle.format.specs.Lists.{has};
-ghost use Rattle.format.specs.Table.{isAlone};
-ghost use Rattle.format.specs.Edit.{mustStay, remove, changeRules};
-ghost use Rattle.items.specs.Meet.{formOf, levelOf, glanceTable, answerOf};
+ghost use Rattle.format.specs.Valid.{SheetValid};
+ghost use Rattle.items.specs.Meet.{formOf, levelOf, glanceTable};
 ghost use Rattle.items.specs.Quick.{Glanced};
 ghost use Rattle.find.specs.Places.{SetOf};
-ghost use Rattle.edit_rules.specs.Meet.{askedHolder, askedChange, ValuedAs, JudgedAs};
+ghost use Rattle.edit_rules.specs.Meet.{sheetOf, cutOf, noCut, ValuedAs, TurnAs, SecondAs};
+ghost use Rattle.edit_rules.specs.Meet.{leftBy, pairOf, partedBy, lostBy, EndsAs, inOrder, RestAs, JudgedAs};
 use find::Found;
 use find::Place;
 
-// What an edit asks for, beside the value's bytes: an item of the set, or of the target with an id, put or removed.
-pub struct Asked {
-    pub set: bool,
-    pub id: u64,
+// ---- what is asked
+
+// An item put or removed.
+pub struct Change {
     pub tag: u64,
     pub removal: bool,
 }
 
-// Tag 2 of a standalone set, and 17 of its packs.
-fn must_stay(alone: bool, set: bool, tag: u64) -> bool
-    ensures { λ r. ⌜ r ≡ (isAlone (formOf alone) && eqb tag (mustStay (levelOf set))) ⌝ }
-{
-    if alone {
-        if set {
-            return tag == 2;
-        }
-        return tag == 17;
-    }
-    false
+// What an edit asks for, beside the values' bytes: what holds the items, the set or the target with an id; the first change, and
+// whether there is a second.
+pub struct Asked {
+    pub set: bool,
+    pub id: u64,
+    pub first: Change,
+    pub two: bool,
+    pub second: Change,
 }
 
-// For a removal 18 or 14; or 0.
-fn removal_fault(alone: bool, set: bool, tag: u64, stands: bool) -> u64
-    ensures { λ r. ⌜ ((tags : List ℕ) → has tag tags ≡ stands → answerOf r ≡ changeRules (formOf alone) (levelOf set) tag tags remove) ⌝ }
-{
-    if !stands {
-        return 18;
-    }
-    if must_stay(alone, set, tag) {
-        return 14;
-    }
-    0
+// ---- what is judged
+
+// A span of the set's bytes, and what is put in its place: an item with the last `size` bytes of a value; nothing for a removal.
+pub struct Cut {
+    pub at: usize,
+    pub next: usize,
+    pub tag: u64,
+    pub removal: bool,
+    pub size: usize,
+}
+
+// Two cuts in order, and what stands around them. One change is a cut and then nothing, at its end.
+pub struct Cuts {
+    pub set: bool,
+    pub place: Place,
+    pub lo: Cut,
+    pub hi: Cut,
+}
+
+// A change in its turn: the item's place and its cut; or the number of a refusal.
+enum Turn {
+    Fine { place: Place, cut: Cut },
+    Wrong(u64),
+}
+
+// The cuts of an edit, `turned` where the second change is the lower; or the number of a refusal.
+pub enum Judged {
+    Fine { cuts: Cuts, turned: bool },
+    Wrong(u64),
 }
 
 // ---- a put
@@ -99,37 +112,206 @@ fn put_size(glances: &[u32], alone: bool, set: bool, tag: u64, v: &[u8]) -> Valu
     plain_size(alone, set, tag, v)
 }
 
-// ---- the edit
+// ---- a change
 
-// The place of the item, and how many bytes of the value are put; or the number of a refusal.
-pub enum Judged {
-    Fine { place: Place, size: usize },
-    Wrong(u64),
+// The cut of a change at its place.
+fn cut_of(c: Change, p: Place, size: usize) -> Cut
+    ensures { λ r. ⌜ r ≡ cutOf c p size ⌝ }
+{
+    Cut {
+        at: p.at,
+        next: p.next,
+        tag: c.tag,
+        removal: c.removal,
+        size,
+    }
 }
 
-// An edit of a packet's set: 19, 18, then for a put 7, 13, 11, 12, for a removal 14.
-pub fn judge(glances: &[u32], s: &[u8], alone: bool, a: Asked, v: &[u8]) -> Judged
-    requires { ⌜ (now glances ≡ glanceTable) × SetOf (formOf alone) (now s) ⌝ }
-    ensures { λ r. ⌜ JudgedAs (formOf alone) (askedHolder a) (a .tag) (askedChange a (now (v .entry))) (now (s .entry)) r ⌝ }
+// Nothing, where a change's cut ends. No item has its tag.
+fn no_cut(at: usize) -> Cut
+    ensures { λ r. ⌜ r ≡ noCut at ⌝ }
 {
-    if !items::nameable_of(a.set, a.tag) {
-        return Judged::Wrong(19);
+    Cut {
+        at,
+        next: at,
+        tag: 0,
+        removal: true,
+        size: 0,
     }
-    let f = find::place_of(s, alone, a.set, a.id, a.tag);
+}
+
+// A change as the packet has its level: 19, 18, then for a put 7, 13, 11, 12.
+fn turn_of(glances: &[u32], s: &[u8], alone: bool, set: bool, id: u64, c: Change, v: &[u8]) -> Turn
+    requires { ⌜ (now glances ≡ glanceTable) × SetOf (formOf alone) (now s) ⌝ }
+    ensures { λ r. ⌜ TurnAs (formOf alone) set id c (now (v .entry)) (now (s .entry)) r ⌝ }
+{
+    if !items::nameable_of(set, c.tag) {
+        return Turn::Wrong(19);
+    }
+    let f = find::place_of(s, alone, set, id, c.tag);
     let Found::There(place) = f else {
-        return Judged::Wrong(18);
+        return Turn::Wrong(18);
     };
-    if a.removal {
-        let stands = place.at < place.next;
-        let n = removal_fault(alone, a.set, a.tag, stands);
-        if n == 0 {
-            return Judged::Fine { place, size: 0 };
+    if c.removal {
+        if place.at < place.next {
+            let cut = cut_of(c, place, 0);
+            return Turn::Fine { place, cut };
         }
-        return Judged::Wrong(n);
+        return Turn::Wrong(18);
     }
-    let x = put_size(glances, alone, a.set, a.tag, v);
+    let x = put_size(glances, alone, set, c.tag, v);
     match x {
-        Valued::Size(size) => Judged::Fine { place, size },
-        Valued::Fault(n) => Judged::Wrong(n),
+        Valued::Size(size) => {
+            let cut = cut_of(c, place, size);
+            Turn::Fine { place, cut }
+        }
+        Valued::Fault(n) => Turn::Wrong(n),
+    }
+}
+
+// The second change, if there is one: 19 for one of the set, or one with the tag of the first; then as the packet has its level, which the
+// first does not change for another tag. p is the place of the first.
+fn second_turn(glances: &[u32], s: &[u8], alone: bool, a: Asked, p: Place, w: &[u8]) -> Turn
+    requires { ⌜ (now glances ≡ glanceTable) × SetOf (formOf alone) (now s) ⌝ }
+    ensures { λ r. ⌜ SecondAs (formOf alone) a (now (w .entry)) (now (s .entry)) p r ⌝ }
+{
+    if !a.two {
+        let cut = no_cut(p.next);
+        return Turn::Fine { place: p, cut };
+    }
+    if a.set {
+        return Turn::Wrong(19);
+    }
+    if a.first.tag == a.second.tag {
+        return Turn::Wrong(19);
+    }
+    let c = a.second;
+    turn_of(glances, s, alone, a.set, a.id, c, w)
+}
+
+// ---- what is left of the level
+
+// Whether a tag stands after a cut.
+fn left_by(c: Cut, tag: u64, stands: bool) -> bool
+    ensures { λ r. ⌜ r ≡ leftBy c tag stands ⌝ }
+{
+    if c.tag == tag { !c.removal } else { stands }
+}
+
+// Whether a target that was checked, with both of 19 and 20 or neither, had them, by the cut of either; whatever, where neither is cut.
+fn pair_stood(a: Cut, b: Cut) -> bool
+    ensures { λ r. ⌜ r ≡ pairOf a b ⌝ }
+{
+    if a.tag == 19 {
+        return a.at < a.next;
+    }
+    if a.tag == 20 {
+        return a.at < a.next;
+    }
+    b.at < b.next
+}
+
+// Whether the cuts leave it one of 19 and 20.
+fn parted(a: Cut, b: Cut) -> bool
+    ensures { λ r. ⌜ r ≡ partedBy a b ⌝ }
+{
+    let pair = pair_stood(a, b);
+    let row = left_by(b, 19, left_by(a, 19, pair));
+    let column = left_by(b, 20, left_by(a, 20, pair));
+    if row { !column } else { column }
+}
+
+// 14 where they leave a level of a standalone packet without the tag that it had, or 0.
+fn lost_fault(alone: bool, a: Cut, b: Cut, tag: u64) -> u64
+    ensures { λ r. ⌜ r ≡ lostBy (formOf alone) a b tag ⌝ }
+{
+    if !alone {
+        return 0;
+    }
+    if left_by(b, tag, left_by(a, tag, true)) {
+        return 0;
+    }
+    14
+}
+
+// On the result of both changes 20 and 14, or 0, without a look at the level: what the packet had, and the cuts, tell it all.
+fn ending_fault(alone: bool, set: bool, a: Cut, b: Cut) -> u64
+    ensures { λ r. ⌜ EndsAs (formOf alone) (levelOf set) a b r ⌝ }
+{
+    if set {
+        return lost_fault(alone, a, b, 2);
+    }
+    if parted(a, b) {
+        return 20;
+    }
+    lost_fault(alone, a, b, 17)
+}
+
+// ---- the edit
+
+// The cuts in order: two at the same end stay as they were asked.
+fn in_order(set: bool, place: Place, first: Cut, second: Cut) -> Judged
+    ensures { λ r. ⌜ r ≡ inOrder set place first second ⌝ }
+{
+    if second.at < first.at {
+        let cuts = Cuts {
+            set,
+            place,
+            lo: second,
+            hi: first,
+        };
+        return Judged::Fine { cuts, turned: true };
+    }
+    let cuts = Cuts {
+        set,
+        place,
+        lo: first,
+        hi: second,
+    };
+    Judged::Fine {
+        cuts,
+        turned: false,
+    }
+}
+
+// What follows the first change, with its place and its cut: the second in its turn, then 20 and 14 on the result of both.
+fn judge_rest(
+    glances: &[u32],
+    s: &[u8],
+    alone: bool,
+    a: Asked,
+    p: Place,
+    first: Cut,
+    w: &[u8],
+) -> Judged
+    requires { ⌜ (now glances ≡ glanceTable) × SetOf (formOf alone) (now s) × SheetValid (sheetOf (formOf alone) (now s)) ⌝ }
+    ensures { λ r. ⌜ RestAs (formOf alone) a (now (w .entry)) (now (s .entry)) p first r ⌝ }
+{
+    let t = second_turn(glances, s, alone, a, p, w);
+    match t {
+        Turn::Fine {
+            place: _,
+            cut: second,
+        } => {
+            let n = ending_fault(alone, a.set, first, second);
+            if n == 0 {
+                return in_order(a.set, p, first, second);
+            }
+            Judged::Wrong(n)
+        }
+        Turn::Wrong(n) => Judged::Wrong(n),
+    }
+}
+
+// An edit of a packet's set: each change in its turn, then what is left.
+pub fn judge(glances: &[u32], s: &[u8], alone: bool, a: Asked, v: &[u8], w: &[u8]) -> Judged
+    requires { ⌜ (now glances ≡ glanceTable) × SetOf (formOf alone) (now s) × SheetValid (sheetOf (formOf alone) (now s)) ⌝ }
+    ensures { λ r. ⌜ JudgedAs (formOf alone) a (now (v .entry)) (now (w .entry)) (now (s .entry)) r ⌝ }
+{
+    let c = a.first;
+    let t = turn_of(glances, s, alone, a.set, a.id, c, v);
+    match t {
+        Turn::Fine { place, cut } => judge_rest(glances, s, alone, a, place, cut, w),
+        Turn::Wrong(n) => Judged::Wrong(n),
     }
 }

@@ -1,7 +1,7 @@
 -- Where the calls as C makes them meet document 01: what numbers name.
 use mathlib.Core.Path.{_≡_}
 use Prim.Native.Nat.{ℕ}
-use mathlib.Core.Bool.{not}
+use mathlib.Core.Bool.{Bool, not}
 use mathlib.Core.List.{List}
 use lib.Dec.{eqb}
 use Rattle.format.specs.Answer.{Ans}
@@ -10,6 +10,8 @@ use Rattle.format.specs.Room.{leaves, oneNumber}
 use Rattle.format.specs.Edit.{Holder, Change}
 use Rattle.items.specs.Meet.{formOf}
 use Rattle.find.specs.Places.{holderOf}
+use Rattle.edit_rules.specs.declared.Change as told
+use Rattle.edit_rules.specs.declared.Asked.{Asked}
 use Rattle.edit_rules.specs.Meet.{changeOf}
 
 -- the one number r that comes back for what x answers, and what is left of the buffer that held `lent`
@@ -26,3 +28,10 @@ holderNamed level id = holderOf (eqb level 0) id
 
 abbrev pub changeNamed : ℕ → List ℕ → Change
 changeNamed removal v = changeOf (not (eqb removal 0)) v
+
+-- as `edit` is told of it
+abbrev pub changeTold : ℕ → ℕ → told.Change
+changeTold tag removal = record { tag = tag; removal = not (eqb removal 0) }
+
+abbrev pub askedBy : ℕ → ℕ → told.Change → Bool → told.Change → Asked
+askedBy level id first two second = record { set = eqb level 0; id = id; first = first; two = two; second = second }

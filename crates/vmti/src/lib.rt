@@ -1,12 +1,10 @@
 // The calls as C makes them: one number comes back.
 ghost use mathlib.Core.Path.{_≡_};
-ghost use mathlib.Core.Bool.{not};
-ghost use lib.Dec.{eqb};
 ghost use Prim.Native.Nat.{_+_, _*_, _≤_};
 ghost use mathlib.Core.List.{[], _∷_};
 ghost use Rattle.format.specs.Calls as Calls;
 ghost use Rattle.format.specs.Edit as Edit;
-ghost use Rattle.vmti.specs.Meet.{Returns, formNamed, holderNamed, changeNamed};
+ghost use Rattle.vmti.specs.Meet.{Returns, formNamed, holderNamed, changeNamed, changeTold, askedBy};
 use answers::Answer;
 use edit::edit;
 use edit_rules::Asked;
@@ -47,7 +45,7 @@ pub extern "C" fn vmti_normalise(form: u64, packet: &[u8], out: &mut [u8]) -> u6
 
 // Removal 0 is a put, any other number a removal.
 fn change(tag: u64, removal: u64) -> Change
-    ensures { λ r. ⌜ (r .tag ≡ tag) × (r .removal ≡ not (eqb removal 0)) ⌝ }
+    ensures { λ r. ⌜ r ≡ changeTold tag removal ⌝ }
 {
     Change {
         tag,
@@ -56,6 +54,19 @@ fn change(tag: u64, removal: u64) -> Change
 }
 
 // Level 0 is the set, any other number the target named.
+fn asked(level: u64, target: u64, first: Change, two: bool, second: Change) -> Asked
+    ensures { λ r. ⌜ r ≡ askedBy level target first two second ⌝ }
+{
+    Asked {
+        set: level == 0,
+        id: target,
+        first,
+        two,
+        second,
+    }
+}
+
+// One change: there is no second, whatever stands for it.
 #[no_mangle]
 pub extern "C" fn vmti_edit(
     form: u64,
@@ -71,13 +82,8 @@ pub extern "C" fn vmti_edit(
         (Edit.edit (formNamed form) (holderNamed level target) ((tag, changeNamed removal (now (value .entry))) ∷ []) (now (packet .entry)))
         r (now (out .exit)) ⌝ }
 {
-    let a = Asked {
-        set: level == 0,
-        id: target,
-        first: change(tag, removal),
-        two: false,
-        second: change(0, 1),
-    };
+    let c = change(tag, removal);
+    let a = asked(level, target, c, false, c);
     one_number(edit(packet, form != 0, a, value, value, out))
 }
 
@@ -102,12 +108,6 @@ pub extern "C" fn vmti_edit_two(
             (now (packet .entry)))
         r (now (out .exit)) ⌝ }
 {
-    let a = Asked {
-        set: level == 0,
-        id: target,
-        first: change(tag, removal),
-        two: true,
-        second: change(tag2, removal2),
-    };
+    let a = asked(level, target, change(tag, removal), true, change(tag2, removal2));
     one_number(edit(packet, form != 0, a, value, value2, out))
 }

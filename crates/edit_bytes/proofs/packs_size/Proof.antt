@@ -28,4 +28,12 @@ returns c = search needs
 
 pub packs-size-spec : {M : Type 1} → statement M
 packs-size-spec =
-    tie.close (tie.spec sub-result len-width-requires add-result add-result-2 sub-result-2 add-result-3 returns)
+    tie.close
+    (tie.spec
+    sub-result
+    len-width-requires
+    add-result
+    add-result-2
+    sub-result-2
+    add-result-3
+    returns)

@@ -1,30 +1,29 @@
--- `edit_bytes::put_front` meets its contract. z is where the sizes of the pack and of the series are known, a where the first bytes were
--- put, q where the series' tag and length were, k where the packs before were, and l where the pack's length was.
+-- `edit_bytes::put_front` meets its contract. z is where the size of the series is known, a where the first bytes were put, q where the
+-- series' tag and length were, k where the packs before were, and l where the pack's length was.
 use native.Mathlib.Omega.{arith}
 use borrow.Author.Needs.{needs}
 use Rattle.coding.proofs.Counts.{len-most}
-use Rattle.stores.proofs.copy_all.Reads as copy-all-reads
+use Rattle.edit_rules.proofs.Storing.{spans-more, alone-room, alone-stored, Fronting, first-room, series-room, packs-room, len-room, last-room, front-stored}
 use Rattle.store_coded.proofs.put_len.Reads as put-len-reads
 use Rattle.store_coded.proofs.put_series.Reads as put-series-reads
-use Rattle.edit_rules.proofs.Storing.{alone-room, alone-stored, Fronting, first-room, series-room, packs-room, len-room, last-room, front-stored}
-use Rattle.edit_bytes.proofs.body_size.Reads as body-size-reads
+use Rattle.stores.proofs.copy_all.Reads as copy-all-reads
 use Rattle.edit_bytes.proofs.packs_size.Reads as packs-size-reads
-use Rattle.edit_bytes.proofs.put_front.Statement.{statement}
-use Rattle.edit_bytes.proofs.put_front.Reads as reads
 use Rattle.edit_bytes.proofs.put_front.Lts as lts
+use Rattle.edit_bytes.proofs.put_front.Reads as reads
+use Rattle.edit_bytes.proofs.put_front.Statement.{statement}
 use Rattle.edit_bytes.proofs.put_front.Tie as tie
 
 abbrev Sized : Type 0
-Sized = lts.After-packs-size (copy-all-reads.Asked, copy-all-reads.Learnt, body-size-reads.Asked, body-size-reads.Learnt, packs-size-reads.Asked, packs-size-reads.Learnt, put-series-reads.Asked, put-series-reads.Learnt, put-len-reads.Asked, put-len-reads.Learnt) reads.Pre reads.Post
+Sized = lts.After-packs-size (copy-all-reads.Asked, copy-all-reads.Learnt, packs-size-reads.Asked, packs-size-reads.Learnt, put-series-reads.Asked, put-series-reads.Learnt, put-len-reads.Asked, put-len-reads.Learnt) reads.Pre reads.Post
 
 abbrev Call : Type 0
-Call = lts.Start (copy-all-reads.Asked, copy-all-reads.Learnt, body-size-reads.Asked, body-size-reads.Learnt, packs-size-reads.Asked, packs-size-reads.Learnt, put-series-reads.Asked, put-series-reads.Learnt, put-len-reads.Asked, put-len-reads.Learnt) reads.Pre reads.Post
+Call = lts.Start (copy-all-reads.Asked, copy-all-reads.Learnt, packs-size-reads.Asked, packs-size-reads.Learnt, put-series-reads.Asked, put-series-reads.Learnt, put-len-reads.Asked, put-len-reads.Learnt) reads.Pre reads.Post
 
 abbrev from : Sized → Call
-from z = z .before .before .before .before .before
+from z = z .before .before .before .before
 
-here : (z : Sized) → Fronting (from z .args .s .now) (from z .args .p) (from z .args .n) (from z .args .set) (from z .args .out .now) (z .before .body-size .result) (z .packs-size .result)
-here z = record { ordered = from z .pre .1; in-pack = z .before .before .if1 .left; room = from z .pre .3; body-is = z .before .body-size .ensures; packs-are = z .packs-size .ensures }
+here : (z : Sized) → Fronting (from z .args .s .now) (from z .args .k) (from z .args .n) (from z .args .out .now) (z .packs-size .result)
+here z = record { in-pack = z .before .if1 .left; room = from z .pre .3; packs-are = z .packs-size .ensures }
 
 sub-copy-all : tie.Need-sub-copy-all
 sub-copy-all c = search needs
@@ -38,7 +37,7 @@ part-copy-all-end c = search needs
 copy-all-requires : tie.Need-copy-all-requires
 copy-all-requires c κs =
     let i = c .before .before .before .before .before in
-    alone-room (i .args .s .now) (i .args .p) (i .args .n) (c .before .before .if1 .taken) (i .args .out .now) (i .pre .3)
+    alone-room (i .args .s .now) (i .args .k) (i .args .n) (c .before .before .if1 .taken) (i .args .out .now) (i .pre .3)
 
 same-length : tie.Need-same-length
 same-length c = search needs
@@ -46,13 +45,10 @@ same-length c = search needs
 returns : tie.Need-returns
 returns c =
     let i = c .before .before .before .before .before .before .before .before in
-    alone-stored (i .args .s .now) (i .args .p) (i .args .n) (c .before .before .before .before .before .if1 .taken) (i .args .out .now) (i .pre .3) (c .before .before .copy-all .ensures)
-
-body-size-requires : tie.Need-body-size-requires
-body-size-requires c κs = search needs
+    alone-stored (i .args .s .now) (i .args .k) (i .args .n) (c .before .before .before .before .before .if1 .taken) (i .args .out .now) (c .before .before .copy-all .ensures)
 
 packs-size-requires : tie.Need-packs-size-requires
-packs-size-requires c κs = search needs
+packs-size-requires c κs = let i = c .before .before .before in (spans-more _ 8192 (i .args .k) (i .pre .1) (i .pre .0), i .pre .2)
 
 sub-copy-all-2 : tie.Need-sub-copy-all-2
 sub-copy-all-2 c = search needs
@@ -70,7 +66,7 @@ put-series-requires : tie.Need-put-series-requires
 put-series-requires c κs =
     let a = c .before .before .before in
     let z = a .before .before .before in
-    (omega (arith, z .before .body-size .ensures, z .packs-size .ensures, len-most (z .before .body-size .result), from z .pre), series-room (here z) (a .copy-all2 .ensures))
+    (omega (arith, z .packs-size .ensures, len-most (from z .args .n), from z .pre), series-room (here z) (a .copy-all2 .ensures))
 
 sub-copy-all-3 : tie.Need-sub-copy-all-3
 sub-copy-all-3 c = search needs
@@ -93,7 +89,7 @@ put-len-requires c κs =
     let q = k .before .before .before .before .before in
     let a = q .before .before .before .before in
     let z = a .before .before .before in
-    (omega (arith, z .before .body-size .ensures, from z .pre), len-room (here z) (a .copy-all2 .ensures) (q .put-series .ensures) (k .copy-all3 .ensures))
+    (omega (arith, from z .pre), len-room (here z) (a .copy-all2 .ensures) (q .put-series .ensures) (k .copy-all3 .ensures))
 
 sub-copy-all-4 : tie.Need-sub-copy-all-4
 sub-copy-all-4 c = search needs
@@ -133,7 +129,6 @@ put-front-spec =
     copy-all-requires
     same-length
     returns
-    body-size-requires
     packs-size-requires
     sub-copy-all-2
     part-copy-all-start-2

@@ -1,0 +1,215 @@
+-- An edit at its cuts, by what holds the items: one change, and two of a target.
+use mathlib.Core.Path.{_≡_, refl, sym, ap, _∙_, subst}
+use mathlib.Core.Logic.{_⊎_, inl, inr}
+use Prim.Native.Nat.{ℕ, _+_, _≤_, _<_}
+use native.Mathlib.Omega.{arith}
+use mathlib.Core.Bool.{Bool, true, false}
+use mathlib.Core.List.{List, [], _∷_, map}
+use lib.ListN.{length}
+use lib.Dec.{eqb, ltb}
+use borrow.Author.Tests.{lt-ltb, le-ltb}
+use Rattle.format.specs.Answer.{ok, refused}
+use Rattle.format.specs.Coding.{Bytes, oidBytes}
+use Rattle.format.specs.Lists.{has, flatAll, askHit}
+use Rattle.format.specs.Table.{Form, set, pack, nameable}
+use Rattle.format.specs.Packet.{Item, Pack, Entry, series, tagOfItem, tagOfEntry, flatItem, flatPack, flatEntry}
+use Rattle.format.specs.Sheet.{partOf}
+use Rattle.format.specs.Edit.{Change, put, remove, Changes, theSet, target, applied, tagsAt, isSeries, editEntries}
+use Rattle.format.proofs.words.Answers.{ok-inj}
+use Rattle.format.proofs.coding.Oids.{oid-some}
+use Rattle.format.proofs.reading.Items.{length-item}
+use Rattle.format.proofs.reading.Entries.{plain-flat}
+use Rattle.format.proofs.edits.Results.{anItem, anEntry, made-tag}
+use Rattle.items.specs.Meet.{levelOf}
+use Rattle.find.specs.declared.Place.{Place}
+use Rattle.find.specs.Spots.{spotIn, Hit, hasId, itemSpot, itemLead, entryLead}
+use Rattle.find.specs.Places.{holderOf, SetOf, keptOf, TargetPlaced, Placed, Unheld}
+use Rattle.find.proofs.Splices.{ask-hit, hit-spot}
+use Rattle.edit_rules.specs.declared.Change as told
+use Rattle.edit_rules.specs.declared.Cut.{Cut}
+use Rattle.edit_rules.specs.declared.Cuts.{Cuts}
+use Rattle.edit_rules.specs.declared.Judged.the-variants.{Fine}
+use Rattle.edit_rules.specs.Meet.{changeOf, oneOf, editedOf, shortOf, itemBytes, cutOf, noCut, TurnAt, cutsOf, inOrder, CutAt, CutIf}
+use Rattle.edit_rules.specs.Cuts.{itemPut, withTwo}
+use Rattle.edit_rules.proofs.Levels.{has-spot, Swapped, alone, madeBytes, one-swap, two-swapped, Two}
+use Rattle.edit_rules.proofs.Items.{put-is, cut-says, no-cut-says}
+use Rattle.edit_rules.proofs.Sets.{set-tags, SetSpot, set-spot, set-stands, set-edits, set-spans}
+use Rattle.edit_rules.proofs.Targets.{itemsNow, target-tags, target-edits, target-spans, none-tags}
+
+-- ---- what a change puts
+
+abbrev itemMade : ℕ → Change → List ℕ
+itemMade tag c = madeBytes flatItem itemLead itemLead tagOfItem (anItem pack) tag c
+
+abbrev entryMade : ℕ → Change → List ℕ
+entryMade tag c = madeBytes flatEntry entryLead entryLead tagOfEntry anEntry tag c
+
+made-item : (tag : ℕ) (c : Change) → itemMade tag c ≡ itemBytes pack tag c
+unfolding itemBytes
+made-item tag (put v) = refl
+made-item tag remove = refl
+
+made-entry : (tag : ℕ) (c : Change) → entryMade tag c ≡ itemBytes set tag c
+unfolding itemBytes
+made-entry tag (put v) = plain-flat _
+made-entry tag remove = refl
+
+item-some : (i : Item) → 0 < length (flatItem i)
+item-some i = rw length-item (omega (arith, oid-some (i .tag)))
+
+-- ---- the first hit is one
+
+module _ {X : Type 0} (hit : X → Bool) {xs ys : List X} (e : ys ≡ xs) (a : Hit hit xs) (b : Hit hit ys) where
+  same-it : b .it ≡ a .it
+  same-it = ok-inj _ _ (sym (ask-hit hit b (λ x. ok x)) ∙ ap (askHit hit (λ x. ok x)) e ∙ ask-hit hit a (λ x. ok x))
+
+  same-before : (flat : X → List ℕ) → length (flatAll flat (b .before)) ≡ length (flatAll flat (a .before))
+  same-before flat =
+      ap (λ x. x .at) (sym (hit-spot hit flat (λ x. 0) (λ x. 0) b) ∙ ap (spotIn hit flat (λ x. 0) (λ x. 0) 0) e ∙ hit-spot hit flat (λ x. 0) (λ x. 0) a)
+
+series-same : (w w′ : ℕ) (ps ps′ : List Pack) → _≡_ {A = Entry} (series w ps) (series w′ ps′) → (w ≡ w′) × (ps ≡ ps′)
+series-same w w′ ps ps′ e = (cc, cc)
+
+pack-same : (w w′ i : ℕ) (is is′ : List Item) → _≡_ {A = Pack} (record { width = w; id = i; items = is }) (record { width = w′; id = i; items = is′ }) → (w ≡ w′) × (is ≡ is′)
+pack-same w w′ i is is′ e = (ap (λ p. p .width) e, ap (λ p. p .items) e)
+
+-- two places in a target are in the same pack
+pub pack-one : (f : Form) (id : ℕ) {tag tag′ : ℕ} (s : List ℕ) {p p′ : Place} (t : TargetPlaced f id tag s p) (t′ : TargetPlaced f id tag′ s p′) → (p′ .body ≡ p .body) × (t′ .items ≡ t .items)
+pack-one f id s {p = p} {p′ = p′} t t′ =
+    let (ew, eps) = series-same _ _ _ _ (sym (t′ .it-is) ∙ same-it isSeries refl (t .hit) (t′ .hit) ∙ t .it-is) in
+    let (ev, eis) = pack-same _ _ _ _ _ (sym (t′ .pack-is) ∙ same-it (hasId id) eps (t .pack-hit) (t′ .pack-hit) ∙ t .pack-is) in (
+      omega (
+        arith,
+        t .series-at,
+        t .packs-at,
+        t .pack-at,
+        t .body-at,
+        t′ .series-at,
+        t′ .packs-at,
+        t′ .pack-at,
+        t′ .body-at,
+        ew,
+        ev,
+        same-before isSeries refl (t .hit) (t′ .hit) flatEntry,
+        same-before (hasId id) eps (t .pack-hit) (t′ .pack-hit) flatPack,
+      ),
+      eis,
+    )
+
+-- ---- the lower first
+
+pub as-asked : (b : Bool) (p : Place) (x y : Cut) → ltb (y .at) (x .at) ≡ false → inOrder b p x y ≡ Fine (cutsOf b p x y) false
+as-asked b p x y e = rw (e, inOrder)
+
+pub turned-round : (b : Bool) (p : Place) (x y : Cut) → ltb (y .at) (x .at) ≡ true → inOrder b p x y ≡ Fine (cutsOf b p y x) true
+turned-round b p x y e = rw (e, inOrder)
+
+-- ---- by the place
+
+pub level-none : (f : Form) (s : List ℕ) (bs : Bool) (id : ℕ) → Unheld f (holderOf bs id) s → tagsAt (holderOf bs id) (map partOf (keptOf f s)) ≡ refused 18 0
+level-none f s true id u = absurd u
+level-none f s false id u = none-tags id (keptOf f s) u
+
+module _ (f : Form) (s : List ℕ) (b : Bytes s) (k : SetOf f s) where
+  module _ (id : ℕ) {tag : ℕ} {p : Place} (t : TargetPlaced f id tag s p) where
+    abbrev aPlace : Cuts
+    aPlace = cutsOf false p (noCut 0) (noCut 0)
+
+    pub target-at : (tagsAt (target id) (map partOf (keptOf f s)) ≡ ok (map tagOfItem (t .items))) × (has tag (map tagOfItem (t .items)) ≡ ltb (p .at) (p .next))
+    target-at =
+        let st = has-spot tagOfItem tag flatItem itemLead itemLead item-some (t .items) (p .body + length (oidBytes id)) (p .at) (p .next) (omega (arith, t .item-at)) (omega (arith, t .next-at)) in
+        (target-tags f s b k aPlace t, st)
+
+  pub level-at : (bs : Bool) (id tag : ℕ) → nameable (levelOf bs) tag ≡ true → (p : Place) → Placed f (holderOf bs id) tag s p
+      → (tags : List ℕ) × (tagsAt (holderOf bs id) (map partOf (keptOf f s)) ≡ ok tags) × (has tag tags ≡ ltb (p .at) (p .next))
+  level-at true id tag n p t = (map tagOfEntry (keptOf f s), set-tags (keptOf f s), set-stands f s b k tag p (set-spot f s b k tag n p t))
+  level-at false id tag n p t = let (e, st) = target-at id t in (map tagOfItem (t .items), e, st)
+
+  -- ---- one change
+
+  one-of-set : (id : ℕ) (c : told.Change) (v w : List ℕ) (p : Place) (x : Cut) → TurnAt f true id c v s p x → CutAt f theSet (oneOf c v ∷ []) s (cutsOf true p x (noCut (p .next))) v w
+  unfolding editEntries applied
+  one-of-set id c v w p x t =
+      let h = changeOf (c .removal) v in
+      let m = shortOf set (c .tag) h in
+      let q : Cuts = cutsOf true p (cutOf c p m) (noCut (p .next)) in
+      let z : SetSpot f (c .tag) s p = set-spot f s b k (c .tag) (t .named) p (t .placed) in
+      let y = alone (one-swap flatEntry entryLead entryLead tagOfEntry anEntry (c .tag) h (keptOf f s)) in
+      subst (λ r. CutAt f theSet (oneOf c v ∷ []) s (cutsOf true p r (noCut (p .next))) v w) (sym (t .cut-is)) (record {
+        cutting = record { spans = set-spans f s b k q z (oneOf c v ∷ []) (entryMade (c .tag) h) [] y refl (z .at-is) (z .next-is) (z .next-is) (z .next-is); low = cut-says f set c (t .tags) v p (t .named) (t .ruled); high = no-cut-says (p .next) w };
+        edited = set-edits f s b k q z (oneOf c v ∷ []) (entryMade (c .tag) h) [] y refl (z .at-is) (z .next-is) (z .next-is) (z .next-is)
+            ∙ ap (λ r. withTwo s q r []) (made-entry (c .tag) h ∙ sym (put-is set (c .tag) v (c .removal)));
+      })
+
+  one-of-target : (id : ℕ) (c : told.Change) (v w : List ℕ) (p : Place) (x : Cut) → TurnAt f false id c v s p x → CutAt f (target id) (oneOf c v ∷ []) s (cutsOf false p x (noCut (p .next))) v w
+  unfolding applied
+  one-of-target id c v w p x t =
+      let h = changeOf (c .removal) v in
+      let m = shortOf pack (c .tag) h in
+      let q : Cuts = cutsOf false p (cutOf c p m) (noCut (p .next)) in
+      let l = t .placed in
+      let y = alone (one-swap flatItem itemLead itemLead tagOfItem (anItem pack) (c .tag) h (l .items)) in
+      subst (λ r. CutAt f (target id) (oneOf c v ∷ []) s (cutsOf false p r (noCut (p .next))) v w) (sym (t .cut-is)) (record {
+        cutting = record { spans = target-spans f s b k q l (oneOf c v ∷ []) (itemMade (c .tag) h) [] y refl (l .item-at) (l .next-at) (l .next-at) (l .next-at); low = cut-says f pack c (t .tags) v p (t .named) (t .ruled); high = no-cut-says (p .next) w };
+        edited = target-edits f s b k q l (oneOf c v ∷ []) (itemMade (c .tag) h) [] y refl (l .item-at) (l .next-at) (l .next-at) (l .next-at)
+            ∙ ap (λ r. withTwo s q r []) (made-item (c .tag) h ∙ sym (put-is pack (c .tag) v (c .removal)));
+      })
+
+  pub one-cut : (bs : Bool) (id : ℕ) (c : told.Change) (v w : List ℕ) (p : Place) (x : Cut) → TurnAt f bs id c v s p x → CutAt f (holderOf bs id) (oneOf c v ∷ []) s (cutsOf bs p x (noCut (p .next))) v w
+  one-cut true id c v w p x t = one-of-set id c v w p x t
+  one-cut false id c v w p x t = one-of-target id c v w p x t
+
+  -- ---- two of a target
+
+  module _ (id : ℕ) (c d : told.Change) (v w : List ℕ) (p p′ : Place) (x y : Cut) (t : TurnAt f false id c v s p x) (t′ : TurnAt f false id d w s p′ y) (o : eqb (c .tag) (d .tag) ≡ false) where
+    abbrev l : TargetPlaced f id (c .tag) s p
+    l = t .placed
+
+    abbrev cs : Changes
+    cs = oneOf c v ∷ oneOf d w ∷ []
+
+    abbrev x₀ : Cut
+    x₀ = cutOf c p (shortOf pack (c .tag) (changeOf (c .removal) v))
+
+    abbrev y₀ : Cut
+    y₀ = cutOf d p′ (shortOf pack (d .tag) (changeOf (d .removal) w))
+
+    abbrev i : List ℕ
+    i = itemMade (c .tag) (changeOf (c .removal) v)
+
+    abbrev j : List ℕ
+    j = itemMade (d .tag) (changeOf (d .removal) w)
+
+    i-is : i ≡ itemPut (c .removal) (c .tag) v (x₀ .size)
+    i-is = made-item (c .tag) (changeOf (c .removal) v) ∙ sym (put-is pack (c .tag) v (c .removal))
+
+    j-is : j ≡ itemPut (d .removal) (d .tag) w (y₀ .size)
+    j-is = made-item (d .tag) (changeOf (d .removal) w) ∙ sym (put-is pack (d .tag) w (d .removal))
+
+    -- the second in the same pack
+    at-second : p′ .at ≡ p .body + (length (oidBytes id) + itemSpot (d .tag) (l .items) .at)
+    at-second = let (e, z) = pack-one f id s l (t′ .placed) in omega (arith, t′ .placed .item-at, e, ap (λ r. itemSpot (d .tag) r .at) z)
+
+    next-second : p′ .next ≡ p .body + (length (oidBytes id) + itemSpot (d .tag) (l .items) .next)
+    next-second = let (e, z) = pack-one f id s l (t′ .placed) in omega (arith, t′ .placed .next-at, e, ap (λ r. itemSpot (d .tag) r .next) z)
+
+    abbrev both : Type 0
+    both = Two flatItem itemLead itemLead tagOfItem (anItem pack) (made-tag pack) item-some (c .tag) (changeOf (c .removal) v) (d .tag) (changeOf (d .removal) w) o (l .items)
+
+    in-order : both → CutIf f (target id) cs s v w (inOrder false p x₀ y₀)
+    unfolding applied
+    in-order (inl (le, z)) =
+        let q : Cuts = cutsOf false p x₀ y₀ in
+        subst (CutIf f (target id) cs s v w) (sym (as-asked false p x₀ y₀ (le-ltb (p′ .at) (p .at) (omega (arith, le, at-second, l .item-at))))) (record {
+          cutting = record { spans = target-spans f s b k q l cs i j z refl (l .item-at) (l .next-at) at-second next-second; low = cut-says f pack c (t .tags) v p (t .named) (t .ruled); high = cut-says f pack d (t′ .tags) w p′ (t′ .named) (t′ .ruled) };
+          edited = target-edits f s b k q l cs i j z refl (l .item-at) (l .next-at) at-second next-second ∙ ap (λ r. withTwo s q r j) i-is ∙ ap (withTwo s q _) j-is;
+        })
+    in-order (inr (lt, z)) =
+        let q : Cuts = cutsOf false p y₀ x₀ in
+        subst (CutIf f (target id) cs s v w) (sym (turned-round false p x₀ y₀ (lt-ltb (p′ .at) (p .at) (omega (arith, lt, at-second, l .item-at))))) (record {
+          cutting = record { spans = target-spans f s b k q l cs j i z refl at-second next-second (l .item-at) (l .next-at); low = cut-says f pack d (t′ .tags) w p′ (t′ .named) (t′ .ruled); high = cut-says f pack c (t .tags) v p (t .named) (t .ruled) };
+          edited = target-edits f s b k q l cs j i z refl at-second next-second (l .item-at) (l .next-at) ∙ ap (λ r. withTwo s q r i) j-is ∙ ap (withTwo s q _) i-is;
+        })
+
+    pub two-cuts : CutIf f (target id) cs s v w (inOrder false p x y)
+    two-cuts = rw (t .cut-is, t′ .cut-is) (in-order (two-swapped flatItem itemLead itemLead tagOfItem (anItem pack) (made-tag pack) item-some (c .tag) (changeOf (c .removal) v) (d .tag) (changeOf (d .removal) w) o (l .items)))

@@ -1,0 +1,147 @@
+-- `edit_rules::turn_of` meets its contract. a is where the item may be named, and p where its place was found.
+use mathlib.Core.Path.{_≡_, sym, _∙_, subst}
+use mathlib.Core.Bool.{true}
+use borrow.Author.Needs.{needs}
+use borrow.Author.Tests.{not-true, not-false}
+use Rattle.format.specs.Coding.{Bytes}
+use Rattle.format.specs.Table.{nameable}
+use Rattle.items.specs.Meet.{formOf, levelOf}
+use Rattle.items.proofs.nameable_of.Reads as nameable-of-reads
+use Rattle.find.specs.Places.{holderOf, Placed, FoundIs}
+use Rattle.find.proofs.place_of.Reads as place-of-reads
+use Rattle.edit_rules.specs.Meet.{ValuedAs}
+use Rattle.edit_rules.proofs.Rules.{unnamed, unheld, removed, absent, put-in, put-out}
+use Rattle.edit_rules.proofs.cut_of.Reads as cut-of-reads
+use Rattle.edit_rules.proofs.put_size.Reads as put-size-reads
+use Rattle.edit_rules.proofs.turn_of.Statement.{statement}
+use Rattle.edit_rules.proofs.turn_of.Reads as reads
+use Rattle.edit_rules.proofs.turn_of.Lts as lts
+use Rattle.edit_rules.proofs.turn_of.Tie as tie
+
+abbrev claims : lts.Claims
+claims = (
+  nameable-of-reads.Asked,
+  nameable-of-reads.Learnt,
+  place-of-reads.Asked,
+  place-of-reads.Learnt,
+  cut-of-reads.Asked,
+  cut-of-reads.Learnt,
+  put-size-reads.Asked,
+  put-size-reads.Learnt,
+)
+
+abbrev Named : Type 0
+Named = lts.Else1 claims reads.Pre reads.Post
+
+abbrev AtPlace : Type 0
+AtPlace = lts.After-f claims reads.Pre reads.Post
+
+abbrev Call : Type 0
+Call = lts.Start claims reads.Pre reads.Post
+
+abbrev from : Named → Call
+from a = a .before .before .before .before .before
+
+abbrev up : AtPlace → Named
+up p = p .before .before .before
+
+named : (a : Named) → nameable (levelOf (from a .args .set)) (from a .args .c .tag) ≡ true
+named a = sym (a .before .nameable-of .ensures) ∙ not-false _ (a .if1 .left)
+
+bytes : (a : Named) → Bytes (from a .args .s .now)
+bytes a = λ n. a .before .before .before .shared-slice-known2 .given n .fits
+
+here : (p : AtPlace) → Placed (formOf (from (up p) .args .alone)) (holderOf (from (up p) .args .set) (from (up p) .args .id)) (from (up p) .args .c .tag) (from (up p) .args .s .now) (p .f .given .0 .0)
+here p =
+    let i = from (up p) .args in
+    subst (FoundIs (formOf (i .alone)) (holderOf (i .set) (i .id)) (i .c .tag) (i .s .now)) (p .f .given .1) (p .before .before .place-of .ensures)
+
+nameable-of-requires : tie.Need-nameable-of-requires
+nameable-of-requires c κs = search needs
+
+returns : tie.Need-returns
+returns c =
+    let i = c .before .before .before .before .before .args in
+    unnamed (formOf (i .alone)) (i .set) (i .id) (i .c) (i .v .now) (i .s .now) (sym (c .before .nameable-of .ensures) ∙ not-true _ (c .if1 .taken))
+
+place-of-requires : tie.Need-place-of-requires
+place-of-requires c κs = search needs
+
+enum-known-f : tie.Need-enum-known-f
+enum-known-f c = search needs
+
+enum-told : tie.Need-enum-told
+enum-told c = search needs
+
+returns-2 : tie.Need-returns-2
+returns-2 c =
+    let a = c .before .before .before in
+    let i = from a .args in
+    unheld (formOf (i .alone)) (i .set) (i .id) (i .c) (i .v .now) (i .s .now) (named a)
+    (subst (FoundIs (formOf (i .alone)) (holderOf (i .set) (i .id)) (i .c .tag) (i .s .now)) (c .enum-told .given .1) (c .before .before .place-of .ensures))
+
+cut-of-requires : tie.Need-cut-of-requires
+cut-of-requires c κs = search needs
+
+returns-3 : tie.Need-returns-3
+returns-3 c =
+    let p = c .before .before .before .before .before in
+    let i = from (up p) in
+    removed (formOf (i .args .alone)) (i .args .set) (i .args .id) (i .args .c) (i .args .v .now) (i .args .s .now) (named (up p)) (bytes (up p)) (i .pre .1) _ (here p)
+    (c .before .before .before .if2 .taken) (c .before .if3 .taken) (c .cut-of .ensures)
+
+returns-4 : tie.Need-returns-4
+returns-4 c =
+    let p = c .before .before .before .before in
+    let i = from (up p) in
+    absent (formOf (i .args .alone)) (i .args .set) (i .args .id) (i .args .c) (i .args .v .now) (i .args .s .now) (named (up p)) (bytes (up p)) (i .pre .1) _ (here p)
+    (c .before .before .if2 .taken) (c .if3 .left)
+
+put-size-requires : tie.Need-put-size-requires
+put-size-requires c κs = search needs
+
+enum-known-x : tie.Need-enum-known-x
+enum-known-x c = search needs
+
+cut-of-requires-2 : tie.Need-cut-of-requires-2
+cut-of-requires-2 c κs = search needs
+
+enum-known-x-2 : tie.Need-enum-known-x-2
+enum-known-x-2 c = search needs
+
+returns-5 : tie.Need-returns-5
+returns-5 c =
+    let p = c .before .before .before .before .before .before .before in
+    let i = from (up p) in
+    put-in (formOf (i .args .alone)) (i .args .set) (i .args .id) (i .args .c) (i .args .v .now) (i .args .s .now) (named (up p)) (bytes (up p)) (i .pre .1) _ (here p)
+    (c .before .before .before .before .before .if2 .left)
+    (subst (ValuedAs (formOf (i .args .alone)) (levelOf (i .args .set)) (i .args .c .tag) (i .args .v .now)) (c .before .before .x .given .1) (c .before .before .before .before .put-size .ensures))
+    (c .cut-of2 .ensures)
+
+returns-6 : tie.Need-returns-6
+returns-6 c =
+    let p = c .before .before .before .before .before .before in
+    let i = from (up p) in
+    put-out (formOf (i .args .alone)) (i .args .set) (i .args .id) (i .args .c) (i .args .v .now) (i .args .s .now) (named (up p)) (bytes (up p)) (i .pre .1) _ (here p)
+    (c .before .before .before .before .if2 .left)
+    (subst (ValuedAs (formOf (i .args .alone)) (levelOf (i .args .set)) (i .args .c .tag) (i .args .v .now)) (c .before .x2 .given .1) (c .before .before .before .put-size .ensures))
+
+pub turn-of-spec : {M : Type 1} → statement M
+turn-of-spec =
+    tie.close
+    (tie.spec
+    nameable-of-requires
+    returns
+    place-of-requires
+    enum-known-f
+    enum-told
+    returns-2
+    cut-of-requires
+    returns-3
+    returns-4
+    put-size-requires
+    enum-known-x
+    cut-of-requires-2
+    enum-known-x-2
+    returns-5
+    returns-6)

@@ -1,5 +1,5 @@
--- The call `edit`, case by case: the packet's own refusal, the edit's, and the edited packet.
-use mathlib.Core.Path.{_≡_, refl, sym, ap, _∙_, subst}
+-- The call `edit`, case by case: the packet's own refusal, the edit's, a value that is too long, and the edited packet.
+use mathlib.Core.Path.{_≡_, refl, sym, ap, _∙_}
 use Prim.Native.Nat.{ℕ, _≤_, _<_}
 use native.Mathlib.Omega.{arith}
 use mathlib.Core.Bool.{Bool, true, false, not, _&&_}
@@ -7,13 +7,13 @@ use mathlib.Core.List.{List}
 use lib.ListN.{length}
 use lib.Dec.{ltb}
 use borrow.Author.Tests.{ltb-true, ltb-false}
-use Rattle.format.specs.Answer.{ok}
+use Rattle.format.specs.Lists.{flatAll}
 use Rattle.format.specs.Table.{Form}
-use Rattle.format.specs.Packet.{closed}
+use Rattle.format.specs.Packet.{Entry, flatEntry, closed}
 use Rattle.format.specs.Read.{parse}
 use Rattle.format.specs.Calls.{packed}
 use Rattle.format.specs.Room.{leaves}
-use Rattle.format.specs.Edit.{Holder, Change, editRules, editEntries, edit}
+use Rattle.format.specs.Edit.{Holder, Changes, editEntries, edit}
 use Rattle.format.proofs.words.Answers.{no-bool}
 use Rattle.format.proofs.sheets.Normal.{entries-less}
 use Rattle.items.proofs.Tests.{bind-so, bind-not}
@@ -22,70 +22,81 @@ use Rattle.check_packet.specs.declared.Checked.the-variants.{Wrong}
 use Rattle.check_packet.specs.Meet.{checkedOf}
 use Rattle.check_packet.proofs.Parsing.{wrong-parsed}
 use Rattle.frames.specs.Meet.{frameSize}
-use Rattle.find.specs.declared.Place.{Place}
 use Rattle.find.specs.Places.{keptOf}
+use Rattle.edit_rules.specs.declared.Asked.{Asked}
+use Rattle.edit_rules.specs.declared.Cuts.{Cuts}
 use Rattle.edit_rules.specs.declared.Judged.{Judged}
 use Rattle.edit_rules.specs.declared.Judged.the-variants as judged
-use Rattle.edit_rules.specs.Meet.{changeOf, sheetOf, editedOf, setEdited, EditedAt, verdictOf, EditedIf, JudgedAs, Brief}
-use Rattle.edit_rules.proofs.Callers.{judged-no, long-edit}
+use Rattle.edit_rules.specs.Meet.{changesOf, askedHolder, setEdited, lowOf, JudgedAs}
+use Rattle.edit_rules.specs.Cuts.{Cutting, Putting, cutBytes}
+use Rattle.edit_rules.proofs.Callers.{judged-no, judged-yes, judged-cuts, cuts-put, long-low, long-high}
 use Rattle.answers.specs.declared.Answer.{Answer}
 use Rattle.answers.specs.Meet.{leftOf, answerOf, refusalOf}
 use Rattle.answers.proofs.Leaving.{left-refused}
 use Rattle.answers.proofs.Packing.{Packs, size-is, packs-long}
-use Rattle.edit.specs.Meet.{judgedRefusal}
+use Rattle.edit.specs.Meet.{judgedRefusal, Entered, CutPacked}
 
--- `over_long`, of the change
+-- `over_long`
 module _ (removal : Bool) (v : List ℕ) {x : Bool} (ex : x ≡ (not removal && ltb 8192 (length v))) where
-  pub not-long : x ≡ false → Brief (changeOf removal v)
-  not-long tx = go removal (sym ex ∙ tx)
-    where
-      go : (r : Bool) → not r && ltb 8192 (length v) ≡ false → Brief (changeOf r v)
-      go true z = tt
-      go false z = ltb-false 8192 (length v) z
+  not-long : x ≡ false → removal ≡ false → length v ≤ 8192
+  not-long tx er = ltb-false 8192 (length v) (ap (λ r. not r && ltb 8192 (length v)) (sym er) ∙ sym ex ∙ tx)
 
-  long-change : (f : Form) (h : Holder) (tag : ℕ) (s : List ℕ) (p : Place) → x ≡ true → EditedAt f h tag s p → editRules h tag (changeOf removal v) (sheetOf f s) ≡ ok tt
-      → 8192 < length (editedOf f h tag (changeOf removal v) s)
-  long-change f h tag s p tx k = go removal (sym ex ∙ tx)
+  is-long : x ≡ true → (removal ≡ false) × (8192 < length v)
+  is-long tx = go removal refl (sym ex ∙ tx)
     where
-      go : (r : Bool) → not r && ltb 8192 (length v) ≡ true → editRules h tag (changeOf r v) (sheetOf f s) ≡ ok tt → 8192 < length (editedOf f h tag (changeOf r v) s)
-      go true z e = absurd (no-bool z)
-      go false z e = long-edit f h tag v s p k tt e (ltb-true 8192 (length v) z)
+      go : (r : Bool) → removal ≡ r → not r && ltb 8192 (length v) ≡ true → (removal ≡ false) × (8192 < length v)
+      go true er z = no-bool z
+      go false er z = (er, ltb-true 8192 (length v) z)
 
 -- ---- the packet
 
-module _ (f : Form) (s : List ℕ) (h : Holder) (tag : ℕ) (ch : Change) {c : Checked} (ec : c ≡ checkedOf (parse f s)) where
-  pub edit-unread : (lent : List ℕ) {n k : ℕ} {r : Answer} → c ≡ Wrong n k → r ≡ refusalOf c → leftOf r lent ≡ leaves lent (edit f h tag ch s)
-  unfolding edit
-  edit-unread lent {n = n} {k = k} t e = left-refused lent (bind-not (parse f s) _ n k (wrong-parsed f s n k (sym t ∙ ec))) (e ∙ ap refusalOf t)
+pub edit-unread : (f : Form) (s : List ℕ) (h : Holder) (cs : Changes) {c : Checked} → c ≡ checkedOf (parse f s) → (lent : List ℕ) {n k : ℕ} {r : Answer} → c ≡ Wrong n k → r ≡ refusalOf c
+    → leftOf r lent ≡ leaves lent (edit f h cs s)
+unfolding edit
+edit-unread f s h cs ec lent {n = n} {k = k} t e = left-refused lent (bind-not (parse f s) _ n k (wrong-parsed f s n k (sym t ∙ ec))) (e ∙ ap refusalOf t)
 
 -- ---- its set, where r is the answer on the rules
 
-module _ (f : Form) (h : Holder) (tag : ℕ) (ch : Change) (s : List ℕ) {r : Judged} (j : JudgedAs f h tag ch s r) where
-  pub set-refused : (lent : List ℕ) {n : ℕ} {q : Answer} → r ≡ judged.Wrong n → q ≡ judgedRefusal r → leftOf q lent ≡ leaves lent (setEdited f h tag ch s)
+module _ (f : Form) (a : Asked) (v w s : List ℕ) {r : Judged} (j : JudgedAs f a v w s r) where
+  pub set-refused : (lent : List ℕ) {n : ℕ} {q : Answer} → r ≡ judged.Wrong n → q ≡ judgedRefusal r → leftOf q lent ≡ leaves lent (setEdited f (askedHolder a) (changesOf a v w) s)
   unfolding setEdited
-  set-refused lent tr e = left-refused lent (bind-not _ _ _ _ (judged-no f h tag ch s j tr)) (e ∙ ap judgedRefusal tr)
+  set-refused lent tr e = left-refused lent (bind-not _ _ _ _ (judged-no f a v w s j tr)) (e ∙ ap judgedRefusal tr)
 
-  module _ {p : Place} {m : ℕ} (tr : r ≡ judged.Fine p m) where
-    ruled : editRules h tag ch (sheetOf f s) ≡ ok tt
-    ruled = sym (j .verdict) ∙ ap verdictOf tr
+  module _ {k : Cuts} {t : Bool} (tr : r ≡ judged.Fine k t) where
+    abbrev es : List Entry
+    es = editEntries (askedHolder a) (changesOf a v w) (keptOf f s)
 
-    pub set-packed : setEdited f h tag ch s ≡ packed (closed f (editEntries h tag ch (keptOf f s)))
+    set-packed : setEdited f (askedHolder a) (changesOf a v w) s ≡ packed (closed f es)
     unfolding setEdited
-    set-packed = bind-so _ _ tt ruled
+    set-packed = bind-so _ _ tt (judged-yes f a v w s j tr)
 
-    -- a put of more bytes than a packet may have
-    pub set-over : (removal : Bool) (v : List ℕ) → ch ≡ changeOf removal v → {x : Bool} → x ≡ (not removal && ltb 8192 (length v)) → x ≡ true
-        → (lent : List ℕ) {q : Answer} → q ≡ answerOf 1 0 → leftOf q lent ≡ leaves lent (setEdited f h tag ch s)
-    set-over removal v ev ex tx lent e =
-        let k : Packs (setEdited f h tag ch s) f (editEntries h tag ch (keptOf f s)) (length (editedOf f h tag ch s)) (frameSize f (length (editedOf f h tag ch s)))
-        = record { packet = closed f (editEntries h tag ch (keptOf f s)); answers = set-packed; closes = refl; entries = refl; frame = refl } in
-        let long : 8192 < length (editedOf f h tag ch s)
-        = subst (λ y. 8192 < length (editedOf f h tag y s)) (sym ev)
-        (long-change removal v ex f h tag s p tx (subst (EditedIf f h tag ch s) tr (j .placed) .0) (subst (λ y. editRules h tag y (sheetOf f s) ≡ ok tt) ev ruled)) in
-        packs-long k lent (omega (arith, long, size-is k, entries-less f (editEntries h tag ch (keptOf f s)))) e
+    -- the values as they belong to the cuts
+    module _ {v′ w′ : List ℕ} (ev : lowOf t v w ≡ v′) (ew : lowOf t w v ≡ w′) where
+      pub cuts-asked : length s ≤ 8192 → (length s ≤ 8192) × Cutting s k v′ w′ × Entered s k v′ w′
+      cuts-asked l = let q = judged-cuts f a v w s j tr in rw (← ev, ← ew) (l, q .cutting, (es, q .edited))
 
--- ---- the change at its place: n is how many bytes the entries take, size the packet
+      pub cuts-left : (lent left : List ℕ) {q : Answer} → CutPacked f s k v′ w′ lent q left → leftOf q left ≡ leaves lent (setEdited f (askedHolder a) (changesOf a v w) s)
+      cuts-left lent left p = p es (rw (← ev, ← ew) (judged-cuts f a v w s j tr .edited)) ∙ ap (leaves lent) (sym set-packed)
 
-pub edit-packs : (f : Form) (h : Holder) (tag : ℕ) (ch : Change) (s : List ℕ) {n size : ℕ} → n ≡ length (editedOf f h tag ch s) → size ≡ frameSize f n
-    → Packs (packed (closed f (editEntries h tag ch (keptOf f s)))) f (editEntries h tag ch (keptOf f s)) n size
-edit-packs f h tag ch s en ez = record { packet = closed f (editEntries h tag ch (keptOf f s)); answers = refl; closes = refl; entries = sym en; frame = ez }
+-- ---- what the cuts put: n is how many bytes the entries take, size the packet
+
+pub cut-packs : (f : Form) (es : List Entry) {n size : ℕ} → n ≡ length (flatAll flatEntry es) → size ≡ frameSize f n → Packs (packed (closed f es)) f es n size
+cut-packs f es en ez = record { packet = closed f es; answers = refl; closes = refl; entries = sym en; frame = ez }
+
+module _ (f : Form) (s : List ℕ) (k : Cuts) (v w : List ℕ) (q : Cutting s k v w) where
+  -- more bytes than a packet may have
+  over : 8192 < length (cutBytes s k v w) → (lent : List ℕ) {r : Answer} → r ≡ answerOf 1 0 → CutPacked f s k v w lent r lent
+  over l lent e es ee =
+      let p = cut-packs f es refl refl in
+      packs-long p lent (omega (arith, l, ap length ee, size-is p, entries-less f es)) e
+
+  module _ {x : Bool} (ex : x ≡ (not (k .lo .removal) && ltb 8192 (length v))) where
+    pub low-over : x ≡ true → (lent : List ℕ) {r : Answer} → r ≡ answerOf 1 0 → CutPacked f s k v w lent r lent
+    low-over tx = let (e, l) = is-long (k .lo .removal) v ex tx in over (long-low s k v w q e l)
+
+    module _ (tx : x ≡ false) {y : Bool} (ey : y ≡ (not (k .hi .removal) && ltb 8192 (length w))) where
+      pub high-over : y ≡ true → (lent : List ℕ) {r : Answer} → r ≡ answerOf 1 0 → CutPacked f s k v w lent r lent
+      high-over ty = let (e, l) = is-long (k .hi .removal) w ey ty in over (long-high s k v w q e l)
+
+      pub none-over : y ≡ false → length s ≤ 8192 → Putting s k v w
+      none-over ty l = cuts-put s k v w q l (not-long (k .lo .removal) v ex tx) (not-long (k .hi .removal) w ey ty)

@@ -15,7 +15,6 @@ use Rattle.format.specs.Sheet.{Sheet, partOf, content}
 use Rattle.format.specs.Calls.{packed}
 use Rattle.format.specs.Edit.{Holder, Changes, editRules, editEntries, editPacket, edit}
 use Rattle.format.specs.Valid.{SheetValid}
-use Rattle.format.proofs.words.Answers.{no-bool}
 use Rattle.format.proofs.reading.Packets.{parse-says}
 use Rattle.format.proofs.sheets.Content.{content-valid}
 use Rattle.items.specs.Meet.{levelOf}

@@ -1,7 +1,7 @@
 -- An edit at its cuts, by what holds the items: one change, and two of a target.
 use mathlib.Core.Path.{_≡_, refl, sym, ap, _∙_, subst}
-use mathlib.Core.Logic.{_⊎_, inl, inr}
-use Prim.Native.Nat.{ℕ, _+_, _≤_, _<_}
+use mathlib.Core.Logic.{inl, inr}
+use Prim.Native.Nat.{ℕ, _+_, _<_}
 use native.Mathlib.Omega.{arith}
 use mathlib.Core.Bool.{Bool, true, false}
 use mathlib.Core.List.{List, [], _∷_, map}
@@ -29,12 +29,12 @@ use Rattle.edit_rules.specs.declared.Change as told
 use Rattle.edit_rules.specs.declared.Cut.{Cut}
 use Rattle.edit_rules.specs.declared.Cuts.{Cuts}
 use Rattle.edit_rules.specs.declared.Judged.the-variants.{Fine}
-use Rattle.edit_rules.specs.Meet.{changeOf, oneOf, editedOf, shortOf, itemBytes, cutOf, noCut, TurnAt, cutsOf, inOrder, CutAt, CutIf}
+use Rattle.edit_rules.specs.Meet.{changeOf, oneOf, shortOf, itemBytes, cutOf, noCut, TurnAt, cutsOf, inOrder, CutAt, CutIf}
 use Rattle.edit_rules.specs.Cuts.{itemPut, withTwo}
-use Rattle.edit_rules.proofs.Levels.{has-spot, Swapped, alone, madeBytes, one-swap, two-swapped, Two}
+use Rattle.edit_rules.proofs.Levels.{has-spot, alone, madeBytes, one-swap, two-swapped, Two}
 use Rattle.edit_rules.proofs.Items.{put-is, cut-says, no-cut-says}
 use Rattle.edit_rules.proofs.Sets.{set-tags, SetSpot, set-spot, set-stands, set-edits, set-spans}
-use Rattle.edit_rules.proofs.Targets.{itemsNow, target-tags, target-edits, target-spans, none-tags}
+use Rattle.edit_rules.proofs.Targets.{target-tags, target-edits, target-spans, none-tags}
 
 -- ---- what a change puts
 

@@ -6,9 +6,9 @@ use mathlib.Core.Bool.{Bool, true, false, not, _||_}
 use mathlib.Core.List.{List}
 use lib.Dec.{eqb, ltb}
 use borrow.Author.Tests.{eqb-true, eq-eqb, ne-eqb, not-true, not-false}
-use Rattle.format.specs.Answer.{ok, refused, need, _>>=_}
+use Rattle.format.specs.Answer.{ok, refused, need}
 use Rattle.format.specs.Lists.{has}
-use Rattle.format.specs.Table.{Form, embedded, standalone, set, pack, isAlone, alike, ended}
+use Rattle.format.specs.Table.{Form, embedded, standalone, isAlone, alike, ended}
 use Rattle.format.specs.Edit.{ending}
 use Rattle.format.proofs.words.Answers.{no-bool, need-then, need-last}
 use Rattle.items.specs.Meet.{formOf, levelOf, answerOf}

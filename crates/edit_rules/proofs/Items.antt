@@ -21,9 +21,8 @@ use Rattle.store_coded.proofs.Codings.{short-total}
 use Rattle.store_coded.proofs.Shortest.{short-less, last-is}
 use Rattle.find.specs.declared.Place.{Place}
 use Rattle.edit_rules.specs.declared.Change as told
-use Rattle.edit_rules.specs.declared.Cut.{Cut}
 use Rattle.edit_rules.specs.Meet.{changeOf, shortOf, itemBytes, cutOf, noCut}
-use Rattle.edit_rules.specs.Cuts.{lastOf, itemPut, itemSize, cutPut, cutSize, CutOf}
+use Rattle.edit_rules.specs.Cuts.{lastOf, itemPut, itemSize, CutOf}
 
 -- ---- how many bytes
 

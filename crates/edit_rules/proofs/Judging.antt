@@ -1,6 +1,6 @@
 -- The rules of an edit of one or two changes: each in its turn, then what is left of the level.
 use mathlib.Core.Path.{_≡_, refl, sym, ap, _∙_, subst}
-use Prim.Native.Nat.{ℕ, zero, suc, _<_, _≤_}
+use Prim.Native.Nat.{ℕ, _<_}
 use native.Mathlib.Omega.{arith}
 use mathlib.Core.Bool.{Bool, true, false, not, _&&_, _||_}
 use mathlib.Core.List.{List, [], _∷_, map}
@@ -8,13 +8,13 @@ use lib.Dec.{eqb, ltb}
 use borrow.Author.Tests.{le-ltb, ne-eqb}
 use Rattle.format.specs.Answer.{Ans, ok, refused, need, _>>=_}
 use Rattle.format.specs.Coding.{Bytes}
-use Rattle.format.specs.Lists.{none?, has}
+use Rattle.format.specs.Lists.{has}
 use Rattle.format.specs.Table.{Form, nameable}
 use Rattle.format.specs.Sheet.{partOf}
 use Rattle.format.specs.Edit.{Holder, theSet, target, Change, put, remove, Changes, tagsAt, changeRules, mayFollow, turns, ending, editRules}
 use Rattle.format.specs.Edit as Edit
 use Rattle.format.specs.Valid.{Once, SheetValid}
-use Rattle.format.proofs.words.Answers.{no-bool, ok-inj, never}
+use Rattle.format.proofs.words.Answers.{no-bool, ok-inj}
 use Rattle.format.proofs.words.Changes.{changedKeys, isPut, once-changed, has-other, has-changed}
 use Rattle.format.proofs.edits.Levels.{level-valid}
 use Rattle.items.specs.Meet.{levelOf, answerOf}
@@ -27,7 +27,7 @@ use Rattle.edit_rules.specs.declared.Asked.{Asked}
 use Rattle.edit_rules.specs.declared.Turn.the-variants as turn
 use Rattle.edit_rules.specs.declared.Judged.{Judged}
 use Rattle.edit_rules.specs.declared.Judged.the-variants.{Wrong}
-use Rattle.edit_rules.specs.Meet.{changeOf, oneOf, alsoOf, changesOf, askedHolder, sheetOf, cutOf, noCut, turnRules, TurnAt, TurnAs, SecondIf, SecondAs, leftBy, EndsAs, inOrder, verdictOf, CutIf, JudgedAs}
+use Rattle.edit_rules.specs.Meet.{changeOf, oneOf, alsoOf, changesOf, askedHolder, sheetOf, noCut, turnRules, TurnAt, TurnAs, SecondIf, SecondAs, leftBy, EndsAs, inOrder, verdictOf, CutIf, JudgedAs}
 use Rattle.edit_rules.proofs.Edits.{as-asked, turned-round, one-cut, two-cuts}
 use Rattle.edit_rules.proofs.Rules.{number}
 

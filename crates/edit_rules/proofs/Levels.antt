@@ -11,7 +11,6 @@ use lib.Dec.{eqb, ltb}
 use borrow.Author.Tests.{lt-ltb, le-ltb, eqb-true}
 use Rattle.format.specs.Lists.{has, flatAll, putIn, takeOut}
 use Rattle.format.specs.Edit.{Change, put, remove, changed}
-use Rattle.format.proofs.words.Flats.{flat-append}
 use Rattle.find.specs.Spots.{spotIn, Missed, Hit, splice}
 use Rattle.find.proofs.Splices.{place, hit-spot, missed-spot, spot-hit, spot-room, splice-put, splice-out, has-hit, has-absent}
 use Rattle.edit_rules.specs.Cuts.{part}

@@ -7,12 +7,12 @@ use mathlib.Core.List.{List, [], _∷_, map}
 use lib.ListN.{length, getD}
 use lib.Dec.{eqb, ltb}
 use borrow.Author.Tests.{lt-ltb, le-ltb, eq-eqb, ne-eqb}
-use Rattle.format.specs.Answer.{Ans, ok, refused, need, _>>=_}
+use Rattle.format.specs.Answer.{Ans, ok, refused, need}
 use Rattle.format.specs.Coding.{Bytes}
 use Rattle.format.specs.Lists.{has}
 use Rattle.format.specs.Table.{Form, Level, Rule, ruleOf, nameable, mayStand, valued, short}
 use Rattle.format.specs.Sheet.{partOf}
-use Rattle.format.specs.Edit.{Change, put, remove, tagsAt, changeRules, mayFollow}
+use Rattle.format.specs.Edit.{Change, put, tagsAt, changeRules, mayFollow}
 use Rattle.items.specs.Meet.{levelOf, answerOf}
 use Rattle.items.specs.Quick.{Glanced}
 use Rattle.items.proofs.Glances.{as-same}
@@ -25,7 +25,7 @@ use Rattle.edit_rules.specs.declared.Valued.the-variants.{Size, Fault}
 use Rattle.edit_rules.specs.declared.Asked.{Asked}
 use Rattle.edit_rules.specs.declared.Turn.{Turn}
 use Rattle.edit_rules.specs.declared.Turn.the-variants as turn
-use Rattle.edit_rules.specs.Meet.{changeOf, askedHolder, shortOf, cutOf, noCut, turnRules, ValuedAs, TurnAt, TurnAs, SecondIf, SecondAs}
+use Rattle.edit_rules.specs.Meet.{changeOf, askedHolder, shortOf, cutOf, noCut, turnRules, ValuedAs, TurnAs, SecondIf, SecondAs}
 use Rattle.edit_rules.proofs.Edits.{level-at, level-none}
 
 -- some bytes

@@ -1,6 +1,6 @@
 -- An edit of the set at its cuts.
 use mathlib.Core.Path.{_≡_, refl, sym, ap, _∙_}
-use Prim.Native.Nat.{ℕ, _+_, _≤_, _<_}
+use Prim.Native.Nat.{ℕ, _+_}
 use native.Mathlib.Omega.{arith}
 use mathlib.Core.Bool.{Bool, true, false}
 use mathlib.Core.List.{List, _++_, append-assoc, map}
@@ -13,7 +13,7 @@ use Rattle.format.specs.Lists.{has, flatAll}
 use Rattle.format.specs.Table.{Form, set, nameable}
 use Rattle.format.specs.Packet.{Entry, tagOfEntry, flatEntry}
 use Rattle.format.specs.Sheet.{tagOfPart, partOf}
-use Rattle.format.specs.Edit.{Changes, theSet, tagsAt, editEntries}
+use Rattle.format.specs.Edit.{Changes, theSet, tagsAt}
 use Rattle.format.proofs.words.Keys.{flip, all-map}
 use Rattle.format.proofs.words.Together.{map-keys}
 use Rattle.format.proofs.table.Tags.{nameable-set}

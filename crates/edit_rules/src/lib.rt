@@ -1,8 +1,6 @@
 // One or two items of a packet put or removed: whether they may be, where, and how many bytes of their values are put.
 ghost use mathlib.Core.Path.{_≡_};
 ghost use mathlib.Core.Bool.{true};
-ghost use mathlib.Core.List.{List};
-ghost use Prim.Native.Nat.{ℕ};
 ghost use lib.ListN.{length, getD};
 ghost use Rattle.format.specs.Valid.{SheetValid};
 ghost use Rattle.items.specs.Meet.{formOf, levelOf, glanceTable};
@@ -299,7 +297,7 @@ fn judge_rest(
             }
             Judged::Wrong(n)
         }
-        Turn::Wrong(n) => Judged::Wrong(n),
+        Turn::Wrong(own) => Judged::Wrong(own),
     }
 }
 

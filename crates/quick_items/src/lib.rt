@@ -100,7 +100,7 @@ pub fn glance_items(glances: &[u32], s: &[u8], set: bool, alone: bool) -> Stage
             return tally::stages::stage_at(p, told_sizes(count, p), held, top, low);
         }
         let tag = coding::wide(s[p]);
-        held = held | tally::bit_of(tag);
+        held = held | tally::bit_of(set, tag);
         top = tag;
         count += 1;
         p = next;
@@ -145,13 +145,12 @@ pub fn onward(s: &[u8], set: bool, alone: bool, q: Stage) -> Stage
 {
     let mut p = q.at;
     let mut sum = q.sizes;
-    let mut held = q.held;
     let mut top = q.top;
     let mut low = q.low;
     while p < s.len() {
         // the series is no such item
         if tally::is_series(set, coding::wide(s[p])) {
-            return tally::stages::stage_at(p, sum, held, top, low);
+            return tally::stages::stage_at(p, sum, q.held, top, low);
         }
         let h = heads::item_head(&s[p..], set);
         let Head::Whole {
@@ -161,16 +160,15 @@ pub fn onward(s: &[u8], set: bool, alone: bool, q: Stage) -> Stage
             size,
         } = h
         else {
-            return tally::stages::stage_at(p, sum, held, top, low);
+            return tally::stages::stage_at(p, sum, q.held, top, low);
         };
         if !is_plain(set, alone, p, top, low, key, size) {
-            return tally::stages::stage_at(p, sum, held, top, low);
+            return tally::stages::stage_at(p, sum, q.held, top, low);
         }
         sum = tally::weights::plus(sum, tally::weights::plain_sizes(set, key, size));
-        held = held | tally::bit_of(key);
         top = tally::larger(top, key);
         low = tally::smaller(low, key);
         p = p + used + width + size;
     }
-    tally::stages::stage_at(p, sum, held, top, low)
+    tally::stages::stage_at(p, sum, q.held, top, low)
 }

@@ -4,7 +4,7 @@ use borrow.Author.Needs.{needs}
 use Rattle.format.specs.Room.{leaves}
 use Rattle.check_packet.proofs.Opened.{set-room}
 use Rattle.find.proofs.Callers.{set-is}
-use Rattle.edit_rules.proofs.Callers.{edit-is}
+use Rattle.edit_rules.proofs.Callers.{edit-is, sheet-is}
 use Rattle.edit.proofs.Editing.{edit-unread}
 use Rattle.edit.proofs.edit.Statement.{statement}
 use Rattle.edit.proofs.edit.Tie as tie
@@ -28,12 +28,12 @@ refusal-requires : tie.Need-refusal-requires
 refusal-requires c κs = search needs
 
 returns : tie.Need-returns
-returns c = edit-unread _ _ _ _ _ (c .before .before .before .check .ensures) _ (c .before .enum-told .given .1) (c .refusal .ensures)
+returns c = edit-unread _ _ _ _ (c .before .before .before .check .ensures) _ (c .before .enum-told .given .1) (c .refusal .ensures)
 
 sub-s : tie.Need-sub-s
 sub-s c =
     let a = c .before in
-    set-room _ _ (a .before .before .check .ensures) (λ i. a .before .before .before .before .before .before .before .shared-slice-known .given i .fits) (a .c .given .1)
+    set-room _ _ (a .before .before .check .ensures) (λ i. a .before .before .before .before .before .before .before .before .shared-slice-known .given i .fits) (a .c .given .1)
 
 part-s-start : tie.Need-part-s-start
 part-s-start c = sub-s c
@@ -46,8 +46,11 @@ slice-aggregate-edit-set c = search needs
 
 edit-set-requires : tie.Need-edit-set-requires
 edit-set-requires c κs =
-    let a = c .before .before .before .before in
-    (a .before .before .before .before .glances .ensures, set-is _ _ (a .before .before .check .ensures) (λ i. a .before .before .before .before .before .before .before .shared-slice-known .given i .fits) (a .c .given .1))
+    let a = c .before .before .before .before in (
+      a .before .before .before .before .glances .ensures,
+      set-is _ _ (a .before .before .check .ensures) (λ i. a .before .before .before .before .before .before .before .before .shared-slice-known .given i .fits) (a .c .given .1),
+      sheet-is _ _ (a .before .before .check .ensures) (λ i. a .before .before .before .before .before .before .before .before .shared-slice-known .given i .fits) (a .c .given .1),
+    )
 
 same-length : tie.Need-same-length
 same-length c = search needs
@@ -56,7 +59,7 @@ returns-2 : tie.Need-returns-2
 returns-2 c =
     let a = c .before .before .before .before .before .before .before in
     c .before .before .edit-set .ensures
-    ∙ ap (leaves _) (sym (edit-is _ _ (a .before .before .check .ensures) (λ i. a .before .before .before .before .before .before .before .shared-slice-known .given i .fits) (a .c .given .1) _ _ _))
+    ∙ ap (leaves _) (sym (edit-is _ _ (a .before .before .check .ensures) (λ i. a .before .before .before .before .before .before .before .before .shared-slice-known .given i .fits) (a .c .given .1) _ _))
 
 pub edit-spec : {M : Type 1} → statement M
 edit-spec =

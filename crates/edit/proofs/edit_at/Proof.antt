@@ -1,29 +1,27 @@
 -- `edit::edit_at` meets its contract: each way out is a case of a packet that is written. z is where its size is known, g where there is
 -- room, o where the packet was opened, and n where its entries were written.
-use mathlib.Core.Path.{_≡_, refl}
+use mathlib.Core.Path.{_≡_, sym, ap, _∙_}
 use Prim.Native.Nat.{ℕ}
 use native.Mathlib.Omega.{arith}
 use mathlib.Core.List.{List}
 use lib.ListN.{length}
 use lib.Seq.{sets}
 use borrow.Author.Needs.{needs}
-use Rattle.format.specs.Packet.{closed}
+use Rattle.format.specs.Lists.{flatAll}
+use Rattle.format.specs.Packet.{Entry, flatEntry, closed}
 use Rattle.format.specs.Calls.{packed}
-use Rattle.format.specs.Edit.{editEntries}
 use Rattle.items.specs.Meet.{formOf}
 use Rattle.frames.proofs.frame_size.Reads as frame-size-reads
 use Rattle.frames.proofs.open.Reads as open-reads
 use Rattle.frames.proofs.close.Reads as close-reads
-use Rattle.find.specs.Places.{keptOf}
-use Rattle.edit_rules.specs.Meet.{askedHolder, askedChange, editedOf, EditStored}
-use Rattle.edit_rules.proofs.Callers.{tag-high, few-put, ordered-short, item-few, edited-long, edited-small, edit-putting, edit-stored}
-use Rattle.edit_bytes.proofs.item_size.Reads as item-size-reads
+use Rattle.edit_rules.specs.Cuts.{Spans, cutBytes, StoredAt}
+use Rattle.edit_rules.proofs.Storing.{spans-more, put-most, bytes-long}
 use Rattle.edit_bytes.proofs.edited_size.Reads as edited-size-reads
 use Rattle.edit_bytes.proofs.put_edited.Reads as put-edited-reads
 use Rattle.answers.proofs.answer_of.Reads as answer-of-reads
 use Rattle.answers.proofs.Framed.{open-asked, rest-from, rest-room, entries-end, close-asked, all-written}
 use Rattle.answers.proofs.Packing.{Packs, packs-long, packs-short, packs-fit, packs-done}
-use Rattle.edit.proofs.Editing.{edit-packs}
+use Rattle.edit.proofs.Editing.{cut-packs}
 use Rattle.edit.proofs.edit_at.Statement.{statement}
 use Rattle.edit.proofs.edit_at.Reads as reads
 use Rattle.edit.proofs.edit_at.Lts as lts
@@ -31,8 +29,6 @@ use Rattle.edit.proofs.edit_at.Tie as tie
 
 abbrev claims : lts.Claims
 claims = (
-  item-size-reads.Asked,
-  item-size-reads.Learnt,
   edited-size-reads.Asked,
   edited-size-reads.Learnt,
   frame-size-reads.Asked,
@@ -56,62 +52,54 @@ Call = lts.Start claims reads.Pre reads.Post
 abbrev from : Sized → Call
 from z = z .before .before .before .before .before .before
 
--- the packet, of n bytes of entries
-packs : (z : Sized) → Packs
-    (packed (closed (formOf (from z .args .alone)) (editEntries (askedHolder (from z .args .a)) (from z .args .a .tag) (askedChange (from z .args .a) (from z .args .value .now)) (keptOf (formOf (from z .args .alone)) (from z .args .s .now)))))
+-- the set's bytes with what is put
+abbrev bytes : Sized → List ℕ
+bytes z = let i = from z .args in cutBytes (i .s .now) (i .k) (i .v .now) (i .w .now)
+
+-- the packet of entries that lie flat as these
+packs : (z : Sized) (es : List Entry) → flatAll flatEntry es ≡ bytes z → Packs (packed (closed (formOf (from z .args .alone)) es)) (formOf (from z .args .alone)) es (z .before .edited-size .result) (z .frame-size .result)
+packs z es e = cut-packs _ es (z .before .edited-size .ensures ∙ sym (bytes-long (from z .pre .0)) ∙ sym (ap length e)) (z .frame-size .ensures)
+
+some : (z : Sized) → Packs
+    (packed (closed (formOf (from z .args .alone)) (from z .pre .1 .0)))
     (formOf (from z .args .alone))
-    (editEntries (askedHolder (from z .args .a)) (from z .args .a .tag) (askedChange (from z .args .a) (from z .args .value .now)) (keptOf (formOf (from z .args .alone)) (from z .args .s .now)))
+    (from z .pre .1 .0)
     (z .before .edited-size .result)
     (z .frame-size .result)
-packs z =
-    let i = from z in
-    edit-packs _ _ _ _ _ (edited-long (formOf (i .args .alone)) (i .args .a) (i .args .value .now) (i .args .s .now) (i .args .p) (i .args .m) (i .pre) (z .before .before .item-size .ensures) (z .before .edited-size .ensures)) (z .frame-size .ensures)
+some z = packs z (from z .pre .1 .0) (from z .pre .1 .1)
 
--- its entries, as they were written
-abbrev edited : Sized → List ℕ
-edited z = editedOf (formOf (from z .args .alone)) (askedHolder (from z .args .a)) (from z .args .a .tag) (askedChange (from z .args .a) (from z .args .value .now)) (from z .args .s .now)
+stored : (z : Sized) (o : List ℕ) {k : ℕ} {o′ : List ℕ} → StoredAt o 0 (bytes z) k o′ → (k ≡ length (bytes z)) × (o′ ≡ sets o 0 (bytes z))
+stored z o q = (omega (arith, q .0), q .1)
 
-stored : (z : Sized) (o : List ℕ) {k : ℕ} {o′ : List ℕ} → EditStored (from z .args .a) (from z .args .s .now) (from z .args .value .now) (from z .args .p) (from z .args .m) o k o′
-    → (k ≡ length (edited z)) × (o′ ≡ sets o 0 (edited z))
-stored z o q =
-    let i = from z in
-    edit-stored (formOf (i .args .alone)) (i .args .a) (i .args .value .now) (i .args .s .now) (i .args .p) (i .args .m) (i .pre) o q
-
-item-size-requires : tie.Need-item-size-requires
-item-size-requires c κs =
-    let i = c .before .before .before in (
-      tag-high (formOf (i .args .alone)) (i .args .a) (i .args .value .now) (i .args .s .now) (i .args .p) (i .args .m) (i .pre),
-      few-put (formOf (i .args .alone)) (i .args .a) (i .args .value .now) (i .args .s .now) (i .args .p) (i .args .m) (i .pre),
-    )
+short : (i : Call) → Spans 8192 (i .args .k)
+short i = spans-more (length (i .args .s .now)) 8192 (i .args .k) (i .pre .0 .spans) (i .pre .0 .short)
 
 edited-size-requires : tie.Need-edited-size-requires
 edited-size-requires c κs =
-    let i = c .before .before .before .before in (
-      ordered-short (formOf (i .args .alone)) (i .args .a) (i .args .value .now) (i .args .s .now) (i .args .p) (i .args .m) (i .pre),
-      item-few (formOf (i .args .alone)) (i .args .a) (i .args .value .now) (i .args .s .now) (i .args .p) (i .args .m) (i .pre) (c .item-size .ensures),
-    )
+    let i = c .before .before .before .before in
+    (short i, i .pre .0 .low-small, i .pre .0 .high-small)
 
 frame-size-requires : tie.Need-frame-size-requires
 frame-size-requires c κs =
     let i = c .before .before .before .before .before in
-    omega (arith, edited-small (formOf (i .args .alone)) (i .args .a) (i .args .value .now) (i .args .s .now) (i .args .p) (i .args .m) (i .pre) (c .before .item-size .ensures) (c .edited-size .ensures))
+    omega (arith, c .edited-size .ensures, put-most (i .args .k) (short i) (i .pre .0 .low-small) (i .pre .0 .high-small))
 
 answer-of-requires : tie.Need-answer-of-requires
 answer-of-requires c κs = search needs
 
 returns : tie.Need-returns
-returns c =
+returns c es e =
     let z = c .before .before in
-    packs-long (packs z) _ (c .before .if1 .taken) (c .answer-of .ensures)
+    packs-long (packs z es e) _ (c .before .if1 .taken) (c .answer-of .ensures)
 
 answer-of-requires-2 : tie.Need-answer-of-requires-2
 answer-of-requires-2 c κs = search needs
 
 returns-2 : tie.Need-returns-2
-returns-2 c =
+returns-2 c es e =
     let g = c .before in
     let z = g .before .before in
-    packs-short (packs z) _ (g .before .if1 .left) (g .if2 .taken) (c .answer-of2 .ensures)
+    packs-short (packs z es e) _ (g .before .if1 .left) (g .if2 .taken) (c .answer-of2 .ensures)
 
 -- ---- there is room
 
@@ -119,14 +107,14 @@ open-requires : tie.Need-open-requires
 open-requires c κs =
     let g = c .before in
     let z = g .before .before in
-    open-asked (packs-fit (packs z) (from z .args .out .now) (g .before .if1 .left) (g .if2 .left))
+    open-asked (packs-fit (some z) (from z .args .out .now) (g .before .if1 .left) (g .if2 .left))
 
 sub-put-edited : tie.Need-sub-put-edited
 sub-put-edited c =
     let o = c .before .before in
     let g = o .before .before in
     let z = g .before .before in
-    rest-from (packs-fit (packs z) (from z .args .out .now) (g .before .if1 .left) (g .if2 .left)) (o .«open» .ensures)
+    rest-from (packs-fit (some z) (from z .args .out .now) (g .before .if1 .left) (g .if2 .left)) (o .«open» .ensures)
 
 part-put-edited-start : tie.Need-part-put-edited-start
 part-put-edited-start c = sub-put-edited c
@@ -140,8 +128,8 @@ put-edited-requires c κs =
     let g = o .before .before in
     let z = g .before .before in
     let i = from z in
-    edit-putting (formOf (i .args .alone)) (i .args .a) (i .args .value .now) (i .args .s .now) (i .args .p) (i .args .m) (i .pre) (z .before .before .item-size .ensures) (z .before .edited-size .ensures)
-    (rest-room (packs-fit (packs z) (i .args .out .now) (g .before .if1 .left) (g .if2 .left)) (o .«open» .ensures) refl)
+    let room = rest-room (packs-fit (some z) (i .args .out .now) (g .before .if1 .left) (g .if2 .left)) (o .«open» .ensures) (sym (i .pre .1 .1)) in
+    (i .pre .0, omega (arith, room, bytes-long (i .pre .0)))
 
 add-close : tie.Need-add-close
 add-close c =
@@ -151,7 +139,7 @@ add-close c =
     let z = g .before .before in
     omega (
       arith,
-      entries-end (packs-fit (packs z) (from z .args .out .now) (g .before .if1 .left) (g .if2 .left)) (o .«open» .ensures) refl
+      entries-end (packs-fit (some z) (from z .args .out .now) (g .before .if1 .left) (g .if2 .left)) (o .«open» .ensures) (sym (from z .pre .1 .1))
           (stored z _ (n .put-edited .ensures)),
     )
 
@@ -161,7 +149,7 @@ close-requires c κs =
     let o = n .before .before .before .before in
     let g = o .before .before in
     let z = g .before .before in
-    close-asked (packs-fit (packs z) (from z .args .out .now) (g .before .if1 .left) (g .if2 .left)) (o .«open» .ensures) refl
+    close-asked (packs-fit (some z) (from z .args .out .now) (g .before .if1 .left) (g .if2 .left)) (o .«open» .ensures) (sym (from z .pre .1 .1))
     (stored z _ (n .put-edited .ensures))
 
 answer-of-requires-3 : tie.Need-answer-of-requires-3
@@ -171,21 +159,20 @@ same-length : tie.Need-same-length
 same-length c = search needs
 
 returns-3 : tie.Need-returns-3
-returns-3 c =
+returns-3 c es e =
     let n = c .before .before .before .before .before .before .before in
     let o = n .before .before .before .before in
     let g = o .before .before in
     let z = g .before .before in
-    let k = packs z in
+    let k = packs z es e in
     packs-done k _ (g .before .if1 .left) (g .if2 .left)
-    (all-written (packs-fit k (from z .args .out .now) (g .before .if1 .left) (g .if2 .left)) (o .«open» .ensures) refl
+    (all-written (packs-fit k (from z .args .out .now) (g .before .if1 .left) (g .if2 .left)) (o .«open» .ensures) (sym e)
     (stored z _ (n .put-edited .ensures)) (c .before .before .before .close .ensures)) (c .answer-of3 .ensures)
 
 pub edit-at-spec : {M : Type 1} → statement M
 edit-at-spec =
     tie.close
     (tie.spec
-    item-size-requires
     edited-size-requires
     frame-size-requires
     answer-of-requires

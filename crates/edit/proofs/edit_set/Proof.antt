@@ -1,9 +1,9 @@
--- `edit::edit_set` meets its contract. f is where the edit was let through.
-use mathlib.Core.Path.{refl, sym, ap, _∙_}
+-- `edit::edit_set` meets its contract. f is where the edit was let through, and i where the call begins.
+use mathlib.Core.Path.{ap}
 use borrow.Author.Needs.{needs}
-use Rattle.format.specs.Room.{leaves}
-use Rattle.edit_rules.proofs.Callers.{judged-yes}
-use Rattle.edit.proofs.Editing.{not-long, set-refused, set-over, set-packed}
+use Rattle.items.specs.Meet.{formOf}
+use Rattle.edit_rules.specs.Meet.{lowOf}
+use Rattle.edit.proofs.Editing.{set-refused, cuts-asked, cuts-left}
 use Rattle.edit.proofs.edit_set.Statement.{statement}
 use Rattle.edit.proofs.edit_set.Tie as tie
 
@@ -20,35 +20,47 @@ edit-refusal-requires : tie.Need-edit-refusal-requires
 edit-refusal-requires c κs = search needs
 
 returns : tie.Need-returns
-returns c = set-refused _ _ _ _ _ (c .before .before .before .judge .ensures) _ (c .before .enum-told .given .1) (c .edit-refusal .ensures)
+returns c =
+    let i = c .before .before .before .before .before .before .before .before .before in
+    set-refused (formOf (i .args .alone)) (i .args .a) (i .args .v .now) (i .args .w .now) (i .args .s .now) (c .before .before .before .judge .ensures) (i .args .out .now) (c .before .enum-told .given .1) (c .edit-refusal .ensures)
 
-over-long-requires : tie.Need-over-long-requires
-over-long-requires c κs = search needs
-
-answer-of-requires : tie.Need-answer-of-requires
-answer-of-requires c κs = search needs
-
-returns-2 : tie.Need-returns-2
-returns-2 c =
-    let f = c .before .before .before .before in
-    let i = f .before .before .before .before .before .before .before .args in
-    set-over _ _ _ _ _ (f .before .before .judge .ensures) (f .j .given .1)
-    (i .a .removal) (i .value .now) refl (c .before .before .over-long .ensures) (c .before .if1 .taken) _ (c .answer-of .ensures)
-
-edit-at-requires : tie.Need-edit-at-requires
-edit-at-requires c κs =
-    let f = c .before .before .before .before in
-    let s = f .before .before .before .before .before .before .before in
-    let i = s .args in
-    judged-yes _ _ _ _ _ (f .before .before .judge .ensures) (f .j .given .1) (s .pre .1 .short) (not-long (i .a .removal) (i .value .now) (c .before .before .over-long .ensures) (c .before .if1 .left))
+edit-cuts-requires : tie.Need-edit-cuts-requires
+edit-cuts-requires c κs =
+    let f = c .before .before .before in
+    let i = f .before .before .before .before .before .before .before .before in
+    let t = c .before .if1 .taken in
+    cuts-asked (formOf (i .args .alone)) (i .args .a) (i .args .v .now) (i .args .w .now) (i .args .s .now) (f .before .before .judge .ensures) (f .j .given .1)
+    (ap (λ x. lowOf x (i .args .v .now) (i .args .w .now)) t) (ap (λ x. lowOf x (i .args .w .now) (i .args .v .now)) t) (i .pre .1 .short)
 
 same-length : tie.Need-same-length
 same-length c = search needs
 
+returns-2 : tie.Need-returns-2
+returns-2 c =
+    let f = c .before .before .before .before .before .before in
+    let i = f .before .before .before .before .before .before .before .before in
+    let t = c .before .before .before .before .if1 .taken in
+    cuts-left (formOf (i .args .alone)) (i .args .a) (i .args .v .now) (i .args .w .now) (i .args .s .now) (f .before .before .judge .ensures) (f .j .given .1)
+    (ap (λ x. lowOf x (i .args .v .now) (i .args .w .now)) t) (ap (λ x. lowOf x (i .args .w .now) (i .args .v .now)) t) (i .args .out .now) _ (c .before .before .edit-cuts .ensures)
+
+edit-cuts-requires-2 : tie.Need-edit-cuts-requires-2
+edit-cuts-requires-2 c κs =
+    let f = c .before .before .before in
+    let i = f .before .before .before .before .before .before .before .before in
+    let t = c .before .if1 .left in
+    cuts-asked (formOf (i .args .alone)) (i .args .a) (i .args .v .now) (i .args .w .now) (i .args .s .now) (f .before .before .judge .ensures) (f .j .given .1)
+    (ap (λ x. lowOf x (i .args .v .now) (i .args .w .now)) t) (ap (λ x. lowOf x (i .args .w .now) (i .args .v .now)) t) (i .pre .1 .short)
+
+same-length-2 : tie.Need-same-length-2
+same-length-2 c = search needs
+
 returns-3 : tie.Need-returns-3
 returns-3 c =
-    let f = c .before .before .before .before .before .before .before in
-    c .before .before .edit-at .ensures ∙ ap (leaves _) (sym (set-packed _ _ _ _ _ (f .before .before .judge .ensures) (f .j .given .1)))
+    let f = c .before .before .before .before .before .before in
+    let i = f .before .before .before .before .before .before .before .before in
+    let t = c .before .before .before .before .if1 .left in
+    cuts-left (formOf (i .args .alone)) (i .args .a) (i .args .v .now) (i .args .w .now) (i .args .s .now) (f .before .before .judge .ensures) (f .j .given .1)
+    (ap (λ x. lowOf x (i .args .v .now) (i .args .w .now)) t) (ap (λ x. lowOf x (i .args .w .now) (i .args .v .now)) t) (i .args .out .now) _ (c .before .before .edit-cuts2 .ensures)
 
 pub edit-set-spec : {M : Type 1} → statement M
 edit-set-spec =
@@ -59,9 +71,9 @@ edit-set-spec =
     enum-told
     edit-refusal-requires
     returns
-    over-long-requires
-    answer-of-requires
-    returns-2
-    edit-at-requires
+    edit-cuts-requires
     same-length
+    returns-2
+    edit-cuts-requires-2
+    same-length-2
     returns-3)

@@ -1,5 +1,4 @@
 -- `quick_items::onward` meets its contract: each turn is a turn of the item walk. `a` is where an item was found to be plain.
-use mathlib.Core.Path.{refl}
 use Prim.Native.Nat.{ℕ, _-_}
 use native.Mathlib.Omega.{arith}
 use lib.ListN.{length}
@@ -14,7 +13,6 @@ use Rattle.quick_items.proofs.onward.Reads as reads
 use Rattle.quick_items.proofs.onward.Lts as lts
 use Rattle.coding.proofs.wide.Reads as wide-reads
 use Rattle.heads.proofs.item_head.Reads as item-head-reads
-use Rattle.tally.proofs.bit_of.Reads as bit-of-reads
 use Rattle.tally.proofs.is_series.Reads as is-series-reads
 use Rattle.tally.proofs.larger.Reads as larger-reads
 use Rattle.quick_items.proofs.is_plain.Reads as is-plain-reads
@@ -24,10 +22,10 @@ use Rattle.tally.proofs.weights.plain_sizes.Reads as plain-sizes-reads
 use Rattle.tally.proofs.weights.plus.Reads as plus-reads
 
 abbrev Inv-loop : tie.InvT-loop
-Inv-loop s set alone p₀ sum₀ held₀ top₀ low₀ p sum held top low = LevelGoing set (formOf alone) s p sum held top low
+Inv-loop s set alone q p₀ sum₀ top₀ low₀ p sum top low = LevelGoing set (formOf alone) s p sum (q .held) top low
 
 abbrev μ-loop : tie.MeasureT-loop
-μ-loop s set alone p₀ sum₀ held₀ top₀ low₀ p sum held top low = length s - p
+μ-loop s set alone q p₀ sum₀ top₀ low₀ p sum top low = length s - p
 
 abbrev claims : lts.Claims
 claims = (
@@ -45,8 +43,6 @@ claims = (
   plain-sizes-reads.Learnt,
   plus-reads.Asked,
   plus-reads.Learnt,
-  bit-of-reads.Asked,
-  bit-of-reads.Learnt,
   larger-reads.Asked,
   larger-reads.Learnt,
   smaller-reads.Asked,
@@ -78,7 +74,7 @@ abbrev size : Plain-read → ℕ
 size a = a .before .before .before .h .given .0 .1 .1 .1 .0
 
 here : (a : Plain-read)
-    → PlainAt (start (turn a) .args .set) (formOf (start (turn a) .args .alone)) (start (turn a) .args .s .now) (turn a .loop .p) (turn a .loop .sum) (turn a .loop .held) (turn a .loop .top) (turn a .loop .low)
+    → PlainAt (start (turn a) .args .set) (formOf (start (turn a) .args .alone)) (start (turn a) .args .s .now) (turn a .loop .p) (turn a .loop .sum) (start (turn a) .args .q .held) (turn a .loop .top) (turn a .loop .low)
     (tag a) (used a) (width a) (size a)
 here a = record {
   going = turn a .loop .inv;
@@ -148,9 +144,6 @@ plain-sizes-requires c κs = plain-small (here c)
 plus-requires : tie.Need-plus-requires Inv-loop μ-loop
 plus-requires c κs = plain-sums (here (c .before)) (c .plain-sizes .ensures)
 
-bit-of-requires : tie.Need-bit-of-requires Inv-loop μ-loop
-bit-of-requires c κs = search needs
-
 larger-requires : tie.Need-larger-requires Inv-loop μ-loop
 larger-requires c κs = search needs
 
@@ -158,19 +151,19 @@ smaller-requires : tie.Need-smaller-requires Inv-loop μ-loop
 smaller-requires c κs = search needs
 
 add-p : tie.Need-add-p Inv-loop μ-loop
-add-p c = let a = c .before .before .before .before .before in omega (arith, plain-next (here a), start (turn a) .pre .0)
+add-p c = let a = c .before .before .before .before in omega (arith, plain-next (here a), start (turn a) .pre .0)
 
 add-p-2 : tie.Need-add-p-2 Inv-loop μ-loop
-add-p-2 c = let a = c .before .before .before .before .before in omega (arith, plain-next (here a), start (turn a) .pre .0)
+add-p-2 c = let a = c .before .before .before .before in omega (arith, plain-next (here a), start (turn a) .pre .0)
 
 add-p-3 : tie.Need-add-p-3 Inv-loop μ-loop
-add-p-3 c = let a = c .before .before .before .before .before in omega (arith, plain-next (here a), start (turn a) .pre .0)
+add-p-3 c = let a = c .before .before .before .before in omega (arith, plain-next (here a), start (turn a) .pre .0)
 
 loop-less : tie.Need-loop-less Inv-loop μ-loop
-loop-less c = omega (arith, plain-next (here (c .before .before .before .before .before)))
+loop-less c = omega (arith, plain-next (here (c .before .before .before .before)))
 
 loop-again : tie.Need-loop-again Inv-loop μ-loop
-loop-again c = plain-more (here (c .before .before .before .before .before)) (c .before .before .before .before .plain-sizes .ensures) (c .before .before .before .plus .ensures) (c .before .before .bit-of .ensures) refl (c .before .larger .ensures .over) (c .smaller .ensures)
+loop-again c = plain-more (here (c .before .before .before .before)) (c .before .before .before .plain-sizes .ensures) (c .before .before .plus .ensures) (c .before .larger .ensures .over) (c .smaller .ensures)
 
 stage-at-requires-4 : tie.Need-stage-at-requires-4 Inv-loop μ-loop
 stage-at-requires-4 c κs = search needs
@@ -203,7 +196,6 @@ onward-spec =
     returns-3
     plain-sizes-requires
     plus-requires
-    bit-of-requires
     larger-requires
     smaller-requires
     add-p

@@ -1,4 +1,5 @@
 pub mod Bounds
+pub mod Naming
 pub mod Demand1
 pub mod Demand2
 pub mod Demand3

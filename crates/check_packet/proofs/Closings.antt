@@ -105,8 +105,8 @@ fine-alone w es c h o =
 
 -- ---- what is asked of a set at its end is its tag 1
 
-seal-held : (es : List Entry) → isHeld 1 (bits (λ e. bitOf set (tagOfEntry e)) es) ≡ has 1 (map tagOfEntry es)
-seal-held es = ap (isHeld 1) (bits-map tagOfEntry (bitOf set) es) ∙ bits-has set 1 (omega arith) (map tagOfEntry es)
+seal-held : (es : List Entry) → isHeld 1 (bits (λ e. bitOf (tagOfEntry e)) es) ≡ has 1 (map tagOfEntry es)
+seal-held es = ap (isHeld 1) (bits-map tagOfEntry bitOf es) ∙ bits-has 1 (lit< tt) (map tagOfEntry es)
 
 abbrev close : Form → List ℕ → ℕ → List Entry → Checked
 close f s w es = checkedOf (closing f s es >>= λ c. ok (packetOf f w es c))
@@ -123,7 +123,7 @@ close-alone s w es h = by-held (has 1 (map tagOfEntry es)) refl
     by-held true z = by-sum z (sumRight s) refl
     by-held false z = rw z
 
-pub close-set : (f : Form) (s : List ℕ) (w : ℕ) (es : List Entry) → SetRead f [] es → closingBy f s (isHeld 1 (bits (λ e. bitOf set (tagOfEntry e)) es)) (summed es) (start f w) ≡ close f s w es
+pub close-set : (f : Form) (s : List ℕ) (w : ℕ) (es : List Entry) → SetRead f [] es → closingBy f s (isHeld 1 (bits (λ e. bitOf (tagOfEntry e)) es)) (summed es) (start f w) ≡ close f s w es
 unfolding closing _>>=_
 close-set embedded s w es h = fine-embedded w es h
 close-set standalone s w es h = ap (λ m. closingBy standalone s m (summed es) (start standalone w)) (seal-held es) ∙ close-alone s w es h

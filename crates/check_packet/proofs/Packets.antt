@@ -37,7 +37,7 @@ abbrev setRun : Form → List ℕ → Ans (Got (List Entry))
 setRun f s = run always tagOfEntry (entry f) s
 
 abbrev setWalked : Ans (Got (List Entry)) → Walked
-setWalked x = walkedOf (weightOfEntry set) (λ e. bitOf set (tagOfEntry e)) x
+setWalked x = walkedOf (weightOfEntry set) (λ e. bitOf (tagOfEntry e)) x
 
 walk-run : (f : Form) (s : List ℕ) → levelWalk set f s ≡ setWalked (setRun f s)
 unfolding levelWalk stepAt deepenAt entry
@@ -90,13 +90,13 @@ module _ (f : Form) (s : List ℕ) where
         pub check-bad : {n p : ℕ} {r : Checked} → x ≡ Bad n p → r ≡ walkFault k x → r ≡ checkedOf (parse f s)
         unfolding _>>=_ after
         check-bad {n} {p} z e =
-            let q = walked-bad (weightOfEntry set) (λ e. bitOf set (tagOfEntry e)) (setRun f (drop (start f w) s)) n p (sym z ∙ walk-is) in
+            let q = walked-bad (weightOfEntry set) (λ e. bitOf (tagOfEntry e)) (setRun f (drop (start f w) s)) n p (sym z ∙ walk-is) in
             e ∙ ap (walkFault k) z ∙ rw (parse-is, q, ek)
 
         pub check-good : {b : Sizes} {m : ℕ} {r : Checked} → Bytes s → x ≡ Good b m → r ≡ closingBy f s (isHeld 1 m) b k → r ≡ checkedOf (parse f s)
         check-good {b} {m} h z e =
             let d : List ℕ = drop (start f w) s in
-            let g = walked-good (weightOfEntry set) (λ e. bitOf set (tagOfEntry e)) (setRun f d) b m (sym z ∙ walk-is) in
+            let g = walked-good (weightOfEntry set) (λ e. bitOf (tagOfEntry e)) (setRun f d) b m (sym z ∙ walk-is) in
             let read = set-says f d (g .rs) (bytes-drop (start f w) s h) (g .ran) .1 in
             e
             ∙ ap (closingBy f s (isHeld 1 m) b) ek

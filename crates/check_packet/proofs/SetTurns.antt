@@ -94,14 +94,14 @@ module _ {f : Form} {s : List ℕ} {p : ℕ} {sum : Sizes} {held top low tag u w
       most = i .most;
     })
 
-    seal-told : EntryTold seal-item (Good (itemSizes set 1 2) (bitOf set 1))
+    seal-told : EntryTold seal-item (Good (itemSizes set 1 2) (bitOf 1))
     seal-told = item-told seal-item {x = true && eqb 1 101} refl refl refl
 
     module _ {z : Sizes} (ez : z ≡ itemSizes set 1 2) where
       pub seal-sums : Small sum × Small z
       seal-sums = rw ez (good-small seal-item seal-told refl)
 
-      pub seal-more : {sum′ : Sizes} → sum′ ≡ plusSizes sum z → {m : ℕ} → m ≡ bitOf set 1 → {top′ : ℕ} → (top ≤ top′) × (1 ≤ top′) → LevelGoing true f s (p + u + w + n) sum′ (bitOr held m) top′ 1
+      pub seal-more : {sum′ : Sizes} → sum′ ≡ plusSizes sum z → {m : ℕ} → m ≡ bitOf 1 → {top′ : ℕ} → (top ≤ top′) × (1 ≤ top′) → LevelGoing true f s (p + u + w + n) sum′ (bitOr held m) top′ 1
       seal-more es em et =
           let e : p + u + w + n ≡ p + (u + w) + 2 = omega (arith, next .3) in
           rw e (entry-more seal-item seal-told refl (es ∙ ap (plusSizes sum) ez) (ap (bitOr held) em) et (omega (arith, next .1), omega arith))

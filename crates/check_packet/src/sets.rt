@@ -118,7 +118,7 @@ fn seal(s: &[u8], alone: bool, q: Stage) -> Stage
     stages::stage_at(
         next,
         sum,
-        q.held | tally::bit_of(true, 1),
+        q.held | tally::bit_of(1),
         tally::larger(q.top, 1),
         1,
     )

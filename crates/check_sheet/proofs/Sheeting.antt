@@ -89,9 +89,9 @@ weight-set i p = same p i
 abbrev partsRun : Form → List ℕ → Ans (Got (List Part))
 partsRun f t = run always tagOfPart (partAt f) t
 
-walk-run : (f : Form) (t : List ℕ) → recordsWalk set f t ≡ walkedOf weightOfPart (λ p. bitOf set (tagOfPart p)) (partsRun f t)
+walk-run : (f : Form) (t : List ℕ) → recordsWalk set f t ≡ walkedOf weightOfPart (λ p. bitOf (tagOfPart p)) (partsRun f t)
 unfolding recordsWalk partStep
-walk-run f t = ap (λ weight. walkedOf weight (λ p. bitOf set (tagOfPart p)) (partsRun f t)) weight-set
+walk-run f t = ap (λ weight. walkedOf weight (λ p. bitOf (tagOfPart p)) (partsRun f t)) weight-set
 
 -- ---- 1, 17, the parts, 14
 
@@ -151,7 +151,7 @@ module _ (s : List ℕ) where
 
         -- w is the answer on the parts
         module _ {w : Walked} (ew : w ≡ recordsWalk set form (take (length s - 3) (drop 3 s))) where
-          walked : w ≡ walkedOf weightOfPart (λ p. bitOf set (tagOfPart p)) (partsRun form (drop 3 s))
+          walked : w ≡ walkedOf weightOfPart (λ p. bitOf (tagOfPart p)) (partsRun form (drop 3 s))
           walked = ew ∙ ap (recordsWalk set form) (tail-part 3 s) ∙ walk-run form (drop 3 s)
 
           pub check-bad : {n q : ℕ} {r : Sheeted} → w ≡ Bad n q → r ≡ partsFault w → r ≡ sheetedOf (unsheet s)
@@ -160,7 +160,7 @@ module _ (s : List ℕ) where
               e ∙ ap partsFault t ∙ ap sheetedOf (sym (opened ∙ bind-not _ (ends form) n (3 + q) (after-not 3 _ n q x)))
 
           module _ {z : Sizes} {c : ℕ} (t : w ≡ Good z c) where
-            parts : Walk weightOfPart (λ p. bitOf set (tagOfPart p)) (partsRun form (drop 3 s)) z c
+            parts : Walk weightOfPart (λ p. bitOf (tagOfPart p)) (partsRun form (drop 3 s)) z c
             parts = walked-good weightOfPart _ (partsRun form (drop 3 s)) z c (sym t ∙ walked)
 
             ended : unsheet s ≡ ends form (parts .rs)

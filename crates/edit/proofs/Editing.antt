@@ -1,4 +1,4 @@
--- The call `edit`, case by case: the packet's own refusal, the edit's, a value that is too long, and the edited packet.
+-- The call `edit`, case by case: the packet's own refusal, the edit's, cuts that put too much, and the edited packet.
 use mathlib.Core.Path.{_≡_, refl, sym, ap, _∙_}
 use Prim.Native.Nat.{ℕ, _≤_, _<_}
 use native.Mathlib.Omega.{arith}
@@ -36,18 +36,6 @@ use Rattle.answers.proofs.Leaving.{left-refused}
 use Rattle.answers.proofs.Packing.{Packs, size-is, packs-long}
 use Rattle.edit.specs.Meet.{judgedRefusal, Entered, CutPacked}
 
--- `over_long`
-module _ (removal : Bool) (v : List ℕ) {x : Bool} (ex : x ≡ (not removal && ltb 8192 (length v))) where
-  not-long : x ≡ false → removal ≡ false → length v ≤ 8192
-  not-long tx er = ltb-false 8192 (length v) (ap (λ r. not r && ltb 8192 (length v)) (sym er) ∙ sym ex ∙ tx)
-
-  is-long : x ≡ true → (removal ≡ false) × (8192 < length v)
-  is-long tx = go removal refl (sym ex ∙ tx)
-    where
-      go : (r : Bool) → removal ≡ r → not r && ltb 8192 (length v) ≡ true → (removal ≡ false) × (8192 < length v)
-      go true er z = no-bool z
-      go false er z = (er, ltb-true 8192 (length v) z)
-
 -- ---- the packet
 
 pub edit-unread : (f : Form) (s : List ℕ) (h : Holder) (cs : Changes) {c : Checked} → c ≡ checkedOf (parse f s) → (lent : List ℕ) {n k : ℕ} {r : Answer} → c ≡ Wrong n k → r ≡ refusalOf c
@@ -70,13 +58,11 @@ module _ (f : Form) (a : Asked) (v w s : List ℕ) {r : Judged} (j : JudgedAs f 
     unfolding setEdited
     set-packed = bind-so _ _ tt (judged-yes f a v w s j tr)
 
-    -- the values as they belong to the cuts
-    module _ {v′ w′ : List ℕ} (ev : lowOf t v w ≡ v′) (ew : lowOf t w v ≡ w′) where
-      pub cuts-asked : length s ≤ 8192 → (length s ≤ 8192) × Cutting s k v′ w′ × Entered s k v′ w′
-      cuts-asked l = let q = judged-cuts f a v w s j tr in rw (← ev, ← ew) (l, q .cutting, (es, q .edited))
+    pub cuts-asked : length s ≤ 8192 → (length s ≤ 8192) × Cutting s k (lowOf t v w) (lowOf t w v) × Entered s k (lowOf t v w) (lowOf t w v)
+    cuts-asked l = let q = judged-cuts f a v w s j tr in (l, q .cutting, (es, q .edited))
 
-      pub cuts-left : (lent left : List ℕ) {q : Answer} → CutPacked f s k v′ w′ lent q left → leftOf q left ≡ leaves lent (setEdited f (askedHolder a) (changesOf a v w) s)
-      cuts-left lent left p = p es (rw (← ev, ← ew) (judged-cuts f a v w s j tr .edited)) ∙ ap (leaves lent) (sym set-packed)
+    pub cuts-left : (lent left : List ℕ) {q : Answer} → CutPacked f s k (lowOf t v w) (lowOf t w v) lent q left → leftOf q left ≡ leaves lent (setEdited f (askedHolder a) (changesOf a v w) s)
+    cuts-left lent left p = p es (judged-cuts f a v w s j tr .edited) ∙ ap (leaves lent) (sym set-packed)
 
 -- ---- what the cuts put: n is how many bytes the entries take, size the packet
 
@@ -90,13 +76,8 @@ module _ (f : Form) (s : List ℕ) (k : Cuts) (v w : List ℕ) (q : Cutting s k 
       let p = cut-packs f es refl refl in
       packs-long p lent (omega (arith, l, ap length ee, size-is p, entries-less f es)) e
 
-  module _ {x : Bool} (ex : x ≡ (not (k .lo .removal) && ltb 8192 (length v))) where
-    pub low-over : x ≡ true → (lent : List ℕ) {r : Answer} → r ≡ answerOf 1 0 → CutPacked f s k v w lent r lent
-    low-over tx = let (e, l) = is-long (k .lo .removal) v ex tx in over (long-low s k v w q e l)
+  pub low-over : 8192 < k .lo .size → (lent : List ℕ) {r : Answer} → r ≡ answerOf 1 0 → CutPacked f s k v w lent r lent
+  low-over l = over (long-low s k v w q l)
 
-    module _ (tx : x ≡ false) {y : Bool} (ey : y ≡ (not (k .hi .removal) && ltb 8192 (length w))) where
-      pub high-over : y ≡ true → (lent : List ℕ) {r : Answer} → r ≡ answerOf 1 0 → CutPacked f s k v w lent r lent
-      high-over ty = let (e, l) = is-long (k .hi .removal) w ey ty in over (long-high s k v w q e l)
-
-      pub none-over : y ≡ false → length s ≤ 8192 → Putting s k v w
-      none-over ty l = cuts-put s k v w q l (not-long (k .lo .removal) v ex tx) (not-long (k .hi .removal) w ey ty)
+  pub high-over : 8192 < k .hi .size → (lent : List ℕ) {r : Answer} → r ≡ answerOf 1 0 → CutPacked f s k v w lent r lent
+  high-over l = over (long-high s k v w q l)

@@ -1,13 +1,11 @@
 // Edit: a packet is checked and the edit judged, then the packet with its one change or two is written.
 ghost use mathlib.Core.Path.{_≡_};
-ghost use mathlib.Core.Bool.{not, _&&_};
 ghost use Prim.Native.Nat.{_≤_};
-ghost use lib.Dec.{ltb};
 ghost use lib.ListN.{length};
 ghost use Rattle.format.specs.Valid.{SheetValid};
 ghost use Rattle.items.specs.Meet.{formOf, glanceTable};
 ghost use Rattle.find.specs.Places.{SetOf};
-ghost use Rattle.edit_rules.specs.Meet.{sheetOf};
+ghost use Rattle.edit_rules.specs.Meet.{sheetOf, lowOf};
 ghost use Rattle.edit_rules.specs.Cuts.{Cutting, Putting};
 ghost use Rattle.edit.specs.Meet.{judgedRefusal, Entered, CutPacked, SetEdits, AskedEdits};
 use answers::Answer;
@@ -28,17 +26,20 @@ fn edit_refusal(j: Judged) -> Answer
     }
 }
 
-// Whether a value to put has more bytes than a packet may have: then its packet has, too.
-fn over_long(removal: bool, value: &[u8]) -> bool
-    ensures { λ r. ⌜ r ≡ (not removal && ltb 8192 (length (now (value .entry)))) ⌝ }
-{
-    if removal { false } else { 8192 < value.len() }
-}
-
-// The packet with what the cuts put of v, the lower, and of w: 1, 16.
-fn edit_at(s: &[u8], alone: bool, k: Cuts, v: &[u8], w: &[u8], out: &mut [u8]) -> Answer
-    requires { ⌜ Putting (now s) k (now v) (now w) × Entered (now s) k (now v) (now w) ⌝ }
-    ensures { λ r. ⌜ CutPacked (formOf alone) (now (s .entry)) k (now (v .entry)) (now (w .entry)) (now (out .entry)) r (now (out .exit)) ⌝ }
+// The packet with what the cuts put, the lower of v and the higher of w or, turned, the other way: 1, 16.
+fn edit_at(
+    s: &[u8],
+    alone: bool,
+    k: Cuts,
+    turned: bool,
+    v: &[u8],
+    w: &[u8],
+    out: &mut [u8],
+) -> Answer
+    requires { ⌜ Putting (now s) k (lowOf turned (now v) (now w)) (lowOf turned (now w) (now v))
+        × Entered (now s) k (lowOf turned (now v) (now w)) (lowOf turned (now w) (now v)) ⌝ }
+    ensures { λ r. ⌜ CutPacked (formOf alone) (now (s .entry)) k (lowOf turned (now (v .entry)) (now (w .entry)))
+        (lowOf turned (now (w .entry)) (now (v .entry))) (now (out .entry)) r (now (out .exit)) ⌝ }
 {
     let n = edit_bytes::edited_size(k);
     let total = frames::frame_size(alone, n);
@@ -49,23 +50,33 @@ fn edit_at(s: &[u8], alone: bool, k: Cuts, v: &[u8], w: &[u8], out: &mut [u8]) -
         return answer_of(16, total);
     }
     let from = frames::open(out, alone, n);
-    let size = edit_bytes::put_edited(s, k, v, w, &mut out[from..]);
+    let size = edit_bytes::put_edited(s, k, turned, v, w, &mut out[from..]);
     frames::close(out, alone, from + size);
     answer_of(0, total)
 }
 
-// The same for values of any length.
-fn edit_cuts(s: &[u8], alone: bool, k: Cuts, v: &[u8], w: &[u8], out: &mut [u8]) -> Answer
-    requires { ⌜ (length (now s) ≤ 8192) × Cutting (now s) k (now v) (now w) × Entered (now s) k (now v) (now w) ⌝ }
-    ensures { λ r. ⌜ CutPacked (formOf alone) (now (s .entry)) k (now (v .entry)) (now (w .entry)) (now (out .entry)) r (now (out .exit)) ⌝ }
+// The same for cuts that put any number of bytes: with more than a packet may have, its packet has too many.
+fn edit_cuts(
+    s: &[u8],
+    alone: bool,
+    k: Cuts,
+    turned: bool,
+    v: &[u8],
+    w: &[u8],
+    out: &mut [u8],
+) -> Answer
+    requires { ⌜ (length (now s) ≤ 8192) × Cutting (now s) k (lowOf turned (now v) (now w)) (lowOf turned (now w) (now v))
+        × Entered (now s) k (lowOf turned (now v) (now w)) (lowOf turned (now w) (now v)) ⌝ }
+    ensures { λ r. ⌜ CutPacked (formOf alone) (now (s .entry)) k (lowOf turned (now (v .entry)) (now (w .entry)))
+        (lowOf turned (now (w .entry)) (now (v .entry))) (now (out .entry)) r (now (out .exit)) ⌝ }
 {
-    if over_long(k.lo.removal, v) {
+    if 8192 < k.lo.size {
         return answer_of(1, 0);
     }
-    if over_long(k.hi.removal, w) {
+    if 8192 < k.hi.size {
         return answer_of(1, 0);
     }
-    edit_at(s, alone, k, v, w, out)
+    edit_at(s, alone, k, turned, v, w, out)
 }
 
 // An edit of the set of a packet that was checked: the rules, then the packet. Apart, so that the compiler takes neither for a rare way.
@@ -85,10 +96,7 @@ fn edit_set(
     let Judged::Fine { cuts, turned } = j else {
         return edit_refusal(j);
     };
-    if turned {
-        return edit_cuts(s, alone, cuts, w, v, out);
-    }
-    edit_cuts(s, alone, cuts, v, w, out)
+    edit_cuts(s, alone, cuts, turned, v, w, out)
 }
 
 // A packet with one item put or removed, of the set or of the target with an id, or with two of that target. v is the value of the first

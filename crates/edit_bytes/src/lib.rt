@@ -3,6 +3,7 @@ ghost use mathlib.Core.Path.{_≡_};
 ghost use Prim.Native.Nat.{_+_, _≤_};
 ghost use lib.ListN.{length};
 ghost use Rattle.items.specs.Meet.{levelOf};
+ghost use Rattle.edit_rules.specs.Meet.{lowOf};
 ghost use Rattle.edit_rules.specs.Cuts.{cutPut, cutSize, bodySize, packsSize, frontOf, Spans, Small, Putting, putSize, cutBytes, StoredAt};
 use edit_rules::Cut;
 use edit_rules::Cuts;
@@ -30,6 +31,17 @@ fn put_cut(out: &mut [u8], at: usize, c: Cut, v: &[u8]) -> usize
     }
     let m = c.size;
     store_coded::put_short(out, at, c.tag, &v[v.len() - m..])
+}
+
+// The same, of the one value or of the other.
+fn put_value(out: &mut [u8], at: usize, c: Cut, other: bool, v: &[u8], w: &[u8]) -> usize
+    requires { ⌜ Small c × (c .size ≤ length (lowOf other (now v) (now w))) × (at + cutSize c ≤ length (now out)) ⌝ }
+    ensures { λ r. ⌜ StoredAt (now (out .entry)) at (cutPut c (lowOf other (now (v .entry)) (now (w .entry)))) r (now (out .exit)) ⌝ }
+{
+    if other {
+        return put_cut(out, at, c, w);
+    }
+    put_cut(out, at, c, v)
 }
 
 // ---- the lengths around the cuts
@@ -91,18 +103,20 @@ fn put_front(s: &[u8], k: Cuts, n: usize, out: &mut [u8]) -> usize
     stores::copy_all(out, d, &s[body..at])
 }
 
-// The entries with what the cuts put of v, the lower, and of w, at the start of out; how many bytes.
-pub fn put_edited(s: &[u8], k: Cuts, v: &[u8], w: &[u8], out: &mut [u8]) -> usize
-    requires { ⌜ Putting (now s) k (now v) (now w) × (putSize k ≤ length (now out)) ⌝ }
-    ensures { λ r. ⌜ StoredAt (now (out .entry)) 0 (cutBytes (now (s .entry)) k (now (v .entry)) (now (w .entry))) r (now (out .exit)) ⌝ }
+// The entries with what the cuts put, the lower of v and the higher of w or, turned, the other way, at the start of out; how many bytes.
+pub fn put_edited(s: &[u8], k: Cuts, turned: bool, v: &[u8], w: &[u8], out: &mut [u8]) -> usize
+    requires { ⌜ Putting (now s) k (lowOf turned (now v) (now w)) (lowOf turned (now w) (now v)) × (putSize k ≤ length (now out)) ⌝ }
+    ensures { λ r. ⌜ StoredAt (now (out .entry)) 0
+        (cutBytes (now (s .entry)) k (lowOf turned (now (v .entry)) (now (w .entry))) (lowOf turned (now (w .entry)) (now (v .entry))))
+        r (now (out .exit)) ⌝ }
 {
     let n = body_size(k);
     let a = put_front(s, k, n, out);
-    let b = put_cut(out, a, k.lo, v);
+    let b = put_value(out, a, k.lo, turned, v, w);
     let low = k.lo.next;
     let high = k.hi.at;
     let c = stores::copy_all(out, b, &s[low..high]);
-    let d = put_cut(out, c, k.hi, w);
+    let d = put_value(out, c, k.hi, turned, w, v);
     let next = k.hi.next;
     let stop = k.place.stop;
     stores::copy_all(out, d, &s[next..stop])

@@ -78,31 +78,27 @@ module _ (f : Form) (a : Asked) (v w s : List ℕ) {r : Judged} (j : JudgedAs f 
 
 -- ---- what is put at the cuts
 
--- a value that is put, and has no more bytes than a packet
-cut-small : (c : Cut) (v : List ℕ) → CutOf c v → (c .removal ≡ false → length v ≤ 8192) → Small c
-cut-small c v h l = go (c .removal) refl
-  where
-    go : (r : Bool) → c .removal ≡ r → Small c
-    go true e = (h .tag-high, omega (arith, h .none e))
-    go false e = (h .tag-high, omega (arith, h .some, l e))
-
 with-more : (l : Level) (p : Place) (n : ℕ) → n ≤ withSize l p n
 unfolding withSize
 with-more set p n = omega arith
 with-more pack p n = omega arith
 
--- of a value that is longer than any packet
-item-long : (c : Cut) (x : List ℕ) → CutOf c x → c .removal ≡ false → 8192 < length x → 8192 < length (cutPut c x)
-item-long c x h e l = omega (arith, h .long e l, put-long (c .removal) (c .tag) x (c .size) (h .some), size-more (c .removal) (c .tag) (c .size) e)
+-- one that puts more bytes than a packet may have
+item-long : (c : Cut) (x : List ℕ) → CutOf c x → 8192 < c .size → 8192 < length (cutPut c x)
+item-long c x h l = go (c .removal) refl
+  where
+    go : (r : Bool) → c .removal ≡ r → 8192 < length (cutPut c x)
+    go true e = absurd (omega (arith, l, h .none e))
+    go false e = omega (arith, l, put-long (c .removal) (c .tag) x (c .size) (h .some), size-more (c .removal) (c .tag) (c .size) e)
 
 module _ (s : List ℕ) (k : Cuts) (v w : List ℕ) (q : Cutting s k v w) where
-  pub cuts-put : length s ≤ 8192 → (k .lo .removal ≡ false → length v ≤ 8192) → (k .hi .removal ≡ false → length w ≤ 8192) → Putting s k v w
+  pub cuts-put : length s ≤ 8192 → k .lo .size ≤ 8192 → k .hi .size ≤ 8192 → Putting s k v w
   cuts-put l bv bw = record {
     short = l;
     spans = q .spans;
-    low-small = cut-small (k .lo) v (q .low) bv;
+    low-small = (q .low .tag-high, bv);
     low-some = q .low .some;
-    high-small = cut-small (k .hi) w (q .high) bw;
+    high-small = (q .high .tag-high, bw);
     high-some = q .high .some;
   }
 
@@ -112,8 +108,8 @@ module _ (s : List ℕ) (k : Cuts) (v w : List ℕ) (q : Cutting s k v w) where
       let e : length (cutPut (k .lo) v) + length (cutPut (k .hi) w) ≤ m = omega arith in
       omega (arith, e, with-more (levelOf (k .set)) (k .place) m, with-long s k (q .spans) (cutPut (k .lo) v) (cutPut (k .hi) w))
 
-  pub long-low : k .lo .removal ≡ false → 8192 < length v → 8192 < length (cutBytes s k v w)
-  long-low e l = omega (arith, items-less, item-long (k .lo) v (q .low) e l)
+  pub long-low : 8192 < k .lo .size → 8192 < length (cutBytes s k v w)
+  long-low l = omega (arith, items-less, item-long (k .lo) v (q .low) l)
 
-  pub long-high : k .hi .removal ≡ false → 8192 < length w → 8192 < length (cutBytes s k v w)
-  long-high e l = omega (arith, items-less, item-long (k .hi) w (q .high) e l)
+  pub long-high : 8192 < k .hi .size → 8192 < length (cutBytes s k v w)
+  long-high l = omega (arith, items-less, item-long (k .hi) w (q .high) l)

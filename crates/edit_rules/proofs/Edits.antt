@@ -136,7 +136,7 @@ module _ (f : Form) (s : List ℕ) (b : Bytes s) (k : SetOf f s) where
       let z : SetSpot f (c .tag) s p = set-spot f s b k (c .tag) (t .named) p (t .placed) in
       let y = alone (one-swap flatEntry entryLead entryLead tagOfEntry anEntry (c .tag) h (keptOf f s)) in
       subst (λ r. CutAt f theSet (oneOf c v ∷ []) s (cutsOf true p r (noCut (p .next))) v w) (sym (t .cut-is)) (record {
-        cutting = record { spans = set-spans f s b k q z (oneOf c v ∷ []) (entryMade (c .tag) h) [] y refl (z .at-is) (z .next-is) (z .next-is) (z .next-is); low = cut-says f set c (t .tags) v p (t .named) (t .ruled); high = no-cut-says (p .next) w };
+        cutting = record { spans = set-spans f s b k q z (oneOf c v ∷ []) (entryMade (c .tag) h) [] y refl (z .at-is) (z .next-is) (z .next-is) (z .next-is); low = cut-says set c v p (t .named); high = no-cut-says (p .next) w };
         edited = set-edits f s b k q z (oneOf c v ∷ []) (entryMade (c .tag) h) [] y refl (z .at-is) (z .next-is) (z .next-is) (z .next-is)
             ∙ ap (λ r. withTwo s q r []) (made-entry (c .tag) h ∙ sym (put-is set (c .tag) v (c .removal)));
       })
@@ -150,7 +150,7 @@ module _ (f : Form) (s : List ℕ) (b : Bytes s) (k : SetOf f s) where
       let l = t .placed in
       let y = alone (one-swap flatItem itemLead itemLead tagOfItem (anItem pack) (c .tag) h (l .items)) in
       subst (λ r. CutAt f (target id) (oneOf c v ∷ []) s (cutsOf false p r (noCut (p .next))) v w) (sym (t .cut-is)) (record {
-        cutting = record { spans = target-spans f s b k q l (oneOf c v ∷ []) (itemMade (c .tag) h) [] y refl (l .item-at) (l .next-at) (l .next-at) (l .next-at); low = cut-says f pack c (t .tags) v p (t .named) (t .ruled); high = no-cut-says (p .next) w };
+        cutting = record { spans = target-spans f s b k q l (oneOf c v ∷ []) (itemMade (c .tag) h) [] y refl (l .item-at) (l .next-at) (l .next-at) (l .next-at); low = cut-says pack c v p (t .named); high = no-cut-says (p .next) w };
         edited = target-edits f s b k q l (oneOf c v ∷ []) (itemMade (c .tag) h) [] y refl (l .item-at) (l .next-at) (l .next-at) (l .next-at)
             ∙ ap (λ r. withTwo s q r []) (made-item (c .tag) h ∙ sym (put-is pack (c .tag) v (c .removal)));
       })
@@ -201,13 +201,13 @@ module _ (f : Form) (s : List ℕ) (b : Bytes s) (k : SetOf f s) where
     in-order (inl (le, z)) =
         let q : Cuts = cutsOf false p x₀ y₀ in
         subst (CutIf f (target id) cs s v w) (sym (as-asked false p x₀ y₀ (le-ltb (p′ .at) (p .at) (omega (arith, le, at-second, l .item-at))))) (record {
-          cutting = record { spans = target-spans f s b k q l cs i j z refl (l .item-at) (l .next-at) at-second next-second; low = cut-says f pack c (t .tags) v p (t .named) (t .ruled); high = cut-says f pack d (t′ .tags) w p′ (t′ .named) (t′ .ruled) };
+          cutting = record { spans = target-spans f s b k q l cs i j z refl (l .item-at) (l .next-at) at-second next-second; low = cut-says pack c v p (t .named); high = cut-says pack d w p′ (t′ .named) };
           edited = target-edits f s b k q l cs i j z refl (l .item-at) (l .next-at) at-second next-second ∙ ap (λ r. withTwo s q r j) i-is ∙ ap (withTwo s q _) j-is;
         })
     in-order (inr (lt, z)) =
         let q : Cuts = cutsOf false p y₀ x₀ in
         subst (CutIf f (target id) cs s v w) (sym (turned-round false p x₀ y₀ (lt-ltb (p′ .at) (p .at) (omega (arith, lt, at-second, l .item-at))))) (record {
-          cutting = record { spans = target-spans f s b k q l cs j i z refl at-second next-second (l .item-at) (l .next-at); low = cut-says f pack d (t′ .tags) w p′ (t′ .named) (t′ .ruled); high = cut-says f pack c (t .tags) v p (t .named) (t .ruled) };
+          cutting = record { spans = target-spans f s b k q l cs j i z refl at-second next-second (l .item-at) (l .next-at); low = cut-says pack d w p′ (t′ .named); high = cut-says pack c v p (t .named) };
           edited = target-edits f s b k q l cs j i z refl at-second next-second (l .item-at) (l .next-at) ∙ ap (λ r. withTwo s q r i) j-is ∙ ap (withTwo s q _) i-is;
         })
 

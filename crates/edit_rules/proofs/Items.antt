@@ -1,19 +1,16 @@
--- The item that is put at a cut: its bytes and how many; and of a value that is longer than any packet, all is put.
+-- The item that is put at a cut: its bytes and how many.
 use mathlib.Core.Path.{_≡_, refl, sym, ap, _∙_}
-use Prim.Native.Nat.{ℕ, _+_, _-_, _/_, _≤_, _<_}
+use Prim.Native.Nat.{ℕ, _+_, _-_, _/_, _≤_}
 use native.Mathlib.Omega.{arith}
-use mathlib.Core.Bool.{Bool, true, false, not, _&&_, _||_}
-use mathlib.Core.List.{List, [], _∷_}
+use mathlib.Core.Bool.{Bool, true, false}
+use mathlib.Core.List.{List}
 use lib.ListN.{length, length-append, length-drop}
-use lib.Dec.{leb, eqb}
-use borrow.Author.Tests.{leb-true}
-use Rattle.format.specs.Answer.{ok}
 use Rattle.format.specs.Coding.{lenWidth, oidBytes}
-use Rattle.format.specs.Table.{Form, Level, set, pack, Rule, Most, upTo, any, isNumber, within, rules, find, ruleOf, nameable, sized, valued, short}
+use Rattle.format.specs.Table.{Level, set, pack, ruleOf, nameable, short}
 use Rattle.format.specs.Packet.{flatItem}
 use Rattle.format.specs.Calls.{itemOf}
-use Rattle.format.specs.Edit.{valWith, changeRules}
-use Rattle.format.proofs.words.Answers.{no-bool, and-both, need-then}
+use Rattle.format.specs.Edit.{valWith}
+use Rattle.format.proofs.words.Answers.{no-bool}
 use Rattle.format.proofs.table.Tags.{nameable-high}
 use Rattle.coding.proofs.Counts.{digits-most, len-most}
 use Rattle.coding.proofs.Rooms.{tail-part}
@@ -60,72 +57,18 @@ put-less : (l : Level) (tag : ℕ) (v : List ℕ) (b : Bool) → shortOf l tag (
 put-less l tag v true = omega arith
 put-less l tag v false = short-less (ruleOf l tag) v refl
 
--- ---- a value that is longer than any packet
-
--- a number's rule allows no such value
-abbrev few : Most → Bool
-few (upTo m) = leb m 8192
-few any = false
-
-abbrev numberFew : Rule → Bool
-numberFew r = not (isNumber (r .kind)) || few (r .most)
-
-abbrev allFew : List (ℕ × Rule) → Bool
-allFew [] = true
-allFew (e ∷ es) = numberFew (e .1) && allFew es
-
-find-few : (es : List (ℕ × Rule)) (tag : ℕ) → allFew es ≡ true → numberFew (find es tag) ≡ true
-unfolding find
-find-few [] tag h = refl
-find-few (e ∷ es) tag h = go (find-few es tag (and-both (numberFew (e .1)) (allFew es) h .1)) (eqb (e .0) tag) refl
-  where
-    go : numberFew (find es tag) ≡ true → (b : Bool) → eqb (e .0) tag ≡ b → numberFew (find (e ∷ es) tag) ≡ true
-    go ih true z = rw (z, find) (and-both (numberFew (e .1)) (allFew es) h .0)
-    go ih false z = rw (z, find) ih
-
-rule-few : (l : Level) (tag : ℕ) → numberFew (ruleOf l tag) ≡ true
-unfolding ruleOf rules
-rule-few set tag = find-few (rules set) tag refl
-rule-few pack tag = find-few (rules pack) tag refl
-
-few-long : (m : Most) (n : ℕ) → few m ≡ true → within n m ≡ true → n ≤ 8192
-few-long (upTo m) n h w = omega (arith, leb-true m 8192 h, leb-true n m w)
-few-long any n h w = no-bool h
-
--- so it is put as it is
-long-stays : (r : Rule) (v : List ℕ) → numberFew r ≡ true → sized r (length v) ≡ true → 8192 < length v → short r v ≡ v
-unfolding short sized
-long-stays r v h z l = go (isNumber (r .kind)) refl
-  where
-    go : (b : Bool) → isNumber (r .kind) ≡ b → short r v ≡ v
-    go true e =
-        let w = and-both (leb (r .least) (length v) && within (length v) (r .most)) _ z .0 in
-        absurd (omega (arith, l, few-long (r .most) (length v) (rw e at h) (and-both (leb (r .least) (length v)) _ w .1)))
-    go false e = rw (e, short)
-
-long-put : (f : Form) (l : Level) (tag : ℕ) (tags v : List ℕ) (b : Bool) → changeRules f l tag tags (changeOf b v) ≡ ok tt → b ≡ false → 8192 < length v → 8192 < shortOf l tag (changeOf b v)
-unfolding changeRules valued
-long-put f l tag tags v true e z m = no-bool (sym z)
-long-put f l tag tags v false e z m =
-    need-then _ _ _ _ e λ _ e₁.
-    need-then _ _ _ _ e₁ λ _ e₂.
-    need-then _ _ _ _ e₂ λ s _.
-    omega (arith, m, ap length (long-stays (ruleOf l tag) v (rule-few l tag) s m))
-
 -- ---- the cut
 
 none-put : (l : Level) (tag : ℕ) (v : List ℕ) (b : Bool) → b ≡ true → shortOf l tag (changeOf b v) ≡ 0
 none-put l tag v true e = refl
 none-put l tag v false e = no-bool e
 
-pub cut-says : (f : Form) (l : Level) (c : told.Change) (tags v : List ℕ) (p : Place) → nameable l (c .tag) ≡ true → changeRules f l (c .tag) tags (changeOf (c .removal) v) ≡ ok tt
-    → CutOf (cutOf c p (shortOf l (c .tag) (changeOf (c .removal) v))) v
-cut-says f l c tags v p n e = record {
+pub cut-says : (l : Level) (c : told.Change) (v : List ℕ) (p : Place) → nameable l (c .tag) ≡ true → CutOf (cutOf c p (shortOf l (c .tag) (changeOf (c .removal) v))) v
+cut-says l c v p n = record {
   tag-high = nameable-high l (c .tag) n;
   some = put-less l (c .tag) v (c .removal);
   none = none-put l (c .tag) v (c .removal);
-  long = long-put f l (c .tag) tags v (c .removal) e;
 }
 
 pub no-cut-says : (a : ℕ) (v : List ℕ) → CutOf (noCut a) v
-no-cut-says a v = record { tag-high = omega arith; some = omega arith; none = λ _. refl; long = λ e. no-bool (sym e) }
+no-cut-says a v = record { tag-high = omega arith; some = omega arith; none = λ _. refl }

@@ -88,12 +88,11 @@ pub record Spans (n : ℕ) (k : Cuts) : Type 0 where
 
 -- ---- what is written
 
--- what a cut puts is the last bytes of a value; one with more bytes than a packet may have is put as it is
+-- what a cut puts is the last bytes of a value
 pub record CutOf (c : Cut) (v : List ℕ) : Type 0 where
   pub tag-high : c .tag ≤ 16383
   pub some : c .size ≤ length v
   pub none : c .removal ≡ true → c .size ≡ 0
-  pub long : c .removal ≡ false → 8192 < length v → 8192 < c .size
 
 -- cuts in order, which put what they do of v and w
 pub record Cutting (s : List ℕ) (k : Cuts) (v w : List ℕ) : Type 0 where

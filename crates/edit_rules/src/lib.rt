@@ -5,7 +5,7 @@ ghost use lib.ListN.{length, getD};
 ghost use Rattle.format.specs.Valid.{SheetValid};
 ghost use Rattle.items.specs.Meet.{formOf, levelOf, glanceTable};
 ghost use Rattle.items.specs.Quick.{Glanced};
-ghost use Rattle.find.specs.Places.{SetOf};
+ghost use Rattle.find.specs.Places.{holderOf, SetOf, FoundIs};
 ghost use Rattle.edit_rules.specs.Meet.{sheetOf, cutOf, noCut, ValuedAs, TurnAs, SecondAs};
 ghost use Rattle.edit_rules.specs.Meet.{leftBy, pairOf, partedBy, lostBy, EndsAs, inOrder, RestAs, JudgedAs};
 use find::Found;
@@ -138,15 +138,24 @@ fn no_cut(at: usize) -> Cut
     }
 }
 
-// A change as the packet has its level: 19, 18, then for a put 7, 13, 11, 12.
-fn turn_of(glances: &[u32], s: &[u8], alone: bool, set: bool, id: u64, c: Change, v: &[u8]) -> Turn
-    requires { ⌜ (now glances ≡ glanceTable) × SetOf (formOf alone) (now s) ⌝ }
+// A change as the packet has its level, where its item was found: 19, 18, then for a put 7, 13, 11, 12. The search is the caller's: so it
+// is a call of its own, and this is not.
+fn turn_of(
+    glances: &[u32],
+    s: &[u8],
+    alone: bool,
+    set: bool,
+    id: u64,
+    c: Change,
+    f: Found,
+    v: &[u8],
+) -> Turn
+    requires { ⌜ (now glances ≡ glanceTable) × SetOf (formOf alone) (now s) × FoundIs (formOf alone) (holderOf set id) (c .tag) (now s) f ⌝ }
     ensures { λ r. ⌜ TurnAs (formOf alone) set id c (now (v .entry)) (now (s .entry)) r ⌝ }
 {
     if !items::nameable_of(set, c.tag) {
         return Turn::Wrong(19);
     }
-    let f = find::place_of(s, alone, set, id, c.tag);
     let Found::There(place) = f else {
         return Turn::Wrong(18);
     };
@@ -184,7 +193,8 @@ fn second_turn(glances: &[u32], s: &[u8], alone: bool, a: Asked, p: Place, w: &[
         return Turn::Wrong(19);
     }
     let c = a.second;
-    turn_of(glances, s, alone, a.set, a.id, c, w)
+    let f = find::place_of(s, alone, a.set, a.id, c.tag);
+    turn_of(glances, s, alone, a.set, a.id, c, f, w)
 }
 
 // ---- what is left of the level
@@ -307,7 +317,8 @@ pub fn judge(glances: &[u32], s: &[u8], alone: bool, a: Asked, v: &[u8], w: &[u8
     ensures { λ r. ⌜ JudgedAs (formOf alone) a (now (v .entry)) (now (w .entry)) (now (s .entry)) r ⌝ }
 {
     let c = a.first;
-    let t = turn_of(glances, s, alone, a.set, a.id, c, v);
+    let f = find::place_of(s, alone, a.set, a.id, c.tag);
+    let t = turn_of(glances, s, alone, a.set, a.id, c, f, v);
     match t {
         Turn::Fine { place, cut } => judge_rest(glances, s, alone, a, place, cut, w),
         Turn::Wrong(n) => Judged::Wrong(n),

@@ -78,7 +78,7 @@ pub fn table() -> [u32; 37]
 }
 
 // The greatest tag that has a row.
-pub fn most_tag(set: bool) -> u64
+fn most_tag(set: bool) -> u64
     ensures { λ r. ⌜ r ≡ mostTag set ⌝ }
 {
     if set { 12 } else { 23 }

@@ -2,16 +2,14 @@
 use mathlib.Core.Path.{_≡_, refl, sym, ap, _∙_}
 use Prim.Native.Nat.{ℕ, _+_, _-_, _≤_, _<_}
 use native.Mathlib.Omega.{arith}
-use mathlib.Core.Bool.{Bool, true, false, not, _&&_}
+use mathlib.Core.Bool.{Bool, _&&_}
 use mathlib.Core.List.{List}
 use lib.ListN.{length, drop, take, getD}
-use lib.Dec.{ltb, eqb}
+use lib.Dec.{eqb}
 use lib.Bits.{bitOr, or-zero-r}
-use borrow.Author.Tests.{ltb-true}
 use Rattle.format.specs.Coding.{Bytes}
 use Rattle.format.specs.Table.{Form}
 use Rattle.format.specs.Read.{headOf}
-use Rattle.format.proofs.words.Answers.{and-both}
 use Rattle.coding.proofs.Rooms.{tail-part}
 use Rattle.items.specs.Meet.{levelOf}
 use Rattle.items.specs.Quick as items
@@ -27,11 +25,6 @@ use Rattle.quick_items.specs.Items.{Plain}
 use Rattle.tally.proofs.Bits.{no-bit}
 use Rattle.tally.proofs.ItemTurns.{ItemAt, EntryTold, level-is, piece-stood, piece-room, item-told, good-small, entry-more}
 use Rattle.quick_items.proofs.Glances.{quick-meets, met-item}
-
--- no such tag has a bit
-none-held : (b : Bool) (tag : ℕ) → items.beyond b tag ≡ true → bitOf (levelOf b) tag ≡ 0
-none-held true tag h = no-bit true tag (ltb-true 12 tag (and-both (ltb 12 tag) (not (eqb tag 101)) h .0))
-none-held false tag h = no-bit false tag (ltb-true 23 tag h)
 
 -- an item at p whose head the code has read, and that may stand there whatever its value
 pub record PlainAt (b : Bool) (f : Form) (s : List ℕ) (p : ℕ) (sum : Sizes) (held top low tag u w n : ℕ) : Type 0 where
@@ -58,7 +51,7 @@ module _ {b : Bool} {f : Form} {s : List ℕ} {p : ℕ} {sum : Sizes} {held top 
     most = i .most;
   })
 
-  told-so : EntryTold plain-item (Good (itemSizes (levelOf b) tag n) (bitOf (levelOf b) tag))
+  told-so : EntryTold plain-item (Good (itemSizes (levelOf b) tag n) (bitOf tag))
   told-so = item-told plain-item {x = b && eqb tag 101} refl (rw level-is at (quick .no-series)) refl
 
   pub plain-small : (tag ≤ 16383) × (n ≤ 65536)
@@ -75,4 +68,4 @@ module _ {b : Bool} {f : Form} {s : List ℕ} {p : ℕ} {sum : Sizes} {held top 
     pub plain-more : {sum′ : Sizes} → sum′ ≡ plusSizes sum z → {top′ : ℕ} → (top ≤ top′) × (tag ≤ top′) → {low′ : ℕ} → (low′ ≤ low) × (low′ ≤ tag) → LevelGoing b f s (p + u + w + n) sum′ held top′ low′
     plain-more es et el =
         let e : p + u + w + n ≡ p + (u + w) + n = omega arith in
-        rw e (entry-more plain-item told-so refl (es ∙ ap (plusSizes sum) ez) (sym (or-zero-r held) ∙ ap (bitOr held) (sym (none-held b tag (i .plain .beyond)))) et el)
+        rw e (entry-more plain-item told-so refl (es ∙ ap (plusSizes sum) ez) (sym (or-zero-r held) ∙ ap (bitOr held) (sym (no-bit tag (i .plain .bare)))) et el)

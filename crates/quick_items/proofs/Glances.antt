@@ -153,7 +153,7 @@ module _ {b : Bool} {f : Form} {s : List ℕ} {p top n : ℕ} (g : ItemGlanced b
 
   -- x is the tag as the code read it
   glance-more : {count held low : ℕ} → LevelGoing b f s p (toldSizes count p) held top low → Bytes s → length s ≤ 8192
-      → {x : ℕ} → x ≡ tag → {y held′ : ℕ} → y ≡ bitOf (levelOf b) x → held′ ≡ bitOr held y → {low′ : ℕ} → (low′ ≤ low) × (low′ ≤ x)
+      → {x : ℕ} → x ≡ tag → {y held′ : ℕ} → y ≡ bitOf x → held′ ≡ bitOr held y → {low′ : ℕ} → (low′ ≤ low) × (low′ ≤ x)
       → LevelGoing b f s (p + 2 + n) (toldSizes (count + 1) (p + 2 + n)) held′ x low′
   glance-more {count = count} {held = held} {low = low} go bytes most ex ey em el =
       let (z, th, nh) = glance-small in
@@ -167,7 +167,7 @@ module _ {b : Bool} {f : Form} {s : List ℕ} {p top n : ℕ} (g : ItemGlanced b
         most = most;
       } in
       entry-more i (item-told i {x = b && eqb tag 101} refl (rw level-is at (g .quick .no-series)) refl) refl (quick-plus (levelOf b) tag n count p (g .quick .no-seal) th nh)
-      (em ∙ ap (bitOr held) (ey ∙ ap (bitOf (levelOf b)) ex)) (omega (arith, g .above, ex), omega (arith, ex)) (el .0, omega (arith, ex, el .1))
+      (em ∙ ap (bitOr held) (ey ∙ ap bitOf ex)) (omega (arith, g .above, ex), omega (arith, ex)) (el .0, omega (arith, ex, el .1))
 
 -- an item that ends at next by its length; x is its tag as the code read it
 module _ {b : Bool} {f : Form} {s : List ℕ} {p top next : ℕ} (g : GlancedTo b f s p top next) where
@@ -179,6 +179,6 @@ module _ {b : Bool} {f : Form} {s : List ℕ} {p top next : ℕ} (g : GlancedTo 
     glanced-low h ex = let i = g .4 room in omega (arith, ex, h (omega (arith, glanced-next)) (i .above) (i .small))
 
     pub glanced-more : {count held low : ℕ} → LevelGoing b f s p (toldSizes count p) held top low → Bytes s → length s ≤ 8192
-        → {x : ℕ} → x ≡ getD s p 0 → {y held′ : ℕ} → y ≡ bitOf (levelOf b) x → held′ ≡ bitOr held y → low ≤ x
+        → {x : ℕ} → x ≡ getD s p 0 → {y held′ : ℕ} → y ≡ bitOf x → held′ ≡ bitOr held y → low ≤ x
         → LevelGoing b f s next (toldSizes (count + 1) next) held′ x low
     glanced-more go bytes most ex ey em el = rw (g .1) (glance-more (g .4 room) go bytes most ex ey em (omega arith, el))

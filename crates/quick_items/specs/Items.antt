@@ -33,9 +33,10 @@ GlancedTo b f s p top next = (n : ℕ) × (next ≡ p + 2 + n) × (0 < n) × (p 
 abbrev pub toldSizes : ℕ → ℕ → Sizes
 toldSizes count p = sizes (4 * count + p) count p 0
 
--- an item of n bytes at p that may stand there whatever they are
+-- an item of n bytes at p that may stand there whatever they are, its tag with no bit
 pub record Plain (b : Bool) (f : Form) (p top low tag n : ℕ) : Type 0 where
   pub some : 0 < n
+  pub bare : 64 ≤ tag
   pub new : New p top low tag
   pub begins : Begun b f p tag
   pub beyond : items.beyond b tag ≡ true

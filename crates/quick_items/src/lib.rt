@@ -100,7 +100,7 @@ pub fn glance_items(glances: &[u32], s: &[u8], set: bool, alone: bool) -> Stage
             return tally::stages::stage_at(p, told_sizes(count, p), held, top, low);
         }
         let tag = coding::wide(s[p]);
-        held = held | tally::bit_of(set, tag);
+        held = held | tally::bit_of(tag);
         top = tag;
         count += 1;
         p = next;
@@ -122,11 +122,15 @@ fn is_new(p: usize, top: u64, low: u64, key: u64) -> bool
     p == 0
 }
 
-// Whether an item with a value of n bytes may stand at p, whatever they are: no table lists its tag, and that is told to be new.
+// Whether an item with a value of n bytes may stand at p, whatever they are: no table lists its tag, that is told to be new, and it is one
+// with no bit, so that what the level holds stays as it is.
 pub fn is_plain(set: bool, alone: bool, p: usize, top: u64, low: u64, tag: u64, n: usize) -> bool
     ensures { λ r. ⌜ (r ≡ true → Plain set (formOf alone) p top low tag n) ⌝ }
 {
     if n == 0 {
+        return false;
+    }
+    if tag < 64 {
         return false;
     }
     if !is_new(p, top, low, tag) {

@@ -9,7 +9,7 @@ use lib.ListN.{length, take, drop, getD, length-drop}
 use lib.Seq.{getD-take, length-take-le}
 use lib.Bits.{bitOr}
 use Rattle.format.specs.Coding.{Bytes}
-use Rattle.format.specs.Table.{Form, Level, pack}
+use Rattle.format.specs.Table.{Form, Level}
 use Rattle.format.proofs.words.Bytes.{bytes-drop, bytes-take}
 use Rattle.coding.specs.Alike.{Alike, AlikeTo, ItemMasked}
 use Rattle.coding.proofs.Alikes.{alike-same, alike-as, masked-before, masked-head, masked-value}
@@ -58,7 +58,7 @@ laying-own {m = m} {a = a} {p = p} l h bytes = l .walked h a bytes refl (alike-s
 -- one more, whose tag the code read as x, and its length as n
 pub laying-more : {f : Form} {m a : List ℕ} {p count held top low : ℕ} → Laying f m a p count held top low → {next : ℕ} → GlancedTo false f a p top next → length a < 128
     → {m′ : List ℕ} {x n v : ℕ} → x ≡ getD a p 0 → n ≡ getD a (p + 1) 0 → ItemMasked m m′ p 2 v → (v ≡ 0 → items.Glanced (levelOf false) f x n 0)
-    → {y held′ : ℕ} → y ≡ bitOf pack x → held′ ≡ bitOr held y
+    → {y held′ : ℕ} → y ≡ bitOf x → held′ ≡ bitOr held y
     → Laying f m′ a next (count + 1) held′ x low
 laying-more {f = f} {a = a} {p = p} {top = top} {low = low} l {next = next} g few {m′ = m′} {x = x} {n = n} ex en i any ey em = record {
   long = i .long ∙ l .long;

@@ -53,7 +53,7 @@ fn lay(glances: &[u32], s: &[u8], alone: bool, masks: &mut [u8; 160]) -> Stage
         let tag = coding::wide(s[p]);
         let first = items::quick::first_mask(glances, false, alone, tag, coding::wide(s[p + 1]));
         coding::alike::mask_item(masks, p, 2, first);
-        held = held | tally::bit_of(false, tag);
+        held = held | tally::bit_of(tag);
         top = tag;
         count += 1;
         p = next;

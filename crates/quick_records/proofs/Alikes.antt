@@ -9,7 +9,7 @@ use lib.Seq.{getD-drop}
 use lib.Bits.{bitOr}
 use Rattle.format.specs.Coding.{Bytes, bytesNumber}
 use Rattle.format.specs.Sheet.{Mark, markOf, is}
-use Rattle.format.specs.Table.{Form, pack}
+use Rattle.format.specs.Table.{Form}
 use Rattle.coding.specs.Alike.{AlikeTo, ItemMasked}
 use Rattle.coding.proofs.Alikes.{masked-before, masked-head, masked-value}
 use Rattle.items.specs.Meet.{levelOf}
@@ -72,7 +72,7 @@ pub record Remasked (f : Form) (m m′ : List ℕ) (p tag n : ℕ) : Type 0 wher
 
 pub laying-more : {f : Form} {m a : List ℕ} {p count held top : ℕ} → Laying f m a p count held top → {tag next : ℕ} → RecordGlanced false f a p top tag (next - (p + 6)) → Bytes a → length a ≤ 65536
     → {m′ : List ℕ} → length m′ ≡ 160 → (p < 128 → Remasked f m m′ p tag (next - (p + 6)))
-    → {y held′ : ℕ} → y ≡ bitOf pack tag → held′ ≡ bitOr held y
+    → {y held′ : ℕ} → y ≡ bitOf tag → held′ ≡ bitOr held y
     → Laying f m′ a next (count + 1) held′ tag
 laying-more {p = p} l {next = next} g bytes most long masked ey em = record {
   long = long;

@@ -191,7 +191,7 @@ glance-next g = (omega (arith, g .quick .some), omega (arith, glance-room g, g .
 -- tags rise; none is below low
 pub glance-more : {b : Bool} {f : Form} {s : List ℕ} {p top tag next : ℕ} → RecordGlanced b f s p top tag (next - (p + 6)) → Begun b f p tag
     → {count held low : ℕ} → RecordsGoing b f s p (toldSizes count p) held top low → low ≤ tag → 4 * count ≤ p → Bytes s → length s ≤ 65536
-    → {y held′ : ℕ} → y ≡ bitOf (levelOf b) tag → held′ ≡ bitOr held y → RecordsGoing b f s next (toldSizes (count + 1) next) held′ tag low
+    → {y held′ : ℕ} → y ≡ bitOf tag → held′ ≡ bitOr held y → RecordsGoing b f s next (toldSizes (count + 1) next) held′ tag low
 glance-more {b = b} {f = f} {s = s} {p = p} {top = top} {tag = tag} {next = next} g begins {count = count} {held = held} {low = low} go above few bytes most {held′ = held′} ey em =
     let n : ℕ = next - (p + 6) in
     let i : PartAt b f s (stageAt p (toldSizes count p) held top low) tag 6 n n = record {
@@ -205,7 +205,7 @@ glance-more {b = b} {f = f} {s = s} {p = p} {top = top} {tag = tag} {next = next
       most = most;
     } in
     let at : next ≡ p + itemSizes (levelOf b) tag n .sheet = omega (arith, glance-next g, ap (λ (a : Sizes). a .sheet) (item-is (levelOf b) tag n (g .quick .no-seal))) in
-    let after : After (stageAt p (toldSizes count p) held top low) tag (itemSizes (levelOf b) tag n) (bitOf (levelOf b) tag) (stageAt next (toldSizes (count + 1) next) held′ tag low) = record {
+    let after : After (stageAt p (toldSizes count p) held top low) tag (itemSizes (levelOf b) tag n) (bitOf tag) (stageAt next (toldSizes (count + 1) next) held′ tag low) = record {
       at-is = at;
       sizes-are = ap (toldSizes (count + 1)) at ∙ quick-plus (levelOf b) tag n count p (g .quick .no-seal) (g .small) (g .few) few;
       held-is = em ∙ ap (bitOr held) ey;

@@ -118,7 +118,7 @@ pub fn glance_rising(glances: &[u32], s: &[u8], set: bool, alone: bool, low: u64
         if g.next == 0 {
             return tally::stages::stage_at(p, told_sizes(count, p), held, top, low);
         }
-        held = held | tally::bit_of(set, g.tag);
+        held = held | tally::bit_of(g.tag);
         top = g.tag;
         count += 1;
         p = g.next;

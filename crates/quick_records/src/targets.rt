@@ -40,7 +40,7 @@ fn lay(glances: &[u32], s: &[u8], alone: bool, masks: &mut [u8; 160]) -> Stage
             let first = items::quick::first_mask(glances, false, alone, g.tag, n);
             coding::alike::mask_item(masks, p, 6, first);
         }
-        held = held | tally::bit_of(false, g.tag);
+        held = held | tally::bit_of(g.tag);
         top = g.tag;
         count += 1;
         p = g.next;

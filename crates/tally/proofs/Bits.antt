@@ -1,4 +1,4 @@
--- What a level holds, as bits: that of each tag with a row in the item table says whether the tag is there.
+-- What a level holds, as bits: the bit of each tag below 64 says whether that tag is there.
 use mathlib.Core.Path.{_≡_, refl, sym, ap, ap₂, _∙_}
 use Prim.Native.Nat.{ℕ, zero, suc, _+_, _-_, _*_, _/_, _%_, _^_, _≤_, _<_, max}
 use native.Mathlib.Omega.{arith}
@@ -6,13 +6,11 @@ use native.Mathlib.Nat.{mod-lt, zero-div, div-eq-of-lt, one-mul}
 use mathlib.Core.Bool.{Bool, true, false, _||_}
 use mathlib.Core.List.{List, [], _∷_, map}
 use lib.Arith.{bin-ind}
-use lib.Dec.{ltb, leb, eqb, lit<}
+use lib.Dec.{ltb, eqb, lit<}
 use lib.Pow.{pow-lt, pow-add, shl-shr}
 use lib.Bits.{bitOr, or-step, or-shr, or-mod, shifted-even}
-use borrow.Author.Tests.{ltb-true, ltb-false, leb-false, lt-leb, eq-eqb, ne-eqb}
+use borrow.Author.Tests.{ltb-true, ltb-false, le-ltb, eq-eqb, ne-eqb}
 use Rattle.format.specs.Lists.{has}
-use Rattle.format.specs.Table.{Level, isSet}
-use Rattle.items.specs.Meet.{levelOf, mostTag}
 use Rattle.tally.specs.Meet.{bits, bitOf, isHeld}
 
 -- ---- digits
@@ -77,19 +75,18 @@ power-held k tag = go (ltb tag k) refl (ltb k tag) refl
         let e : tag ≡ k = omega (arith, ltb-false tag k l, ltb-false k tag g) in
         rw (e, same, eq-eqb k k refl)
 
-pub held-bit : (l : Level) (k tag : ℕ) → k ≤ mostTag (isSet l) → isHeld k (bitOf l tag) ≡ eqb tag k
+pub held-bit : (k tag : ℕ) → k < 64 → isHeld k (bitOf tag) ≡ eqb tag k
 unfolding bitOf
-held-bit l k tag h = go (leb tag (mostTag (isSet l))) refl
+held-bit k tag h = go (ltb tag 64) refl
   where
-    go : (b : Bool) → leb tag (mostTag (isSet l)) ≡ b → isHeld k (bitOf l tag) ≡ eqb tag k
+    go : (b : Bool) → ltb tag 64 ≡ b → isHeld k (bitOf tag) ≡ eqb tag k
     go true z = rw (z, bitOf) (power-held k tag)
-    go false z = rw (z, bitOf) (none-held k ∙ sym (ne-eqb tag k (λ e. omega (arith, h, leb-false tag (mostTag (isSet l)) z, e))))
+    go false z = rw (z, bitOf) (none-held k ∙ sym (ne-eqb tag k (λ e. omega (arith, ltb-false tag 64 z, e))))
 
--- one with no row has none
-pub no-bit : (b : Bool) (tag : ℕ) → mostTag b < tag → bitOf (levelOf b) tag ≡ 0
+-- one from 64 on has none
+pub no-bit : (tag : ℕ) → 64 ≤ tag → bitOf tag ≡ 0
 unfolding bitOf
-no-bit true tag h = rw (lt-leb tag 12 h, bitOf)
-no-bit false tag h = rw (lt-leb tag 23 h, bitOf)
+no-bit tag h = rw (le-ltb tag 64 h, bitOf)
 
 -- ---- the bits of all
 
@@ -99,7 +96,7 @@ bits-map f held [] = refl
 bits-map f held (x ∷ xs) = ap (bitOr (held (f x))) (bits-map f held xs)
 
 -- the bits of some tags say which they are
-pub bits-has : (l : Level) (k : ℕ) → k ≤ mostTag (isSet l) → (tags : List ℕ) → isHeld k (bits (bitOf l) tags) ≡ has k tags
+pub bits-has : (k : ℕ) → k < 64 → (tags : List ℕ) → isHeld k (bits bitOf tags) ≡ has k tags
 unfolding bits has
-bits-has l k h [] = none-held k
-bits-has l k h (tag ∷ tags) = held-or k (bitOf l tag) (bits (bitOf l) tags) ∙ ap₂ (λ x y. x || y) (held-bit l k tag h) (bits-has l k h tags)
+bits-has k h [] = none-held k
+bits-has k h (tag ∷ tags) = held-or k (bitOf tag) (bits bitOf tags) ∙ ap₂ (λ x y. x || y) (held-bit k tag h) (bits-has k h tags)

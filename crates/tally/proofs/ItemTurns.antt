@@ -40,7 +40,7 @@ level-start b f s = going-start _ _ _ _ _ _ _ s refl
 -- ---- what one entry says
 
 abbrev EntryReads : Level → Form → List ℕ → List ℕ → ℕ → ℕ → Sizes → ℕ → Type 0
-EntryReads l f seen u tag n a m = Reads (weightOfEntry l) (λ e. bitOf l (tagOfEntry e)) tagOfEntry (stepAt l f seen u) tag n a m
+EntryReads l f seen u tag n a m = Reads (weightOfEntry l) (λ e. bitOf (tagOfEntry e)) tagOfEntry (stepAt l f seen u) tag n a m
 
 -- w is the code's answer on an entry of n bytes
 pub record Told (l : Level) (f : Form) (seen u : List ℕ) (tag n : ℕ) (w : Walked) : Type 0 where
@@ -48,18 +48,18 @@ pub record Told (l : Level) (f : Form) (seen u : List ℕ) (tag n : ℕ) (w : Wa
   pub good : (a : Sizes) (m : ℕ) → w ≡ Good a m → EntryReads l f seen u tag n a m
 
 told-plain : (l : Level) (f : Form) (seen u : List ℕ) (tag from size small : ℕ) → Stood l f seen u tag from size small → isSet l && eqb tag 101 ≡ false
-    → Told l f seen u tag (from + size) (Good (itemSizes l tag small) (bitOf l tag))
+    → Told l f seen u tag (from + size) (Good (itemSizes l tag small) (bitOf tag))
 told-plain l f seen u tag from size small k z = record {
   bad = λ n q e. absurd (let y : _≡_ {A = ℕ} 0 1 = cc in omega arith);
   good = λ a m e.
       let ea : itemSizes l tag small ≡ a = cc in
-      let em : bitOf l tag ≡ m = cc in
+      let em : bitOf tag ≡ m = cc in
       record {
         it = plain (k .it .val);
         reads = plain-step l f seen u tag from size small k z ∙ rw (k .used-is);
         key-is = k .tag-is;
         weighs = plain-weight l f seen u tag from size small k z ∙ ea;
-        holds = ap (bitOf l) (k .tag-is) ∙ em;
+        holds = ap bitOf (k .tag-is) ∙ em;
         few = subst (λ x. Few x (from + size)) ea (plain-few l f seen u tag from size small k);
       };
 }
@@ -148,7 +148,7 @@ module _ {b : Bool} {f : Form} {s : List ℕ} {p : ℕ} {sum : Sizes} {held top 
   abbrev pub EntryTold : Walked → Type 0
   EntryTold w = Told (levelOf b) f (i .going .seen) (drop p s) tag (from + size) w
 
-  pub item-told : {x : Bool} → x ≡ (b && eqb tag 101) → x ≡ false → {w : Walked} → w ≡ Good (itemSizes (levelOf b) tag small) (bitOf (levelOf b) tag) → EntryTold w
+  pub item-told : {x : Bool} → x ≡ (b && eqb tag 101) → x ≡ false → {w : Walked} → w ≡ Good (itemSizes (levelOf b) tag small) (bitOf tag) → EntryTold w
   item-told ex tx ew = subst EntryTold (sym ew) (told-plain (levelOf b) f (i .going .seen) (drop p s) tag from size small piece-stood (rw (level-is b) (sym ex ∙ tx)))
 
   pub value-long : length (take (p + from + size - (p + from)) (drop (p + from) s)) ≡ size

@@ -32,23 +32,23 @@ pub run-plain : (f : Form) (s : List ℕ) → run always tagOfEntry (stepAt pack
 unfolding stepAt deepenAt
 run-plain f s = run-map plain always tagOfItem tagOfEntry (item pack f) (stepAt pack f) (λ i. refl) (λ seen t. refl) s
 
-bits-plain : (is : List Item) → bits (λ e. bitOf pack (tagOfEntry e)) (map plain is) ≡ bits (bitOf pack) (map tagOfItem is)
-bits-plain is = sym (bits-map plain (λ e. bitOf pack (tagOfEntry e)) is) ∙ bits-map tagOfItem (bitOf pack) is
+bits-plain : (is : List Item) → bits (λ e. bitOf (tagOfEntry e)) (map plain is) ≡ bits bitOf (map tagOfItem is)
+bits-plain is = sym (bits-map plain (λ e. bitOf (tagOfEntry e)) is) ∙ bits-map tagOfItem bitOf is
 
 -- what a walk of a pack's items says of the run
 pub items-good : {X : Type 0} (f : Form) (s : List ℕ) (a : Sizes) (m : ℕ) → Good a m ≡ levelWalk pack f s
-    → ((is : Got (List Item)) → run always tagOfItem (item pack f) s ≡ ok is → total (weightOfItem pack) (is .val) ≡ a → bits (bitOf pack) (map tagOfItem (is .val)) ≡ m → X) → X
+    → ((is : Got (List Item)) → run always tagOfItem (item pack f) s ≡ ok is → total (weightOfItem pack) (is .val) ≡ a → bits bitOf (map tagOfItem (is .val)) ≡ m → X) → X
 unfolding levelWalk
 items-good f s a m e k =
-    let w = walked-good (weightOfEntry pack) (λ e. bitOf pack (tagOfEntry e)) (run always tagOfEntry (stepAt pack f) s) a m e in
+    let w = walked-good (weightOfEntry pack) (λ e. bitOf (tagOfEntry e)) (run always tagOfEntry (stepAt pack f) s) a m e in
     let (is, r, q) = mapped-good plain (run always tagOfItem (item pack f) s) (w .rs) (sym (run-plain f s) ∙ w .ran) in
     k is r
     (total-map plain (weightOfItem pack) (weightOfEntry pack) (λ i. refl) (is .val) ∙ ap (total (weightOfEntry pack)) q ∙ w .weighs)
-    (sym (bits-plain (is .val)) ∙ ap (bits (λ e. bitOf pack (tagOfEntry e))) q ∙ w .holds)
+    (sym (bits-plain (is .val)) ∙ ap (bits (λ e. bitOf (tagOfEntry e))) q ∙ w .holds)
 
 pub items-bad : (f : Form) (s : List ℕ) (n q : ℕ) → Bad n q ≡ levelWalk pack f s → run always tagOfItem (item pack f) s ≡ refused n q
 unfolding levelWalk
-items-bad f s n q e = mapped-bad plain _ n q (sym (run-plain f s) ∙ walked-bad (weightOfEntry pack) (λ e. bitOf pack (tagOfEntry e)) (run always tagOfEntry (stepAt pack f) s) n q e)
+items-bad f s n q e = mapped-bad plain _ n q (sym (run-plain f s) ∙ walked-bad (weightOfEntry pack) (λ e. bitOf (tagOfEntry e)) (run always tagOfEntry (stepAt pack f) s) n q e)
 
 -- ---- a pack
 

@@ -38,7 +38,7 @@ pub record Going {X : Type 0} (look : List ℕ → Got ℕ) (more : List ℕ →
 -- the item walk of a level
 abbrev pub LevelGoing : Bool → Form → List ℕ → ℕ → Sizes → ℕ → ℕ → ℕ → Type 0
 LevelGoing b f s p a m top low =
-    Going (peek false false b) always (weightOfEntry (levelOf b)) (λ e. bitOf (levelOf b) (tagOfEntry e)) tagOfEntry (stepAt (levelOf b) f) (levelWalk (levelOf b) f s) s p a m top low
+    Going (peek false false b) always (weightOfEntry (levelOf b)) (λ e. bitOf (tagOfEntry e)) tagOfEntry (stepAt (levelOf b) f) (levelWalk (levelOf b) f s) s p a m top low
 
 -- the pack walk of a series
 abbrev pub SeriesGoing : Form → List ℕ → ℕ → Sizes → ℕ → ℕ → Type 0

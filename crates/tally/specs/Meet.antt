@@ -3,7 +3,7 @@ use Prim.Native.Nat.{ℕ, _+_, _-_, _*_, _/_, _%_, _^_, _≤_, _<_}
 use mathlib.Core.Bool.{Bool, true, false, not, _&&_, _||_}
 use mathlib.Core.List.{List, [], _∷_}
 use lib.ListN.{length}
-use lib.Dec.{leb, eqb}
+use lib.Dec.{ltb, eqb}
 use lib.Bits.{bitOr}
 use Rattle.format.specs.Coding.{lenWidth, oidBytes}
 use Rattle.format.specs.Answer.{Ans, ok, refused, Got, got, _>>=_}
@@ -12,7 +12,6 @@ use Rattle.format.specs.Packet.{Item, Pack, Entry, plain, series, idOfPack, tag
 use Rattle.format.specs.Run.{Step, run, always}
 use Rattle.format.specs.Read.{item, onePack, deepen}
 use Rattle.format.specs.Sheet.{Val, Target, Part, one, targets}
-use Rattle.items.specs.Meet.{mostTag}
 use Rattle.heads.specs.declared.Head.{Head}
 use Rattle.heads.specs.declared.Head.the-variants as heads
 use Rattle.tally.specs.declared.Piece.{Piece}
@@ -98,9 +97,9 @@ deepenAt pack f i = ok (got (plain (i .val)) (i .used))
 unfoldable pub stepAt : Level → Form → Step Entry
 stepAt l f seen s = item l f seen s >>= λ i. deepenAt l f i
 
--- the bit of a tag that has a row in the item table, as one that a level's end asks for has
-unfoldable pub bitOf : Level → ℕ → ℕ
-bitOf l tag = elim (leb tag (mostTag (isSet l))) [ true ↦ 2 ^ tag | false ↦ 0 ]
+-- the bit of a tag: one that a level's end asks for is below 64
+unfoldable pub bitOf : ℕ → ℕ
+bitOf tag = elim (ltb tag 64) [ true ↦ 2 ^ tag | false ↦ 0 ]
 
 -- whether the bit of a tag is among those held
 unfoldable pub isHeld : ℕ → ℕ → Bool
@@ -121,7 +120,7 @@ walkedOf weight held (ok rs) = Good (total weight (rs .val)) (bits held (rs .val
 walkedOf weight held (refused n p) = Bad n p
 
 unfoldable pub levelWalk : Level → Form → List ℕ → Walked
-levelWalk l f s = walkedOf (weightOfEntry l) (λ e. bitOf l (tagOfEntry e)) (run always tagOfEntry (stepAt l f) s)
+levelWalk l f s = walkedOf (weightOfEntry l) (λ e. bitOf (tagOfEntry e)) (run always tagOfEntry (stepAt l f) s)
 
 unfoldable pub seriesWalk : Form → List ℕ → Walked
 seriesWalk f s = walkedOf weightOfPack (λ p. 0) (run always idOfPack (onePack f) s)

@@ -95,11 +95,11 @@ pub fn is_series_new(p: usize, top: u64) -> bool
     top < 101
 }
 
-// The bit of a tag. Only tags with a row in the item table have one: every tag that a level's end asks for is among them.
-pub fn bit_of(set: bool, tag: u64) -> u64
-    ensures { λ r. ⌜ r ≡ bitOf (levelOf set) tag ⌝ }
+// The bit of a tag. Only tags below 64 have one: every tag that a level's end asks for is among them.
+pub fn bit_of(tag: u64) -> u64
+    ensures { λ r. ⌜ r ≡ bitOf tag ⌝ }
 {
-    if tag <= items::most_tag(set) { 1 << tag } else { 0 }
+    if tag < 64 { 1 << tag } else { 0 }
 }
 
 // Whether the bit of a tag is among those held.
@@ -133,11 +133,11 @@ pub fn ended_of(alone: bool, held: u64) -> u64
 // An item that is no series.
 pub fn one_item(set: bool, tag: u64, n: usize) -> Walked
     requires { ⌜ (tag ≤ 16383) × (n ≤ 65536) ⌝ }
-    ensures { λ r. ⌜ r ≡ Walked.Good (itemSizes (levelOf set) tag n) (bitOf (levelOf set) tag) ⌝ }
+    ensures { λ r. ⌜ r ≡ Walked.Good (itemSizes (levelOf set) tag n) (bitOf tag) ⌝ }
 {
     Walked::Good {
         sizes: weights::plain_sizes(set, tag, n),
-        held: bit_of(set, tag),
+        held: bit_of(tag),
     }
 }
 

@@ -47,7 +47,7 @@ records-start b f s = going-start _ _ _ _ _ _ _ s refl
 
 -- it was read at u, and takes as many bytes as it adds to the sheet
 pub record PartReads (b : Bool) (f : Form) (seen u : List ℕ) (tag : ℕ) (a : Sizes) (m : ℕ) : Type 0 where
-  pub reads : Reads (weightAt (levelOf b)) (λ x. bitOf (levelOf b) (tagOfPart x)) tagOfPart (partStep (levelOf b) f seen u) tag (a .sheet) a m
+  pub reads : Reads (weightAt (levelOf b)) (λ x. bitOf (tagOfPart x)) tagOfPart (partStep (levelOf b) f seen u) tag (a .sheet) a m
   pub peeks : peek true false b u ≡ got tag (a .sheet)
   pub some : 0 < a .sheet
   pub room : a .sheet ≤ length u
@@ -74,17 +74,17 @@ pub item-is : (l : Level) (tag n : ℕ) → isSet l && eqb tag 1 ≡ false → i
 unfolding itemSizes
 item-is l tag n z = rw (z, itemSizes)
 
-told-item : (b : Bool) (f : Form) (seen u : List ℕ) (tag size : ℕ) → ValueStood b f seen u tag size → Told b f seen u tag (Good (itemSizes (levelOf b) tag size) (bitOf (levelOf b) tag))
+told-item : (b : Bool) (f : Form) (seen u : List ℕ) (tag size : ℕ) → ValueStood b f seen u tag size → Told b f seen u tag (Good (itemSizes (levelOf b) tag size) (bitOf tag))
 told-item b f seen u tag size k =
     let e = item-is (levelOf b) tag size (rw (level-is b) (k .no-seal)) in
-    subst (λ a. Told b f seen u tag (Good a (bitOf (levelOf b) tag))) (sym e)
+    subst (λ a. Told b f seen u tag (Good a (bitOf tag))) (sym e)
     (told-good (record {
       reads = record {
         it = one (k .it);
         reads = k .step;
         key-is = k .tag-is;
         weighs = ap (λ t. itemSizes (levelOf b) t (length (k .it .value))) (k .tag-is) ∙ ap (itemSizes (levelOf b) tag) (k .size-is) ∙ e;
-        holds = ap (bitOf (levelOf b)) (k .tag-is);
+        holds = ap bitOf (k .tag-is);
         few = record { sheet = omega arith; rows = omega arith; normal = omega (arith, oid-most tag, len-most size); inner = omega arith };
       };
       peeks = k .peeks;
@@ -163,7 +163,7 @@ module _ {b : Bool} {f : Form} {s : List ℕ} {q : Stage} {tag from size small :
       pub item-small : (tag ≤ 16383) × (size ≤ 65536)
       item-small = (item-stood .tag-small, omega (arith, item-stood .room, length-drop (q .at) s, i .most))
 
-      pub item-told : {w : Walked} → w ≡ Good (itemSizes (levelOf b) tag size) (bitOf (levelOf b) tag) → PartTold w
+      pub item-told : {w : Walked} → w ≡ Good (itemSizes (levelOf b) tag size) (bitOf tag) → PartTold w
       item-told ew = subst PartTold (sym ew) (told-item b f (i .going .seen) here tag size item-stood)
 
     module _ (tx : x ≡ true) where

@@ -31,31 +31,31 @@ pub vals-run : (f : Form) (s : List ℕ) → run (moreAt pack) tagOfPart (partSt
 unfolding partStep
 vals-run f s = run-map one (is TI) tagOfVal tagOfPart (valueAt pack f) (partStep pack f) (λ v. refl) (λ seen t. refl) s
 
-bits-one : (vs : List Val) → bits (λ p. bitOf pack (tagOfPart p)) (map one vs) ≡ bits (bitOf pack) (map tagOfVal vs)
-bits-one vs = sym (bits-map one (λ p. bitOf pack (tagOfPart p)) vs) ∙ bits-map tagOfVal (bitOf pack) vs
+bits-one : (vs : List Val) → bits (λ p. bitOf (tagOfPart p)) (map one vs) ≡ bits bitOf (map tagOfVal vs)
+bits-one vs = sym (bits-map one (λ p. bitOf (tagOfPart p)) vs) ∙ bits-map tagOfVal bitOf vs
 
 -- what a walk of a target's values says of their run
 pub record ValsRun (f : Form) (s : List ℕ) (a : Sizes) (m : ℕ) : Type 0 where
   pub vs : Got (List Val)
   pub ran : run (is TI) tagOfVal (valueAt pack f) s ≡ ok vs
   pub weighs : total (weightOfVal pack) (vs .val) ≡ a
-  pub holds : bits (bitOf pack) (map tagOfVal (vs .val)) ≡ m
+  pub holds : bits bitOf (map tagOfVal (vs .val)) ≡ m
 
 pub vals-good : (f : Form) (s : List ℕ) (a : Sizes) (m : ℕ) → Good a m ≡ recordsWalk pack f s → ValsRun f s a m
 unfolding recordsWalk
 vals-good f s a m e =
-    let w = walked-good (weightAt pack) (λ p. bitOf pack (tagOfPart p)) (run (moreAt pack) tagOfPart (partStep pack f) s) a m e in
+    let w = walked-good (weightAt pack) (λ p. bitOf (tagOfPart p)) (run (moreAt pack) tagOfPart (partStep pack f) s) a m e in
     let (vs, r, q) = mapped-good one (run (is TI) tagOfVal (valueAt pack f) s) (w .rs) (sym (vals-run f s) ∙ w .ran) in
     record {
       vs = vs;
       ran = r;
       weighs = total-map one (weightOfVal pack) (weightAt pack) (λ v. refl) (vs .val) ∙ ap (total (weightAt pack)) q ∙ w .weighs;
-      holds = sym (bits-one (vs .val)) ∙ ap (bits (λ p. bitOf pack (tagOfPart p))) q ∙ w .holds;
+      holds = sym (bits-one (vs .val)) ∙ ap (bits (λ p. bitOf (tagOfPart p))) q ∙ w .holds;
     }
 
 pub vals-bad : (f : Form) (s : List ℕ) (n q : ℕ) → Bad n q ≡ recordsWalk pack f s → run (is TI) tagOfVal (valueAt pack f) s ≡ refused n q
 unfolding recordsWalk
-vals-bad f s n q e = mapped-bad one _ n q (sym (vals-run f s) ∙ walked-bad (weightAt pack) (λ p. bitOf pack (tagOfPart p)) (run (moreAt pack) tagOfPart (partStep pack f) s) n q e)
+vals-bad f s n q e = mapped-bad one _ n q (sym (vals-run f s) ∙ walked-bad (weightAt pack) (λ p. bitOf (tagOfPart p)) (run (moreAt pack) tagOfPart (partStep pack f) s) n q e)
 
 -- ---- what a run took: its bytes in the sheet
 

@@ -16,7 +16,7 @@ use Rattle.tally_records.specs.Meet.{moreAt, partStep, weightAt, records
 
 abbrev pub RecordsGoing : Bool → Form → List ℕ → ℕ → Sizes → ℕ → ℕ → ℕ → Type 0
 RecordsGoing b f s p a m top low =
-    Going (peek true false b) (moreAt (levelOf b)) (weightAt (levelOf b)) (λ x. bitOf (levelOf b) (tagOfPart x)) tagOfPart (partStep (levelOf b) f) (recordsWalk (levelOf b) f s) s p a m top low
+    Going (peek true false b) (moreAt (levelOf b)) (weightAt (levelOf b)) (λ x. bitOf (tagOfPart x)) tagOfPart (partStep (levelOf b) f) (recordsWalk (levelOf b) f s) s p a m top low
 
 abbrev pub TargetsGoing : Form → List ℕ → ℕ → Sizes → ℕ → ℕ → ℕ → Type 0
 TargetsGoing f s p a m top low = Going (peek true true false) (is TG) weightOfTarget (λ t. 0) idOfTarget (targetAt f) (targetsWalk f s) s p a m top low

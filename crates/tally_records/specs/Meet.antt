@@ -93,7 +93,7 @@ weightAt l (one v) = weightOfVal l v
 weightAt l (targets ts) = seriesSizes (total weightOfTarget ts)
 
 unfoldable pub recordsWalk : Level → Form → List ℕ → Walked
-recordsWalk l f s = walkedOf (weightAt l) (λ p. bitOf l (tagOfPart p)) (run (moreAt l) tagOfPart (partStep l f) s)
+recordsWalk l f s = walkedOf (weightAt l) (λ p. bitOf (tagOfPart p)) (run (moreAt l) tagOfPart (partStep l f) s)
 
 unfoldable pub targetsWalk : Form → List ℕ → Walked
 targetsWalk f s = walkedOf weightOfTarget (λ t. 0) (run (is TG) idOfTarget (targetAt f) s)

@@ -81,15 +81,15 @@ no-inner n (i ∷ is) = (tt, no-inner n is)
 -- ---- what the item walk says of a pack's items
 
 module _ (f : Form) (s : List ℕ) (is : List Item) {es : Got (List Entry)} (r : levelRun pack f s ≡ ok es) (e : es .val ≡ map plain is) where
-  walk-is : levelWalk pack f s ≡ Good (total (weightOfEntry pack) (map plain is)) (bits (λ e. bitOf pack (tagOfEntry e)) (map plain is))
+  walk-is : levelWalk pack f s ≡ Good (total (weightOfEntry pack) (map plain is)) (bits (λ e. bitOf (tagOfEntry e)) (map plain is))
   unfolding levelWalk levelRun
-  walk-is = ap (walkedOf (weightOfEntry pack) (λ e. bitOf pack (tagOfEntry e))) r ∙ ap (λ xs. Good (total (weightOfEntry pack) xs) (bits (λ e. bitOf pack (tagOfEntry e)) xs)) e
+  walk-is = ap (walkedOf (weightOfEntry pack) (λ e. bitOf (tagOfEntry e))) r ∙ ap (λ xs. Good (total (weightOfEntry pack) xs) (bits (λ e. bitOf (tagOfEntry e)) xs)) e
 
   pub walk-sizes : {w : Walked} → w ≡ levelWalk pack f s → {z : Sizes} {m : ℕ} → w ≡ Good z m → total (weightOfItem pack) is ≡ z
   walk-sizes ew {z = z} {m = m} tw =
-      let q : Good z m ≡ Good (total (weightOfEntry pack) (map plain is)) (bits (λ e. bitOf pack (tagOfEntry e)) (map plain is)) = sym tw ∙ ew ∙ walk-is in
+      let q : Good z m ≡ Good (total (weightOfEntry pack) (map plain is)) (bits (λ e. bitOf (tagOfEntry e)) (map plain is)) = sym tw ∙ ew ∙ walk-is in
       total-map plain (weightOfItem pack) (weightOfEntry pack) (λ i. refl) is ∙ cc
 
   pub walk-fault : {X : Type 0} {w : Walked} → w ≡ levelWalk pack f s → {n q : ℕ} → w ≡ Bad n q → X
   walk-fault ew {n = n} {q = q} tw =
-      absurd (let z : Bad n q ≡ Good (total (weightOfEntry pack) (map plain is)) (bits (λ e. bitOf pack (tagOfEntry e)) (map plain is)) = sym tw ∙ ew ∙ walk-is in let c : _≡_ {A = ℕ} 0 1 = cc in omega arith)
+      absurd (let z : Bad n q ≡ Good (total (weightOfEntry pack) (map plain is)) (bits (λ e. bitOf (tagOfEntry e)) (map plain is)) = sym tw ∙ ew ∙ walk-is in let c : _≡_ {A = ℕ} 0 1 = cc in omega arith)

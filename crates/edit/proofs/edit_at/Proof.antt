@@ -14,6 +14,7 @@ use Rattle.items.specs.Meet.{formOf}
 use Rattle.frames.proofs.frame_size.Reads as frame-size-reads
 use Rattle.frames.proofs.open.Reads as open-reads
 use Rattle.frames.proofs.close.Reads as close-reads
+use Rattle.edit_rules.specs.Meet.{lowOf}
 use Rattle.edit_rules.specs.Cuts.{Spans, cutBytes, StoredAt}
 use Rattle.edit_rules.proofs.Storing.{spans-more, put-most, bytes-long}
 use Rattle.edit_bytes.proofs.edited_size.Reads as edited-size-reads
@@ -54,7 +55,9 @@ from z = z .before .before .before .before .before .before
 
 -- the set's bytes with what is put
 abbrev bytes : Sized → List ℕ
-bytes z = let i = from z .args in cutBytes (i .s .now) (i .k) (i .v .now) (i .w .now)
+bytes z =
+    let i = from z .args in
+    cutBytes (i .s .now) (i .k) (lowOf (i .turned) (i .v .now) (i .w .now)) (lowOf (i .turned) (i .w .now) (i .v .now))
 
 -- the packet of entries that lie flat as these
 packs : (z : Sized) (es : List Entry) → flatAll flatEntry es ≡ bytes z → Packs (packed (closed (formOf (from z .args .alone)) es)) (formOf (from z .args .alone)) es (z .before .edited-size .result) (z .frame-size .result)

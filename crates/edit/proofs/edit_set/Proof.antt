@@ -1,8 +1,6 @@
 -- `edit::edit_set` meets its contract. f is where the edit was let through, and i where the call begins.
-use mathlib.Core.Path.{ap}
 use borrow.Author.Needs.{needs}
 use Rattle.items.specs.Meet.{formOf}
-use Rattle.edit_rules.specs.Meet.{lowOf}
 use Rattle.edit.proofs.Editing.{set-refused, cuts-asked, cuts-left}
 use Rattle.edit.proofs.edit_set.Statement.{statement}
 use Rattle.edit.proofs.edit_set.Tie as tie
@@ -26,54 +24,20 @@ returns c =
 
 edit-cuts-requires : tie.Need-edit-cuts-requires
 edit-cuts-requires c κs =
-    let f = c .before .before .before in
+    let f = c .before .before in
     let i = f .before .before .before .before .before .before .before .before in
-    let t = c .before .if1 .taken in
-    cuts-asked (formOf (i .args .alone)) (i .args .a) (i .args .v .now) (i .args .w .now) (i .args .s .now) (f .before .before .judge .ensures) (f .j .given .1)
-    (ap (λ x. lowOf x (i .args .v .now) (i .args .w .now)) t) (ap (λ x. lowOf x (i .args .w .now) (i .args .v .now)) t) (i .pre .1 .short)
+    cuts-asked (formOf (i .args .alone)) (i .args .a) (i .args .v .now) (i .args .w .now) (i .args .s .now) (f .before .before .judge .ensures) (f .j .given .1) (i .pre .1 .short)
 
 same-length : tie.Need-same-length
 same-length c = search needs
 
 returns-2 : tie.Need-returns-2
 returns-2 c =
-    let f = c .before .before .before .before .before .before in
+    let f = c .before .before .before .before .before in
     let i = f .before .before .before .before .before .before .before .before in
-    let t = c .before .before .before .before .if1 .taken in
-    cuts-left (formOf (i .args .alone)) (i .args .a) (i .args .v .now) (i .args .w .now) (i .args .s .now) (f .before .before .judge .ensures) (f .j .given .1)
-    (ap (λ x. lowOf x (i .args .v .now) (i .args .w .now)) t) (ap (λ x. lowOf x (i .args .w .now) (i .args .v .now)) t) (i .args .out .now) _ (c .before .before .edit-cuts .ensures)
-
-edit-cuts-requires-2 : tie.Need-edit-cuts-requires-2
-edit-cuts-requires-2 c κs =
-    let f = c .before .before .before in
-    let i = f .before .before .before .before .before .before .before .before in
-    let t = c .before .if1 .left in
-    cuts-asked (formOf (i .args .alone)) (i .args .a) (i .args .v .now) (i .args .w .now) (i .args .s .now) (f .before .before .judge .ensures) (f .j .given .1)
-    (ap (λ x. lowOf x (i .args .v .now) (i .args .w .now)) t) (ap (λ x. lowOf x (i .args .w .now) (i .args .v .now)) t) (i .pre .1 .short)
-
-same-length-2 : tie.Need-same-length-2
-same-length-2 c = search needs
-
-returns-3 : tie.Need-returns-3
-returns-3 c =
-    let f = c .before .before .before .before .before .before in
-    let i = f .before .before .before .before .before .before .before .before in
-    let t = c .before .before .before .before .if1 .left in
-    cuts-left (formOf (i .args .alone)) (i .args .a) (i .args .v .now) (i .args .w .now) (i .args .s .now) (f .before .before .judge .ensures) (f .j .given .1)
-    (ap (λ x. lowOf x (i .args .v .now) (i .args .w .now)) t) (ap (λ x. lowOf x (i .args .w .now) (i .args .v .now)) t) (i .args .out .now) _ (c .before .before .edit-cuts2 .ensures)
+    cuts-left (formOf (i .args .alone)) (i .args .a) (i .args .v .now) (i .args .w .now) (i .args .s .now) (f .before .before .judge .ensures) (f .j .given .1) (i .args .out .now) _ (c .before .before .edit-cuts .ensures)
 
 pub edit-set-spec : {M : Type 1} → statement M
 edit-set-spec =
     tie.close
-    (tie.spec
-    judge-requires
-    enum-known-j
-    enum-told
-    edit-refusal-requires
-    returns
-    edit-cuts-requires
-    same-length
-    returns-2
-    edit-cuts-requires-2
-    same-length-2
-    returns-3)
+    (tie.spec judge-requires enum-known-j enum-told edit-refusal-requires returns edit-cuts-requires same-length returns-2)

@@ -20,8 +20,8 @@ put-front-requires c κs =
     let n : b .body-size .result ≤ 40960 = omega (arith, b .body-size .ensures, q .short, q .spans, cut-few (i .args .k .lo) (q .low-small), cut-few (i .args .k .hi) (q .high-small)) in
     (q .short, q .spans, n, front-asked q (i .args .out .now) (i .pre .1) (b .body-size .ensures))
 
-put-cut-requires : tie.Need-put-cut-requires
-put-cut-requires c κs =
+put-value-requires : tie.Need-put-value-requires
+put-value-requires c κs =
     let f = c .before .before .before in
     let b = f .before .before in
     let i = b .before .before .before .before .before in
@@ -42,10 +42,10 @@ copy-all-requires c κs =
     let f = l .before .before .before .before in
     let b = f .before .before in
     let i = b .before .before .before .before .before in
-    mid-asked (i .pre .0) (i .args .out .now) (i .pre .1) (b .body-size .ensures) (f .put-front .ensures) (l .put-cut .ensures)
+    mid-asked (i .pre .0) (i .args .out .now) (i .pre .1) (b .body-size .ensures) (f .put-front .ensures) (l .put-value .ensures)
 
-put-cut-requires-2 : tie.Need-put-cut-requires-2
-put-cut-requires-2 c κs =
+put-value-requires-2 : tie.Need-put-value-requires-2
+put-value-requires-2 c κs =
     let m = c .before .before .before in
     let l = m .before .before .before .before .before in
     let f = l .before .before .before .before in
@@ -53,7 +53,7 @@ put-cut-requires-2 c κs =
     let i = b .before .before .before .before .before in (
       i .pre .0 .high-small,
       i .pre .0 .high-some,
-      high-asked (i .pre .0) (i .args .out .now) (i .pre .1) (b .body-size .ensures) (f .put-front .ensures) (l .put-cut .ensures) (m .copy-all .ensures),
+      high-asked (i .pre .0) (i .args .out .now) (i .pre .1) (b .body-size .ensures) (f .put-front .ensures) (l .put-value .ensures) (m .copy-all .ensures),
     )
 
 sub-copy-all-2 : tie.Need-sub-copy-all-2
@@ -73,7 +73,7 @@ copy-all-requires-2 c κs =
     let f = l .before .before .before .before in
     let b = f .before .before in
     let i = b .before .before .before .before .before in
-    rest-asked (i .pre .0) (i .args .out .now) (i .pre .1) (b .body-size .ensures) (f .put-front .ensures) (l .put-cut .ensures) (m .copy-all .ensures) (h .put-cut2 .ensures)
+    rest-asked (i .pre .0) (i .args .out .now) (i .pre .1) (b .body-size .ensures) (f .put-front .ensures) (l .put-value .ensures) (m .copy-all .ensures) (h .put-value2 .ensures)
 
 same-length : tie.Need-same-length
 same-length c = search needs
@@ -86,7 +86,7 @@ returns c =
     let f = l .before .before .before .before in
     let b = f .before .before in
     let i = b .before .before .before .before .before in
-    all-stored (i .pre .0) (i .args .out .now) (i .pre .1) (b .body-size .ensures) (f .put-front .ensures) (l .put-cut .ensures) (m .copy-all .ensures) (h .put-cut2 .ensures)
+    all-stored (i .pre .0) (i .args .out .now) (i .pre .1) (b .body-size .ensures) (f .put-front .ensures) (l .put-value .ensures) (m .copy-all .ensures) (h .put-value2 .ensures)
     (c .before .before .copy-all2 .ensures)
 
 pub put-edited-spec : {M : Type 1} → statement M
@@ -95,12 +95,12 @@ put-edited-spec =
     (tie.spec
     body-size-requires
     put-front-requires
-    put-cut-requires
+    put-value-requires
     sub-copy-all
     part-copy-all-start
     part-copy-all-end
     copy-all-requires
-    put-cut-requires-2
+    put-value-requires-2
     sub-copy-all-2
     part-copy-all-start-2
     part-copy-all-end-2

@@ -24,15 +24,18 @@ returns-3 c =
     let i = c .before .before .before .before .before .before .before .before .args in
     second-same (formOf (i .alone)) (i .a) (i .w .now) (i .s .now) (i .p) (not-false _ (c .before .before .before .if1 .left)) (c .before .before .if2 .left) (c .if3 .taken)
 
+place-of-requires : tie.Need-place-of-requires
+place-of-requires c κs = search needs
+
 turn-of-requires : tie.Need-turn-of-requires
 turn-of-requires c κs = search needs
 
 returns-4 : tie.Need-returns-4
 returns-4 c =
-    let i = c .before .before .before .before .before .before .before .before .before .before .args in
-    second-turned (formOf (i .alone)) (i .a) (i .w .now) (i .s .now) (i .p) (not-false _ (c .before .before .before .before .before .if1 .left)) (c .before .before .before .before .if2 .left) (c .before .before .if3 .left)
+    let i = c .before .before .before .before .before .before .before .before .before .before .before .args in
+    second-turned (formOf (i .alone)) (i .a) (i .w .now) (i .s .now) (i .p) (not-false _ (c .before .before .before .before .before .before .if1 .left)) (c .before .before .before .before .before .if2 .left) (c .before .before .before .if3 .left)
     _ (c .turn-of .ensures)
 
 pub second-turn-spec : {M : Type 1} → statement M
 second-turn-spec =
-    tie.close (tie.spec no-cut-requires returns returns-2 returns-3 turn-of-requires returns-4)
+    tie.close (tie.spec no-cut-requires returns returns-2 returns-3 place-of-requires turn-of-requires returns-4)

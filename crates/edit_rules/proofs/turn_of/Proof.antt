@@ -1,4 +1,4 @@
--- `edit_rules::turn_of` meets its contract. a is where the item may be named, and p where its place was found.
+-- `edit_rules::turn_of` meets its contract. a is where the item may be named, and p where it has a place.
 use mathlib.Core.Path.{_≡_, sym, _∙_, subst}
 use mathlib.Core.Bool.{true}
 use borrow.Author.Needs.{needs}
@@ -8,7 +8,6 @@ use Rattle.format.specs.Table.{nameable}
 use Rattle.items.specs.Meet.{formOf, levelOf}
 use Rattle.items.proofs.nameable_of.Reads as nameable-of-reads
 use Rattle.find.specs.Places.{holderOf, Placed, FoundIs}
-use Rattle.find.proofs.place_of.Reads as place-of-reads
 use Rattle.edit_rules.specs.Meet.{ValuedAs}
 use Rattle.edit_rules.proofs.Rules.{unnamed, unheld, removed, absent, put-in, put-out}
 use Rattle.edit_rules.proofs.cut_of.Reads as cut-of-reads
@@ -22,8 +21,6 @@ abbrev claims : lts.Claims
 claims = (
   nameable-of-reads.Asked,
   nameable-of-reads.Learnt,
-  place-of-reads.Asked,
-  place-of-reads.Learnt,
   cut-of-reads.Asked,
   cut-of-reads.Learnt,
   put-size-reads.Asked,
@@ -43,7 +40,7 @@ abbrev from : Named → Call
 from a = a .before .before .before .before .before
 
 abbrev up : AtPlace → Named
-up p = p .before .before .before
+up p = p .before .before
 
 named : (a : Named) → nameable (levelOf (from a .args .set)) (from a .args .c .tag) ≡ true
 named a = sym (a .before .nameable-of .ensures) ∙ not-false _ (a .if1 .left)
@@ -54,7 +51,7 @@ bytes a = λ n. a .before .before .before .shared-slice-known2 .given n .fits
 here : (p : AtPlace) → Placed (formOf (from (up p) .args .alone)) (holderOf (from (up p) .args .set) (from (up p) .args .id)) (from (up p) .args .c .tag) (from (up p) .args .s .now) (p .f .given .0 .0)
 here p =
     let i = from (up p) .args in
-    subst (FoundIs (formOf (i .alone)) (holderOf (i .set) (i .id)) (i .c .tag) (i .s .now)) (p .f .given .1) (p .before .before .place-of .ensures)
+    subst (FoundIs (formOf (i .alone)) (holderOf (i .set) (i .id)) (i .c .tag) (i .s .now)) (p .f .given .1) (from (up p) .pre .2)
 
 nameable-of-requires : tie.Need-nameable-of-requires
 nameable-of-requires c κs = search needs
@@ -64,9 +61,6 @@ returns c =
     let i = c .before .before .before .before .before .args in
     unnamed (formOf (i .alone)) (i .set) (i .id) (i .c) (i .v .now) (i .s .now) (sym (c .before .nameable-of .ensures) ∙ not-true _ (c .if1 .taken))
 
-place-of-requires : tie.Need-place-of-requires
-place-of-requires c κs = search needs
-
 enum-known-f : tie.Need-enum-known-f
 enum-known-f c = search needs
 
@@ -75,10 +69,10 @@ enum-told c = search needs
 
 returns-2 : tie.Need-returns-2
 returns-2 c =
-    let a = c .before .before .before in
+    let a = c .before .before in
     let i = from a .args in
     unheld (formOf (i .alone)) (i .set) (i .id) (i .c) (i .v .now) (i .s .now) (named a)
-    (subst (FoundIs (formOf (i .alone)) (holderOf (i .set) (i .id)) (i .c .tag) (i .s .now)) (c .enum-told .given .1) (c .before .before .place-of .ensures))
+    (subst (FoundIs (formOf (i .alone)) (holderOf (i .set) (i .id)) (i .c .tag) (i .s .now)) (c .enum-told .given .1) (from a .pre .2))
 
 cut-of-requires : tie.Need-cut-of-requires
 cut-of-requires c κs = search needs
@@ -132,7 +126,6 @@ turn-of-spec =
     (tie.spec
     nameable-of-requires
     returns
-    place-of-requires
     enum-known-f
     enum-told
     returns-2

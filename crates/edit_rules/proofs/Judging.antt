@@ -24,7 +24,7 @@ use Rattle.find.specs.Places.{holderOf, SetOf, keptOf}
 use Rattle.edit_rules.specs.declared.Change as told
 use Rattle.edit_rules.specs.declared.Cut.{Cut}
 use Rattle.edit_rules.specs.declared.Asked.{Asked}
-use Rattle.edit_rules.specs.declared.Turn.the-variants as turn
+use Rattle.edit_rules.specs.Turns as turn
 use Rattle.edit_rules.specs.declared.Judged.{Judged}
 use Rattle.edit_rules.specs.declared.Judged.the-variants.{Wrong}
 use Rattle.edit_rules.specs.Meet.{changeOf, oneOf, alsoOf, changesOf, askedHolder, sheetOf, noCut, turnRules, TurnAt, TurnAs, SecondIf, SecondAs, leftBy, EndsAs, inOrder, verdictOf, CutIf, JudgedAs}

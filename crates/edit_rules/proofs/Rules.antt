@@ -21,11 +21,13 @@ use Rattle.find.specs.declared.Place.{Place}
 use Rattle.find.specs.Places.{holderOf, SetOf, keptOf, Placed, Unheld}
 use Rattle.edit_rules.specs.declared.Change as told
 use Rattle.edit_rules.specs.declared.Cut.{Cut}
+use Rattle.find.specs.declared.Found.the-variants.{There}
+use Rattle.edit_rules.specs.declared.Valued.{Valued}
 use Rattle.edit_rules.specs.declared.Valued.the-variants.{Size, Fault}
 use Rattle.edit_rules.specs.declared.Asked.{Asked}
-use Rattle.edit_rules.specs.declared.Turn.{Turn}
-use Rattle.edit_rules.specs.declared.Turn.the-variants as turn
-use Rattle.edit_rules.specs.Meet.{changeOf, askedHolder, shortOf, cutOf, noCut, turnRules, ValuedAs, TurnAs, SecondIf, SecondAs}
+use Rattle.edit_rules.specs.Turns.{Turned}
+use Rattle.edit_rules.specs.Turns as turn
+use Rattle.edit_rules.specs.Meet.{changeOf, askedHolder, shortOf, cutOf, noCut, turnRules, ValuedAs, TurnAs, sizedTurn, SecondIf, SecondAs}
 use Rattle.edit_rules.proofs.Edits.{level-at, level-none}
 
 -- some bytes
@@ -116,25 +118,29 @@ module _ (f : Form) (b : Bool) (id : ℕ) (c : told.Change) (v s : List ℕ) whe
         unfolding changeRules
         removal-is = rw (r, ← stands)
 
-        pub removed : p .at < p .next → {x : Cut} → x ≡ cutOf c p 0 → TurnAs f b id c v s (turn.Fine p x)
+        pub removed : p .at < p .next → TurnAs f b id c v s (turn.Fine p (cutOf c p 0))
         unfolding need
-        removed l ex = let-through (ap (λ y. need y 18) (sym (lt-ltb _ _ l)) ∙ removal-is) (rw r) ex
+        removed l = let-through (ap (λ y. need y 18) (sym (lt-ltb _ _ l)) ∙ removal-is) (rw r) refl
 
         pub absent : p .next ≤ p .at → TurnAs f b id c v s (turn.Wrong 18)
         unfolding need
         absent l = kept-out (ap (λ y. need y 18) (sym (le-ltb _ _ l)) ∙ removal-is)
 
       module _ (r : c .removal ≡ false) where
-        pub put-in : {m : ℕ} → ValuedAs f (levelOf b) (c .tag) v (Size m) → {x : Cut} → x ≡ cutOf c p m → TurnAs f b id c v s (turn.Fine p x)
+        put-in : {m : ℕ} → ValuedAs f (levelOf b) (c .tag) v (Size m) → {x : Cut} → x ≡ cutOf c p m → TurnAs f b id c v s (turn.Fine p x)
         put-in (q, em) ex = let-through (rw r (q tags)) (rw r em) ex
 
-        pub put-out : {j : ℕ} → ValuedAs f (levelOf b) (c .tag) v (Fault j) → TurnAs f b id c v s (turn.Wrong j)
+        put-out : {j : ℕ} → ValuedAs f (levelOf b) (c .tag) v (Fault j) → TurnAs f b id c v s (turn.Wrong j)
         put-out q = kept-out (rw r (q tags))
+
+        pub put-turn : (r : Valued) → ValuedAs f (levelOf b) (c .tag) v r → TurnAs f b id c v s (sizedTurn c r (There p))
+        put-turn (Size m) q = put-in q refl
+        put-turn (Fault n) q = put-out q
 
 -- ---- the second
 
 module _ (f : Form) (a : Asked) (w s : List ℕ) (p : Place) where
-  second-by : (t : Turn) (two m : Bool) → a .two ≡ two → mayFollow (askedHolder a) (a .first .tag ∷ []) (a .second .tag) ≡ m → SecondIf f a w s p t two m → SecondAs f a w s p t
+  second-by : (t : Turned) (two m : Bool) → a .two ≡ two → mayFollow (askedHolder a) (a .first .tag ∷ []) (a .second .tag) ≡ m → SecondIf f a w s p t two m → SecondAs f a w s p t
   second-by t two m et em q =
       subst (λ x. SecondIf f a w s p t x (mayFollow (askedHolder a) (a .first .tag ∷ []) (a .second .tag))) (sym et) (subst (SecondIf f a w s p t two) (sym em) q)
 
@@ -153,5 +159,5 @@ module _ (f : Form) (a : Asked) (w s : List ℕ) (p : Place) where
       pub second-same : a .first .tag ≡ a .second .tag → SecondAs f a w s p (turn.Wrong 19)
       second-same z = second-by _ true false e (follow-is ∙ ap (λ b. not (b || false)) (eq-eqb _ _ z)) refl
 
-      pub second-turned : (a .first .tag ≡ a .second .tag → ⊥) → (t : Turn) → TurnAs f (a .set) (a .id) (a .second) w s t → SecondAs f a w s p t
+      pub second-turned : (a .first .tag ≡ a .second .tag → ⊥) → (t : Turned) → TurnAs f (a .set) (a .id) (a .second) w s t → SecondAs f a w s p t
       second-turned z t q = second-by _ true true e (follow-is ∙ ap (λ b. not (b || false)) (ne-eqb _ _ z)) q

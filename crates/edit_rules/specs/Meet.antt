@@ -22,7 +22,11 @@ use Rattle.edit_rules.specs.declared.Cuts.{Cuts}
 use Rattle.edit_rules.specs.declared.Valued.{Valued}
 use Rattle.edit_rules.specs.declared.Valued.the-variants.{Size, Fault}
 use Rattle.edit_rules.specs.declared.Turn.{Turn}
-use Rattle.edit_rules.specs.declared.Turn.the-variants as turn
+use Rattle.edit_rules.specs.declared.Turn.the-variants as code
+use Rattle.find.specs.declared.Found.{Found}
+use Rattle.find.specs.declared.Found.the-variants.{There, Nowhere}
+use Rattle.edit_rules.specs.Turns.{Turned}
+use Rattle.edit_rules.specs.Turns as turn
 use Rattle.edit_rules.specs.declared.Judged.{Judged}
 use Rattle.edit_rules.specs.declared.Judged.the-variants.{Fine, Wrong}
 use Rattle.edit_rules.specs.Cuts.{Cutting, cutBytes}
@@ -103,18 +107,33 @@ pub record TurnAt (f : Form) (b : Bool) (id : ℕ) (c : told.Change) (v s : List
   pub ruled : changeRules f (levelOf b) (c .tag) tags (changeOf (c .removal) v) ≡ ok tt
   pub cut-is : x ≡ cutOf c p (shortOf (levelOf b) (c .tag) (changeOf (c .removal) v))
 
-abbrev pub TurnAs : Form → Bool → ℕ → told.Change → List ℕ → List ℕ → Turn → Type 0
+abbrev pub TurnAs : Form → Bool → ℕ → told.Change → List ℕ → List ℕ → Turned → Type 0
 TurnAs f b id c v s (turn.Fine p x) = TurnAt f b id c v s p x
 TurnAs f b id c v s (turn.Wrong n) = turnRules f (levelOf b) (c .tag) (changeOf (c .removal) v) (tagsAt (holderOf b id) (map partOf (keptOf f s))) ≡ refused n 0
 
+-- one that was found so, and put in so many bytes or refused
+abbrev pub sizedTurn : told.Change → Valued → Found → Turned
+sizedTurn c (Size m) (There p) = turn.Fine p (cutOf c p m)
+sizedTurn c (Size m) Nowhere = turn.Wrong 18
+sizedTurn c (Fault n) g = turn.Wrong n
+
+-- its cut alone
+abbrev pub cutAlone : Turned → Turn
+cutAlone (turn.Fine p x) = code.Fine x
+cutAlone (turn.Wrong n) = code.Wrong n
+
 -- the second, if there is one, and it may follow
-abbrev pub SecondIf : Form → Asked → List ℕ → List ℕ → Place → Turn → Bool → Bool → Type 0
+abbrev pub SecondIf : Form → Asked → List ℕ → List ℕ → Place → Turned → Bool → Bool → Type 0
 SecondIf f a w s p t false m = t ≡ turn.Fine p (noCut (p .next))
 SecondIf f a w s p t true false = t ≡ turn.Wrong 19
 SecondIf f a w s p t true true = TurnAs f (a .set) (a .id) (a .second) w s t
 
-abbrev pub SecondAs : Form → Asked → List ℕ → List ℕ → Place → Turn → Type 0
+abbrev pub SecondAs : Form → Asked → List ℕ → List ℕ → Place → Turned → Type 0
 SecondAs f a w s p t = SecondIf f a w s p t (a .two) (mayFollow (askedHolder a) (a .first .tag ∷ []) (a .second .tag))
+
+-- its cut alone
+abbrev pub SecondCut : Form → Asked → List ℕ → List ℕ → Place → Turn → Type 0
+SecondCut f a w s p r = (t : Turned) × (r ≡ cutAlone t) × SecondAs f a w s p t
 
 -- ---- what is left of the level
 

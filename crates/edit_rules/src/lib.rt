@@ -6,7 +6,7 @@ ghost use Rattle.format.specs.Valid.{SheetValid};
 ghost use Rattle.items.specs.Meet.{formOf, levelOf, glanceTable};
 ghost use Rattle.items.specs.Quick.{Glanced};
 ghost use Rattle.find.specs.Places.{holderOf, SetOf, FoundIs};
-ghost use Rattle.edit_rules.specs.Meet.{sheetOf, cutOf, noCut, ValuedAs, TurnAs, SecondAs};
+ghost use Rattle.edit_rules.specs.Meet.{sheetOf, cutOf, noCut, ValuedAs, TurnAs, sizedTurn, cutAlone, SecondCut};
 ghost use Rattle.edit_rules.specs.Meet.{leftBy, pairOf, partedBy, lostBy, EndsAs, inOrder, RestAs, JudgedAs};
 use find::Found;
 use find::Place;
@@ -48,9 +48,9 @@ pub struct Cuts {
     pub hi: Cut,
 }
 
-// A change in its turn: the item's place and its cut; or the number of a refusal.
+// A change in its turn: its cut; or the number of a refusal.
 enum Turn {
-    Fine { place: Place, cut: Cut },
+    Fine(Cut),
     Wrong(u64),
 }
 
@@ -149,29 +149,34 @@ fn turn_of(
     c: Change,
     f: Found,
     v: &[u8],
-) -> Turn
+) -> Valued
     requires { ⌜ (now glances ≡ glanceTable) × SetOf (formOf alone) (now s) × FoundIs (formOf alone) (holderOf set id) (c .tag) (now s) f ⌝ }
-    ensures { λ r. ⌜ TurnAs (formOf alone) set id c (now (v .entry)) (now (s .entry)) r ⌝ }
+    ensures { λ r. ⌜ TurnAs (formOf alone) set id c (now (v .entry)) (now (s .entry)) (sizedTurn c r f) ⌝ }
 {
     if !items::nameable_of(set, c.tag) {
-        return Turn::Wrong(19);
+        return Valued::Fault(19);
     }
     let Found::There(place) = f else {
-        return Turn::Wrong(18);
+        return Valued::Fault(18);
     };
     if c.removal {
         if place.at < place.next {
-            let cut = cut_of(c, place, 0);
-            return Turn::Fine { place, cut };
+            return Valued::Size(0);
         }
-        return Turn::Wrong(18);
+        return Valued::Fault(18);
     }
-    let x = put_size(glances, alone, set, c.tag, v);
+    put_size(glances, alone, set, c.tag, v)
+}
+
+// The cut of a change of that size, where its item was found.
+fn cut_at(c: Change, f: Found, x: Valued) -> Turn
+    ensures { λ r. ⌜ r ≡ cutAlone (sizedTurn c x f) ⌝ }
+{
     match x {
-        Valued::Size(size) => {
-            let cut = cut_of(c, place, size);
-            Turn::Fine { place, cut }
-        }
+        Valued::Size(size) => match f {
+            Found::There(place) => Turn::Fine(cut_of(c, place, size)),
+            Found::Nowhere => Turn::Wrong(18),
+        },
         Valued::Fault(n) => Turn::Wrong(n),
     }
 }
@@ -180,11 +185,10 @@ fn turn_of(
 // first does not change for another tag. p is the place of the first.
 fn second_turn(glances: &[u32], s: &[u8], alone: bool, a: Asked, p: Place, w: &[u8]) -> Turn
     requires { ⌜ (now glances ≡ glanceTable) × SetOf (formOf alone) (now s) ⌝ }
-    ensures { λ r. ⌜ SecondAs (formOf alone) a (now (w .entry)) (now (s .entry)) p r ⌝ }
+    ensures { λ r. ⌜ SecondCut (formOf alone) a (now (w .entry)) (now (s .entry)) p r ⌝ }
 {
     if !a.two {
-        let cut = no_cut(p.next);
-        return Turn::Fine { place: p, cut };
+        return Turn::Fine(no_cut(p.next));
     }
     if a.set {
         return Turn::Wrong(19);
@@ -194,7 +198,8 @@ fn second_turn(glances: &[u32], s: &[u8], alone: bool, a: Asked, p: Place, w: &[
     }
     let c = a.second;
     let f = find::place_of(s, alone, a.set, a.id, c.tag);
-    turn_of(glances, s, alone, a.set, a.id, c, f, w)
+    let x = turn_of(glances, s, alone, a.set, a.id, c, f, w);
+    cut_at(c, f, x)
 }
 
 // ---- what is left of the level
@@ -297,10 +302,7 @@ fn judge_rest(
 {
     let t = second_turn(glances, s, alone, a, p, w);
     match t {
-        Turn::Fine {
-            place: _,
-            cut: second,
-        } => {
+        Turn::Fine(second) => {
             let n = ending_fault(alone, a.set, first, second);
             if n == 0 {
                 return in_order(a.set, p, first, second);
@@ -318,9 +320,15 @@ pub fn judge(glances: &[u32], s: &[u8], alone: bool, a: Asked, v: &[u8], w: &[u8
 {
     let c = a.first;
     let f = find::place_of(s, alone, a.set, a.id, c.tag);
-    let t = turn_of(glances, s, alone, a.set, a.id, c, f, v);
-    match t {
-        Turn::Fine { place, cut } => judge_rest(glances, s, alone, a, place, cut, w),
-        Turn::Wrong(n) => Judged::Wrong(n),
+    let x = turn_of(glances, s, alone, a.set, a.id, c, f, v);
+    match x {
+        Valued::Size(size) => match f {
+            Found::There(place) => {
+                let cut = cut_of(c, place, size);
+                judge_rest(glances, s, alone, a, place, cut, w)
+            }
+            Found::Nowhere => Judged::Wrong(18),
+        },
+        Valued::Fault(n) => Judged::Wrong(n),
     }
 }

@@ -7,10 +7,12 @@ use Rattle.format.specs.Coding.{Bytes}
 use Rattle.format.specs.Table.{nameable}
 use Rattle.items.specs.Meet.{formOf, levelOf}
 use Rattle.items.proofs.nameable_of.Reads as nameable-of-reads
+use Rattle.find.specs.declared.Found.the-variants.{There}
 use Rattle.find.specs.Places.{holderOf, Placed, FoundIs}
-use Rattle.edit_rules.specs.Meet.{ValuedAs}
-use Rattle.edit_rules.proofs.Rules.{unnamed, unheld, removed, absent, put-in, put-out}
-use Rattle.edit_rules.proofs.cut_of.Reads as cut-of-reads
+use Rattle.edit_rules.specs.declared.Valued.{Valued}
+use Rattle.edit_rules.specs.declared.Valued.the-variants.{Size}
+use Rattle.edit_rules.specs.Meet.{TurnAs, sizedTurn}
+use Rattle.edit_rules.proofs.Rules.{unnamed, unheld, removed, absent, put-turn}
 use Rattle.edit_rules.proofs.put_size.Reads as put-size-reads
 use Rattle.edit_rules.proofs.turn_of.Statement.{statement}
 use Rattle.edit_rules.proofs.turn_of.Reads as reads
@@ -21,8 +23,6 @@ abbrev claims : lts.Claims
 claims = (
   nameable-of-reads.Asked,
   nameable-of-reads.Learnt,
-  cut-of-reads.Asked,
-  cut-of-reads.Learnt,
   put-size-reads.Asked,
   put-size-reads.Learnt,
 )
@@ -53,6 +53,13 @@ here p =
     let i = from (up p) .args in
     subst (FoundIs (formOf (i .alone)) (holderOf (i .set) (i .id)) (i .c .tag) (i .s .now)) (p .f .given .1) (from (up p) .pre .2)
 
+-- what holds of the place holds of what was found
+at-place : (p : AtPlace) (r : Valued) → TurnAs (formOf (from (up p) .args .alone)) (from (up p) .args .set) (from (up p) .args .id) (from (up p) .args .c) (from (up p) .args .v .now) (from (up p) .args .s .now) (sizedTurn (from (up p) .args .c) r (There (p .f .given .0 .0)))
+    → TurnAs (formOf (from (up p) .args .alone)) (from (up p) .args .set) (from (up p) .args .id) (from (up p) .args .c) (from (up p) .args .v .now) (from (up p) .args .s .now) (sizedTurn (from (up p) .args .c) r (from (up p) .args .f))
+at-place p r q =
+    let i = from (up p) .args in
+    subst (λ g. TurnAs (formOf (i .alone)) (i .set) (i .id) (i .c) (i .v .now) (i .s .now) (sizedTurn (i .c) r g)) (sym (p .f .given .1)) q
+
 nameable-of-requires : tie.Need-nameable-of-requires
 nameable-of-requires c κs = search needs
 
@@ -74,51 +81,26 @@ returns-2 c =
     unheld (formOf (i .alone)) (i .set) (i .id) (i .c) (i .v .now) (i .s .now) (named a)
     (subst (FoundIs (formOf (i .alone)) (holderOf (i .set) (i .id)) (i .c .tag) (i .s .now)) (c .enum-told .given .1) (from a .pre .2))
 
-cut-of-requires : tie.Need-cut-of-requires
-cut-of-requires c κs = search needs
-
 returns-3 : tie.Need-returns-3
 returns-3 c =
-    let p = c .before .before .before .before .before in
+    let p = c .before .before .before .before in
     let i = from (up p) in
-    removed (formOf (i .args .alone)) (i .args .set) (i .args .id) (i .args .c) (i .args .v .now) (i .args .s .now) (named (up p)) (bytes (up p)) (i .pre .1) _ (here p)
-    (c .before .before .before .if2 .taken) (c .before .if3 .taken) (c .cut-of .ensures)
+    at-place p (Size 0) (removed (formOf (i .args .alone)) (i .args .set) (i .args .id) (i .args .c) (i .args .v .now) (i .args .s .now) (named (up p)) (bytes (up p)) (i .pre .1) _ (here p) (c .before .before .if2 .taken) (c .if3 .taken))
 
 returns-4 : tie.Need-returns-4
 returns-4 c =
     let p = c .before .before .before .before in
     let i = from (up p) in
-    absent (formOf (i .args .alone)) (i .args .set) (i .args .id) (i .args .c) (i .args .v .now) (i .args .s .now) (named (up p)) (bytes (up p)) (i .pre .1) _ (here p)
-    (c .before .before .if2 .taken) (c .if3 .left)
+    absent (formOf (i .args .alone)) (i .args .set) (i .args .id) (i .args .c) (i .args .v .now) (i .args .s .now) (named (up p)) (bytes (up p)) (i .pre .1) _ (here p) (c .before .before .if2 .taken) (c .if3 .left)
 
 put-size-requires : tie.Need-put-size-requires
 put-size-requires c κs = search needs
 
-enum-known-x : tie.Need-enum-known-x
-enum-known-x c = search needs
-
-cut-of-requires-2 : tie.Need-cut-of-requires-2
-cut-of-requires-2 c κs = search needs
-
-enum-known-x-2 : tie.Need-enum-known-x-2
-enum-known-x-2 c = search needs
-
 returns-5 : tie.Need-returns-5
 returns-5 c =
-    let p = c .before .before .before .before .before .before .before in
+    let p = c .before .before .before in
     let i = from (up p) in
-    put-in (formOf (i .args .alone)) (i .args .set) (i .args .id) (i .args .c) (i .args .v .now) (i .args .s .now) (named (up p)) (bytes (up p)) (i .pre .1) _ (here p)
-    (c .before .before .before .before .before .if2 .left)
-    (subst (ValuedAs (formOf (i .args .alone)) (levelOf (i .args .set)) (i .args .c .tag) (i .args .v .now)) (c .before .before .x .given .1) (c .before .before .before .before .put-size .ensures))
-    (c .cut-of2 .ensures)
-
-returns-6 : tie.Need-returns-6
-returns-6 c =
-    let p = c .before .before .before .before .before .before in
-    let i = from (up p) in
-    put-out (formOf (i .args .alone)) (i .args .set) (i .args .id) (i .args .c) (i .args .v .now) (i .args .s .now) (named (up p)) (bytes (up p)) (i .pre .1) _ (here p)
-    (c .before .before .before .before .if2 .left)
-    (subst (ValuedAs (formOf (i .args .alone)) (levelOf (i .args .set)) (i .args .c .tag) (i .args .v .now)) (c .before .x2 .given .1) (c .before .before .before .put-size .ensures))
+    at-place p (c .put-size .result) (put-turn (formOf (i .args .alone)) (i .args .set) (i .args .id) (i .args .c) (i .args .v .now) (i .args .s .now) (named (up p)) (bytes (up p)) (i .pre .1) _ (here p) (c .before .if2 .left) (c .put-size .result) (c .put-size .ensures))
 
 pub turn-of-spec : {M : Type 1} → statement M
 turn-of-spec =
@@ -129,12 +111,7 @@ turn-of-spec =
     enum-known-f
     enum-told
     returns-2
-    cut-of-requires
     returns-3
     returns-4
     put-size-requires
-    enum-known-x
-    cut-of-requires-2
-    enum-known-x-2
-    returns-5
-    returns-6)
+    returns-5)

@@ -41,7 +41,8 @@ fn edit_at(
     ensures { λ r. ⌜ CutPacked (formOf alone) (now (s .entry)) k (lowOf turned (now (v .entry)) (now (w .entry)))
         (lowOf turned (now (w .entry)) (now (v .entry))) (now (out .entry)) r (now (out .exit)) ⌝ }
 {
-    let n = edit_bytes::edited_size(k);
+    let body = edit_bytes::body_size(k);
+    let n = edit_bytes::edited_size(k, body);
     let total = frames::frame_size(alone, n);
     if 8192 < total {
         return answer_of(1, 0);
@@ -50,7 +51,7 @@ fn edit_at(
         return answer_of(16, total);
     }
     let from = frames::open(out, alone, n);
-    let size = edit_bytes::put_edited(s, k, turned, v, w, &mut out[from..]);
+    let size = edit_bytes::put_edited(s, k, body, turned, v, w, &mut out[from..]);
     frames::close(out, alone, from + size);
     answer_of(0, total)
 }

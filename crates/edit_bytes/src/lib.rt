@@ -47,7 +47,7 @@ fn put_value(out: &mut [u8], at: usize, c: Cut, other: bool, v: &[u8], w: &[u8])
 // ---- the lengths around the cuts
 
 // The bytes of the pack under its length, or of the set.
-fn body_size(k: Cuts) -> usize
+pub fn body_size(k: Cuts) -> usize
     requires { ⌜ Spans 8192 k × Small (k .lo) × Small (k .hi) ⌝ }
     ensures { λ r. ⌜ r ≡ bodySize k (cutSize (k .lo)) (cutSize (k .hi)) ⌝ }
 {
@@ -68,12 +68,11 @@ fn packs_size(k: Cuts, n: usize) -> usize
 
 // ---- the entries
 
-// How many bytes the entries take with what the cuts put.
-pub fn edited_size(k: Cuts) -> usize
-    requires { ⌜ Spans 8192 k × Small (k .lo) × Small (k .hi) ⌝ }
+// How many bytes the entries take with what the cuts put, where the pack has n.
+pub fn edited_size(k: Cuts, n: usize) -> usize
+    requires { ⌜ Spans 8192 k × Small (k .lo) × Small (k .hi) × (n ≡ bodySize k (cutSize (k .lo)) (cutSize (k .hi))) ⌝ }
     ensures { λ r. ⌜ r ≡ putSize k ⌝ }
 {
-    let n = body_size(k);
     if k.set {
         return n;
     }
@@ -104,13 +103,22 @@ fn put_front(s: &[u8], k: Cuts, n: usize, out: &mut [u8]) -> usize
 }
 
 // The entries with what the cuts put, the lower of v and the higher of w or, turned, the other way, at the start of out; how many bytes.
-pub fn put_edited(s: &[u8], k: Cuts, turned: bool, v: &[u8], w: &[u8], out: &mut [u8]) -> usize
-    requires { ⌜ Putting (now s) k (lowOf turned (now v) (now w)) (lowOf turned (now w) (now v)) × (putSize k ≤ length (now out)) ⌝ }
+// The pack has n.
+pub fn put_edited(
+    s: &[u8],
+    k: Cuts,
+    n: usize,
+    turned: bool,
+    v: &[u8],
+    w: &[u8],
+    out: &mut [u8],
+) -> usize
+    requires { ⌜ Putting (now s) k (lowOf turned (now v) (now w)) (lowOf turned (now w) (now v)) × (putSize k ≤ length (now out))
+        × (n ≡ bodySize k (cutSize (k .lo)) (cutSize (k .hi))) ⌝ }
     ensures { λ r. ⌜ StoredAt (now (out .entry)) 0
         (cutBytes (now (s .entry)) k (lowOf turned (now (v .entry)) (now (w .entry))) (lowOf turned (now (w .entry)) (now (v .entry))))
         r (now (out .exit)) ⌝ }
 {
-    let n = body_size(k);
     let a = put_front(s, k, n, out);
     let b = put_value(out, a, k.lo, turned, v, w);
     let low = k.lo.next;

@@ -262,24 +262,39 @@ fn ending_fault(alone: bool, set: bool, a: Cut, b: Cut) -> u64
 
 // ---- the edit
 
+// A cut, number by number: the bytes between them would be copied too, a few at a time, and waited for.
+fn own(c: Cut) -> Cut
+    ensures { λ r. ⌜ r ≡ c ⌝ }
+{
+    Cut {
+        at: c.at,
+        next: c.next,
+        tag: c.tag,
+        removal: c.removal,
+        size: c.size,
+    }
+}
+
 // The cuts in order: two at the same end stay as they were asked.
 fn in_order(set: bool, place: Place, first: Cut, second: Cut) -> Judged
     ensures { λ r. ⌜ r ≡ inOrder set place first second ⌝ }
 {
-    if second.at < first.at {
+    let a = own(first);
+    let b = own(second);
+    if b.at < a.at {
         let cuts = Cuts {
             set,
             place,
-            lo: second,
-            hi: first,
+            lo: b,
+            hi: a,
         };
         return Judged::Fine { cuts, turned: true };
     }
     let cuts = Cuts {
         set,
         place,
-        lo: first,
-        hi: second,
+        lo: a,
+        hi: b,
     };
     Judged::Fine {
         cuts,

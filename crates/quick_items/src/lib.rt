@@ -130,16 +130,16 @@ pub fn is_plain(set: bool, alone: bool, p: usize, top: u64, low: u64, tag: u64, 
     if n == 0 {
         return false;
     }
-    if tag < 64 {
-        return false;
-    }
     if !is_new(p, top, low, tag) {
         return false;
     }
     if !items::begins(set, alone, tag, p == 0) {
         return false;
     }
-    items::quick::is_beyond(set, tag)
+    if tag < 64 {
+        return false;
+    }
+    !tally::is_series(set, tag)
 }
 
 // The items after those of the quick way that are such, one after another.

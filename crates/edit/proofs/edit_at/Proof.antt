@@ -17,6 +17,7 @@ use Rattle.frames.proofs.close.Reads as close-reads
 use Rattle.edit_rules.specs.Meet.{lowOf}
 use Rattle.edit_rules.specs.Cuts.{Spans, cutBytes, StoredAt}
 use Rattle.edit_rules.proofs.Storing.{spans-more, put-most, bytes-long}
+use Rattle.edit_bytes.proofs.body_size.Reads as body-size-reads
 use Rattle.edit_bytes.proofs.edited_size.Reads as edited-size-reads
 use Rattle.edit_bytes.proofs.put_edited.Reads as put-edited-reads
 use Rattle.answers.proofs.answer_of.Reads as answer-of-reads
@@ -30,6 +31,8 @@ use Rattle.edit.proofs.edit_at.Tie as tie
 
 abbrev claims : lts.Claims
 claims = (
+  body-size-reads.Asked,
+  body-size-reads.Learnt,
   edited-size-reads.Asked,
   edited-size-reads.Learnt,
   frame-size-reads.Asked,
@@ -51,7 +54,7 @@ abbrev Call : Type 0
 Call = lts.Start claims reads.Pre reads.Post
 
 abbrev from : Sized → Call
-from z = z .before .before .before .before .before .before
+from z = z .before .before .before .before .before .before .before
 
 -- the set's bytes with what is put
 abbrev bytes : Sized → List ℕ
@@ -77,14 +80,19 @@ stored z o q = (omega (arith, q .0), q .1)
 short : (i : Call) → Spans 8192 (i .args .k)
 short i = spans-more (length (i .args .s .now)) 8192 (i .args .k) (i .pre .0 .spans) (i .pre .0 .short)
 
-edited-size-requires : tie.Need-edited-size-requires
-edited-size-requires c κs =
+body-size-requires : tie.Need-body-size-requires
+body-size-requires c κs =
     let i = c .before .before .before .before in
     (short i, i .pre .0 .low-small, i .pre .0 .high-small)
 
+edited-size-requires : tie.Need-edited-size-requires
+edited-size-requires c κs =
+    let i = c .before .before .before .before .before in
+    (short i, i .pre .0 .low-small, i .pre .0 .high-small, c .body-size .ensures)
+
 frame-size-requires : tie.Need-frame-size-requires
 frame-size-requires c κs =
-    let i = c .before .before .before .before .before in
+    let i = c .before .before .before .before .before .before in
     omega (arith, c .edited-size .ensures, put-most (i .args .k) (short i) (i .pre .0 .low-small) (i .pre .0 .high-small))
 
 answer-of-requires : tie.Need-answer-of-requires
@@ -132,7 +140,7 @@ put-edited-requires c κs =
     let z = g .before .before in
     let i = from z in
     let room = rest-room (packs-fit (some z) (i .args .out .now) (g .before .if1 .left) (g .if2 .left)) (o .«open» .ensures) (sym (i .pre .1 .1)) in
-    (i .pre .0, omega (arith, room, bytes-long (i .pre .0)))
+    (i .pre .0, omega (arith, room, bytes-long (i .pre .0)), z .before .before .body-size .ensures)
 
 add-close : tie.Need-add-close
 add-close c =
@@ -176,6 +184,7 @@ pub edit-at-spec : {M : Type 1} → statement M
 edit-at-spec =
     tie.close
     (tie.spec
+    body-size-requires
     edited-size-requires
     frame-size-requires
     answer-of-requires

@@ -104,10 +104,16 @@ pub extern "C" fn vmti_edit_two(
 ) -> u64
     ensures { λ r. ⌜ Returns (now (out .entry))
         (Edit.edit (formNamed form) (holderNamed level target)
-            ((tag, changeNamed removal (now (value .entry))) ∷ (tag2, changeNamed removal2 (now (value2 .entry))) ∷ [])
-            (now (packet .entry)))
+        ((tag, changeNamed removal (now (value .entry))) ∷ (tag2, changeNamed removal2 (now (value2 .entry))) ∷ [])
+        (now (packet .entry)))
         r (now (out .exit)) ⌝ }
 {
-    let a = asked(level, target, change(tag, removal), true, change(tag2, removal2));
+    let a = asked(
+        level,
+        target,
+        change(tag, removal),
+        true,
+        change(tag2, removal2),
+    );
     one_number(edit(packet, form != 0, a, value, value2, out))
 }

@@ -36,8 +36,12 @@ returns : tie.Need-returns
 returns c =
     let t = c .before .before .before .before .before .before .before .before in
     let i = t .before .before .before .before .before .before .before .args in
+    let p = c .before .before .before .f .given in
     c .judge-rest .ensures (i .v .now)
-    (subst (TurnAs (formOf (i .alone)) (i .a .set) (i .a .id) (i .a .first) (i .v .now) (i .s .now)) (ap₂ (sizedTurn (i .a .first)) (c .before .before .before .before .before .before .x .given .1) (c .before .before .before .f .given .1) ∙ ap (turn.Fine (c .before .before .before .f .given .0 .0)) (sym (c .before .cut-of .ensures))) (t .turn-of .ensures))
+    (subst
+    (TurnAs (formOf (i .alone)) (i .a .set) (i .a .id) (i .a .first) (i .v .now) (i .s .now))
+    (ap₂ (sizedTurn (i .a .first)) (c .before .before .before .before .before .before .x .given .1) (p .1) ∙ ap (turn.Fine (p .0 .0)) (sym (c .before .cut-of .ensures)))
+    (t .turn-of .ensures))
 
 returns-2 : tie.Need-returns-2
 returns-2 c =

@@ -35,7 +35,11 @@ returns-4 : tie.Need-returns-4
 returns-4 c =
     let i = c .before .before .before .before .before .before .before .before .before .before .before .before .args in
     let t = sizedTurn (i .a .second) (c .before .turn-of .result) (c .before .before .place-of .result) in
-    (t, c .cut-at .ensures, second-turned (formOf (i .alone)) (i .a) (i .w .now) (i .s .now) (i .p) (not-false _ (c .before .before .before .before .before .before .before .if1 .left)) (c .before .before .before .before .before .before .if2 .left) (c .before .before .before .before .if3 .left) t (c .before .turn-of .ensures))
+    let g = c .before .before .before .before in (
+      t,
+      c .cut-at .ensures,
+      second-turned (formOf (i .alone)) (i .a) (i .w .now) (i .s .now) (i .p) (not-false _ (g .before .before .before .if1 .left)) (g .before .before .if2 .left) (g .if3 .left) t (c .before .turn-of .ensures),
+    )
 
 pub second-turn-spec : {M : Type 1} → statement M
 second-turn-spec =

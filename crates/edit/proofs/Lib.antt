@@ -1,1 +1,2 @@
 pub mod Editing
+pub mod Writing

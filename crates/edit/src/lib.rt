@@ -1,48 +1,36 @@
-// Edit: a packet is checked and the edit judged, then the packet with its one change or two is written.
+// Edit: a packet is checked and the edit judged, then the packet with its one change is written. Two changes have a module of their own, so that
+// each way is compiled into its caller.
 ghost use mathlib.Core.Path.{_≡_};
 ghost use Prim.Native.Nat.{_≤_};
 ghost use lib.ListN.{length};
 ghost use Rattle.format.specs.Valid.{SheetValid};
-ghost use Rattle.items.specs.Meet.{formOf, glanceTable};
+ghost use Rattle.items.specs.Meet.{formOf, levelOf, glanceTable};
 ghost use Rattle.find.specs.Places.{SetOf};
-ghost use Rattle.edit_rules.specs.Meet.{sheetOf, lowOf};
-ghost use Rattle.edit_rules.specs.Cuts.{Cutting, Putting};
-ghost use Rattle.edit.specs.Meet.{judgedRefusal, Entered, CutPacked, SetEdits, AskedEdits};
+ghost use Rattle.edit_rules.specs.Meet.{changesOf, askedHolder, sheetOf};
+ghost use Rattle.edit_rules.specs.Cuts.{oneCut, Cutting, Putting};
+ghost use Rattle.answers.specs.Calls.{Edits};
+ghost use Rattle.edit.specs.Meet.{Entered, CutPacked, SetEdits};
+
+pub mod two;
+
 use answers::Answer;
 use answers::answer_of;
 use answers::refusal;
 use check_packet::Checked;
+use edit_bytes::one;
 use edit_rules::Asked;
-use edit_rules::Cuts;
-use edit_rules::Judged;
+use edit_rules::Cut;
+use edit_rules::one::Judged;
+use find::Place;
 
-// A refusal of an edit passed up.
-fn edit_refusal(j: Judged) -> Answer
-    ensures { λ r. ⌜ r ≡ judgedRefusal j ⌝ }
+// The packet with what the cut puts of v: 1, 16.
+fn edit_at(s: &[u8], alone: bool, set: bool, p: Place, c: Cut, v: &[u8], out: &mut [u8]) -> Answer
+    requires { ⌜ Putting (levelOf set) (now s) (oneCut p c) (now v) (now v) × Entered (levelOf set) (now s) (oneCut p c) (now v) (now v) ⌝ }
+    ensures { λ r. ⌜ CutPacked (formOf alone) (levelOf set) (now (s .entry)) (oneCut p c) (now (v .entry)) (now (v .entry))
+        (now (out .entry)) r (now (out .exit)) ⌝ }
 {
-    match j {
-        Judged::Fine { cuts: _, turned: _ } => answer_of(0, 0),
-        Judged::Wrong(n) => answer_of(n, 0),
-    }
-}
-
-// The packet with what the cuts put, the lower of v and the higher of w or, turned, the other way: 1, 16.
-fn edit_at(
-    s: &[u8],
-    alone: bool,
-    k: Cuts,
-    turned: bool,
-    v: &[u8],
-    w: &[u8],
-    out: &mut [u8],
-) -> Answer
-    requires { ⌜ Putting (now s) k (lowOf turned (now v) (now w)) (lowOf turned (now w) (now v))
-        × Entered (now s) k (lowOf turned (now v) (now w)) (lowOf turned (now w) (now v)) ⌝ }
-    ensures { λ r. ⌜ CutPacked (formOf alone) (now (s .entry)) k (lowOf turned (now (v .entry)) (now (w .entry)))
-        (lowOf turned (now (w .entry)) (now (v .entry))) (now (out .entry)) r (now (out .exit)) ⌝ }
-{
-    let body = edit_bytes::body_size(k);
-    let n = edit_bytes::edited_size(k, body);
+    let body = one::body_size(p, c);
+    let n = edit_bytes::edited_size(set, p, body);
     let total = frames::frame_size(alone, n);
     if 8192 < total {
         return answer_of(1, 0);
@@ -51,59 +39,43 @@ fn edit_at(
         return answer_of(16, total);
     }
     let from = frames::open(out, alone, n);
-    let size = edit_bytes::put_edited(s, k, body, turned, v, w, &mut out[from..]);
+    let size = one::put_edited(s, set, p, c, body, v, &mut out[from..]);
     frames::close(out, alone, from + size);
     answer_of(0, total)
 }
 
-// The same for cuts that put any number of bytes: with more than a packet may have, its packet has too many.
-fn edit_cuts(
-    s: &[u8],
-    alone: bool,
-    k: Cuts,
-    turned: bool,
-    v: &[u8],
-    w: &[u8],
-    out: &mut [u8],
-) -> Answer
-    requires { ⌜ (length (now s) ≤ 8192) × Cutting (now s) k (lowOf turned (now v) (now w)) (lowOf turned (now w) (now v))
-        × Entered (now s) k (lowOf turned (now v) (now w)) (lowOf turned (now w) (now v)) ⌝ }
-    ensures { λ r. ⌜ CutPacked (formOf alone) (now (s .entry)) k (lowOf turned (now (v .entry)) (now (w .entry)))
-        (lowOf turned (now (w .entry)) (now (v .entry))) (now (out .entry)) r (now (out .exit)) ⌝ }
+// The same for a cut that puts any number of bytes: with more than a packet may have, its packet has too many.
+fn edit_cut(s: &[u8], alone: bool, set: bool, p: Place, c: Cut, v: &[u8], out: &mut [u8]) -> Answer
+    requires { ⌜ (length (now s) ≤ 8192) × Cutting (levelOf set) (now s) (oneCut p c) (now v) (now v)
+        × Entered (levelOf set) (now s) (oneCut p c) (now v) (now v) ⌝ }
+    ensures { λ r. ⌜ CutPacked (formOf alone) (levelOf set) (now (s .entry)) (oneCut p c) (now (v .entry)) (now (v .entry))
+        (now (out .entry)) r (now (out .exit)) ⌝ }
 {
-    if 8192 < k.lo.size {
+    if 8192 < c.size {
         return answer_of(1, 0);
     }
-    if 8192 < k.hi.size {
-        return answer_of(1, 0);
-    }
-    edit_at(s, alone, k, turned, v, w, out)
+    edit_at(s, alone, set, p, c, v, out)
 }
 
 // An edit of the set of a packet that was checked: the rules, then the packet. Apart, so that the compiler takes neither for a rare way.
-fn edit_set(
-    glances: &[u32],
-    s: &[u8],
-    alone: bool,
-    a: Asked,
-    v: &[u8],
-    w: &[u8],
-    out: &mut [u8],
-) -> Answer
+fn edit_set(glances: &[u32], s: &[u8], alone: bool, a: Asked, v: &[u8], out: &mut [u8]) -> Answer
     requires { ⌜ (now glances ≡ glanceTable) × SetOf (formOf alone) (now s) × SheetValid (sheetOf (formOf alone) (now s)) ⌝ }
-    ensures { λ r. ⌜ SetEdits (formOf alone) a (now (v .entry)) (now (w .entry)) (now (s .entry)) (now (out .entry)) r (now (out .exit)) ⌝ }
+    ensures { λ r. ⌜ SetEdits (formOf alone) (askedHolder a) (changesOf a (now (v .entry))) (now (s .entry)) (now (out .entry)) r (now (out .exit)) ⌝ }
 {
-    let j = edit_rules::judge(glances, s, alone, a, v, w);
-    let Judged::Fine { cuts, turned } = j else {
-        return edit_refusal(j);
-    };
-    edit_cuts(s, alone, cuts, turned, v, w, out)
+    let j = edit_rules::one::judge(glances, s, alone, a, v);
+    match j {
+        Judged::Fine { place, size } => {
+            let c = edit_rules::cut_of(a.change, place, size);
+            edit_cut(s, alone, a.set, place, c, v, out)
+        }
+        Judged::Wrong(n) => answer_of(n, 0),
+    }
 }
 
-// A packet with one item put or removed, of the set or of the target with an id, or with two of that target. v is the value of the first
-// change, w of the second; a value that is not put is not read.
-pub fn edit(packet: &[u8], alone: bool, a: Asked, v: &[u8], w: &[u8], out: &mut [u8]) -> Answer
-    ensures { λ r. ⌜ AskedEdits (formOf alone) a (now (v .entry)) (now (w .entry)) (now (packet .entry)) (now (out .entry)) r (now (out .exit)) ⌝ }
+// A packet with one item put or removed, of the set or of the target with an id. A value that is not put is not read.
+pub fn edit(packet: &[u8], alone: bool, a: Asked, v: &[u8], out: &mut [u8]) -> Answer
+    ensures { λ r. ⌜ Edits (formOf alone) (askedHolder a) (changesOf a (now (v .entry))) (now (packet .entry))
+        (now (out .entry)) r (now (out .exit)) ⌝ }
 {
     let glances = items::quick::glances();
     let c = check_packet::check(&glances, packet, alone);
@@ -111,5 +83,5 @@ pub fn edit(packet: &[u8], alone: bool, a: Asked, v: &[u8], w: &[u8], out: &mut 
         return refusal(c);
     };
     let s = &packet[from..];
-    edit_set(&glances, s, alone, a, v, w, out)
+    edit_set(&glances, s, alone, a, v, out)
 }

@@ -1,12 +1,11 @@
--- What a caller needs: the call at the set of a packet that was checked, what was judged, what is put at the cuts, and a value that is longer
--- than any packet.
+-- What a caller needs: the call at the set of a packet that was checked, what is put at the cuts, and a value that is longer than any packet.
 use mathlib.Core.Path.{_≡_, refl, sym, ap, _∙_, subst}
 use Prim.Native.Nat.{ℕ, _+_, _≤_, _<_}
 use native.Mathlib.Omega.{arith}
 use mathlib.Core.Bool.{Bool, true, false}
 use mathlib.Core.List.{List, map}
 use lib.ListN.{length}
-use Rattle.format.specs.Answer.{ok, refused, _>>=_}
+use Rattle.format.specs.Answer.{ok, _>>=_}
 use Rattle.format.specs.Coding.{Bytes}
 use Rattle.format.specs.Table.{Form, Level, set, pack}
 use Rattle.format.specs.Packet.{Entry, Packet, closed}
@@ -17,7 +16,6 @@ use Rattle.format.specs.Edit.{Holder, Changes, editRules, editEntries, editPack
 use Rattle.format.specs.Valid.{SheetValid}
 use Rattle.format.proofs.reading.Packets.{parse-says}
 use Rattle.format.proofs.sheets.Content.{content-valid}
-use Rattle.items.specs.Meet.{levelOf}
 use Rattle.items.proofs.Tests.{bind-so}
 use Rattle.tally.specs.declared.Sizes.{Sizes}
 use Rattle.tally.proofs.Parsed.{Parsed}
@@ -27,15 +25,12 @@ use Rattle.check_packet.specs.Meet.{checkedOf}
 use Rattle.check_packet.proofs.Opened.{fine, opened, lentSet, lent-is}
 use Rattle.find.specs.declared.Place.{Place}
 use Rattle.find.proofs.Callers.{setAt, entries-are}
-use Rattle.edit_rules.specs.declared.Asked.{Asked}
 use Rattle.edit_rules.specs.declared.Cut.{Cut}
 use Rattle.edit_rules.specs.declared.Cuts.{Cuts}
-use Rattle.edit_rules.specs.declared.Judged.{Judged}
-use Rattle.edit_rules.specs.declared.Judged.the-variants as judged
-use Rattle.edit_rules.specs.Meet.{changesOf, askedHolder, sheetOf, setEdited, lowOf, verdictOf, CutAt, CutIf, JudgedAs}
+use Rattle.edit_rules.specs.Meet.{sheetOf, setEdited}
 use Rattle.edit_rules.specs.Cuts.{cutPut, bodySize, withSize, CutOf, Cutting, Small, Putting, cutBytes}
 use Rattle.edit_rules.proofs.Items.{put-long, size-more}
-use Rattle.edit_rules.proofs.Storing.{with-long}
+use Rattle.edit_rules.proofs.Sizes.{with-long}
 
 -- ---- the call, where the packet is accepted
 
@@ -63,19 +58,6 @@ module _ (f : Form) (s : List ℕ) {c : Checked} (ec : c ≡ checkedOf (parse f 
   pub sheet-is : SheetValid (sheetOf f (lentSet f s ec b t))
   sheet-is = rw (lent-is f s ec b t) (sheet-at-set f s (fine f s ec b t .0) (opened f s ec b t) (fine f s ec b t .1) b)
 
--- ---- what was judged
-
-module _ (f : Form) (a : Asked) (v w s : List ℕ) {r : Judged} (j : JudgedAs f a v w s r) where
-  pub judged-no : {n : ℕ} → r ≡ judged.Wrong n → editRules (askedHolder a) (changesOf a v w) (sheetOf f s) ≡ refused n 0
-  judged-no e = sym (j .verdict) ∙ ap verdictOf e
-
-  module _ {k : Cuts} {t : Bool} (e : r ≡ judged.Fine k t) where
-    pub judged-yes : editRules (askedHolder a) (changesOf a v w) (sheetOf f s) ≡ ok tt
-    judged-yes = sym (j .verdict) ∙ ap verdictOf e
-
-    pub judged-cuts : CutAt f (askedHolder a) (changesOf a v w) s k (lowOf t v w) (lowOf t w v)
-    judged-cuts = subst (CutIf f (askedHolder a) (changesOf a v w) s v w) e (j .placed)
-
 -- ---- what is put at the cuts
 
 with-more : (l : Level) (p : Place) (n : ℕ) → n ≤ withSize l p n
@@ -91,10 +73,10 @@ item-long c x h l = go (c .removal) refl
     go true e = absurd (omega (arith, l, h .none e))
     go false e = omega (arith, l, put-long (c .removal) (c .tag) x (c .size) (h .some), size-more (c .removal) (c .tag) (c .size) e)
 
-module _ (s : List ℕ) (k : Cuts) (v w : List ℕ) (q : Cutting s k v w) where
-  pub cuts-put : length s ≤ 8192 → k .lo .size ≤ 8192 → k .hi .size ≤ 8192 → Putting s k v w
-  cuts-put l bv bw = record {
-    short = l;
+module _ (l : Level) (s : List ℕ) (k : Cuts) (v w : List ℕ) (q : Cutting l s k v w) where
+  pub cuts-put : length s ≤ 8192 → k .lo .size ≤ 8192 → k .hi .size ≤ 8192 → Putting l s k v w
+  cuts-put g bv bw = record {
+    short = g;
     spans = q .spans;
     low-small = (q .low .tag-high, bv);
     low-some = q .low .some;
@@ -102,14 +84,14 @@ module _ (s : List ℕ) (k : Cuts) (v w : List ℕ) (q : Cutting s k v w) where
     high-some = q .high .some;
   }
 
-  items-less : length (cutPut (k .lo) v) + length (cutPut (k .hi) w) ≤ length (cutBytes s k v w)
+  items-less : length (cutPut (k .lo) v) + length (cutPut (k .hi) w) ≤ length (cutBytes l s k v w)
   items-less =
       let m = bodySize k (length (cutPut (k .lo) v)) (length (cutPut (k .hi) w)) in
       let e : length (cutPut (k .lo) v) + length (cutPut (k .hi) w) ≤ m = omega arith in
-      omega (arith, e, with-more (levelOf (k .set)) (k .place) m, with-long s k (q .spans) (cutPut (k .lo) v) (cutPut (k .hi) w))
+      omega (arith, e, with-more l (k .place) m, with-long s k (q .spans) (cutPut (k .lo) v) (cutPut (k .hi) w))
 
-  pub long-low : 8192 < k .lo .size → 8192 < length (cutBytes s k v w)
-  long-low l = omega (arith, items-less, item-long (k .lo) v (q .low) l)
+  pub long-low : 8192 < k .lo .size → 8192 < length (cutBytes l s k v w)
+  long-low g = omega (arith, items-less, item-long (k .lo) v (q .low) g)
 
-  pub long-high : 8192 < k .hi .size → 8192 < length (cutBytes s k v w)
-  long-high l = omega (arith, items-less, item-long (k .hi) w (q .high) l)
+  pub long-high : 8192 < k .hi .size → 8192 < length (cutBytes l s k v w)
+  long-high g = omega (arith, items-less, item-long (k .hi) w (q .high) g)

@@ -14,7 +14,7 @@ use Rattle.format.specs.Lists.{has, flatAll, askHit}
 use Rattle.format.specs.Table.{Form, set, pack, nameable}
 use Rattle.format.specs.Packet.{Item, Pack, Entry, series, tagOfItem, tagOfEntry, flatItem, flatPack, flatEntry}
 use Rattle.format.specs.Sheet.{partOf}
-use Rattle.format.specs.Edit.{Change, put, remove, Changes, theSet, target, applied, tagsAt, isSeries, editEntries}
+use Rattle.format.specs.Edit.{Change, put, remove, Changes, target, applied, tagsAt, isSeries, editEntries}
 use Rattle.format.proofs.words.Answers.{ok-inj}
 use Rattle.format.proofs.coding.Oids.{oid-some}
 use Rattle.format.proofs.reading.Items.{length-item}
@@ -23,14 +23,15 @@ use Rattle.format.proofs.edits.Results.{anItem, anEntry, made-tag}
 use Rattle.items.specs.Meet.{levelOf}
 use Rattle.find.specs.declared.Place.{Place}
 use Rattle.find.specs.Spots.{spotIn, Hit, hasId, itemSpot, itemLead, entryLead}
-use Rattle.find.specs.Places.{holderOf, SetOf, keptOf, TargetPlaced, Placed, Unheld}
+use Rattle.find.specs.Places.{holderOf, SetOf, keptOf, SetPlaced, TargetPlaced, Placed, Unheld}
 use Rattle.find.proofs.Splices.{ask-hit, hit-spot}
 use Rattle.edit_rules.specs.declared.Change as told
 use Rattle.edit_rules.specs.declared.Cut.{Cut}
 use Rattle.edit_rules.specs.declared.Cuts.{Cuts}
-use Rattle.edit_rules.specs.declared.Judged.the-variants.{Fine}
-use Rattle.edit_rules.specs.Meet.{changeOf, oneOf, shortOf, itemBytes, cutOf, noCut, TurnAt, cutsOf, inOrder, CutAt, CutIf}
-use Rattle.edit_rules.specs.Cuts.{itemPut, withTwo}
+use Rattle.edit_rules.specs.declared.two.Judged.{Judged}
+use Rattle.edit_rules.specs.declared.two.Judged.the-variants.{Fine, Wrong}
+use Rattle.edit_rules.specs.Meet.{changeOf, oneOf, editedOf, shortOf, itemBytes, cutOf, TurnAt, cutsOf, inOrder}
+use Rattle.edit_rules.specs.Cuts.{itemPut, withTwo, noCut, oneCut, lowOf, Cutting, cutBytes}
 use Rattle.edit_rules.proofs.Levels.{has-spot, alone, madeBytes, one-swap, two-swapped, Two}
 use Rattle.edit_rules.proofs.Items.{put-is, cut-says, no-cut-says}
 use Rattle.edit_rules.proofs.Sets.{set-tags, SetSpot, set-spot, set-stands, set-edits, set-spans}
@@ -96,13 +97,21 @@ pack-one f id s {p = p} {p′ = p′} t t′ =
       eis,
     )
 
--- ---- the lower first
+-- ---- cuts, and what they make of the set's bytes
 
-pub as-asked : (b : Bool) (p : Place) (x y : Cut) → ltb (y .at) (x .at) ≡ false → inOrder b p x y ≡ Fine (cutsOf b p x y) false
-as-asked b p x y e = rw (e, inOrder)
+abbrev pub CutAt : Form → Bool → ℕ → Changes → List ℕ → Cuts → List ℕ → List ℕ → Type 0
+CutAt f b id cs s k v w = Cutting (levelOf b) s k v w × (editedOf f (holderOf b id) cs s ≡ cutBytes (levelOf b) s k v w)
 
-pub turned-round : (b : Bool) (p : Place) (x y : Cut) → ltb (y .at) (x .at) ≡ true → inOrder b p x y ≡ Fine (cutsOf b p y x) true
-turned-round b p x y e = rw (e, inOrder)
+-- of a target, the lower first
+abbrev pub CutIf : Form → ℕ → Changes → List ℕ → List ℕ → List ℕ → Judged → Type 0
+CutIf f id cs s v w (Fine k t) = CutAt f false id cs s k (lowOf t v w) (lowOf t w v)
+CutIf f id cs s v w (Wrong n) = Unit {0}
+
+pub as-asked : (p : Place) (x y : Cut) → ltb (y .at) (x .at) ≡ false → inOrder p x y ≡ Fine (cutsOf p x y) false
+as-asked p x y e = rw (e, inOrder)
+
+pub turned-round : (p : Place) (x y : Cut) → ltb (y .at) (x .at) ≡ true → inOrder p x y ≡ Fine (cutsOf p y x) true
+turned-round p x y e = rw (e, inOrder)
 
 -- ---- by the place
 
@@ -113,7 +122,7 @@ level-none f s false id u = none-tags id (keptOf f s) u
 module _ (f : Form) (s : List ℕ) (b : Bytes s) (k : SetOf f s) where
   module _ (id : ℕ) {tag : ℕ} {p : Place} (t : TargetPlaced f id tag s p) where
     abbrev aPlace : Cuts
-    aPlace = cutsOf false p (noCut 0) (noCut 0)
+    aPlace = cutsOf p (noCut 0) (noCut 0)
 
     pub target-at : (tagsAt (target id) (map partOf (keptOf f s)) ≡ ok (map tagOfItem (t .items))) × (has tag (map tagOfItem (t .items)) ≡ ltb (p .at) (p .next))
     target-at =
@@ -127,41 +136,42 @@ module _ (f : Form) (s : List ℕ) (b : Bytes s) (k : SetOf f s) where
 
   -- ---- one change
 
-  one-of-set : (id : ℕ) (c : told.Change) (v w : List ℕ) (p : Place) (x : Cut) → TurnAt f true id c v s p x → CutAt f theSet (oneOf c v ∷ []) s (cutsOf true p x (noCut (p .next))) v w
+  one-of-set : (c : told.Change) (v : List ℕ) (p : Place) (n : nameable set (c .tag) ≡ true) (t : SetPlaced f (c .tag) s p)
+      → CutAt f true 0 (oneOf c v ∷ []) s (oneCut p (cutOf c p (shortOf set (c .tag) (changeOf (c .removal) v)))) v v
   unfolding editEntries applied
-  one-of-set id c v w p x t =
+  one-of-set c v p n t =
       let h = changeOf (c .removal) v in
-      let m = shortOf set (c .tag) h in
-      let q : Cuts = cutsOf true p (cutOf c p m) (noCut (p .next)) in
-      let z : SetSpot f (c .tag) s p = set-spot f s b k (c .tag) (t .named) p (t .placed) in
-      let y = alone (one-swap flatEntry entryLead entryLead tagOfEntry anEntry (c .tag) h (keptOf f s)) in
-      subst (λ r. CutAt f theSet (oneOf c v ∷ []) s (cutsOf true p r (noCut (p .next))) v w) (sym (t .cut-is)) (record {
-        cutting = record { spans = set-spans f s b k q z (oneOf c v ∷ []) (entryMade (c .tag) h) [] y refl (z .at-is) (z .next-is) (z .next-is) (z .next-is); low = cut-says set c v p (t .named); high = no-cut-says (p .next) w };
-        edited = set-edits f s b k q z (oneOf c v ∷ []) (entryMade (c .tag) h) [] y refl (z .at-is) (z .next-is) (z .next-is) (z .next-is)
-            ∙ ap (λ r. withTwo s q r []) (made-entry (c .tag) h ∙ sym (put-is set (c .tag) v (c .removal)));
-      })
+      let q : Cuts = oneCut p (cutOf c p (shortOf set (c .tag) h)) in
+      let z : SetSpot f (c .tag) s p = set-spot f s b k (c .tag) n p t in
+      let y = alone (one-swap flatEntry entryLead entryLead tagOfEntry anEntry (c .tag) h (keptOf f s)) in (
+        record { spans = set-spans f s b k q z (oneOf c v ∷ []) (entryMade (c .tag) h) [] y (z .at-is) (z .next-is) (z .next-is) (z .next-is); low = cut-says set c v p n; high = no-cut-says (p .next) v },
+        set-edits f s b k q z (oneOf c v ∷ []) (entryMade (c .tag) h) [] y (z .at-is) (z .next-is) (z .next-is) (z .next-is)
+            ∙ ap (λ r. withTwo set s q r []) (made-entry (c .tag) h ∙ sym (put-is set (c .tag) v (c .removal))),
+      )
 
-  one-of-target : (id : ℕ) (c : told.Change) (v w : List ℕ) (p : Place) (x : Cut) → TurnAt f false id c v s p x → CutAt f (target id) (oneOf c v ∷ []) s (cutsOf false p x (noCut (p .next))) v w
+  one-of-target : (id : ℕ) (c : told.Change) (v : List ℕ) (p : Place) (n : nameable pack (c .tag) ≡ true) (l : TargetPlaced f id (c .tag) s p)
+      → CutAt f false id (oneOf c v ∷ []) s (oneCut p (cutOf c p (shortOf pack (c .tag) (changeOf (c .removal) v)))) v v
   unfolding applied
-  one-of-target id c v w p x t =
+  one-of-target id c v p n l =
       let h = changeOf (c .removal) v in
-      let m = shortOf pack (c .tag) h in
-      let q : Cuts = cutsOf false p (cutOf c p m) (noCut (p .next)) in
-      let l = t .placed in
-      let y = alone (one-swap flatItem itemLead itemLead tagOfItem (anItem pack) (c .tag) h (l .items)) in
-      subst (λ r. CutAt f (target id) (oneOf c v ∷ []) s (cutsOf false p r (noCut (p .next))) v w) (sym (t .cut-is)) (record {
-        cutting = record { spans = target-spans f s b k q l (oneOf c v ∷ []) (itemMade (c .tag) h) [] y refl (l .item-at) (l .next-at) (l .next-at) (l .next-at); low = cut-says pack c v p (t .named); high = no-cut-says (p .next) w };
-        edited = target-edits f s b k q l (oneOf c v ∷ []) (itemMade (c .tag) h) [] y refl (l .item-at) (l .next-at) (l .next-at) (l .next-at)
-            ∙ ap (λ r. withTwo s q r []) (made-item (c .tag) h ∙ sym (put-is pack (c .tag) v (c .removal)));
-      })
+      let q : Cuts = oneCut p (cutOf c p (shortOf pack (c .tag) h)) in
+      let y = alone (one-swap flatItem itemLead itemLead tagOfItem (anItem pack) (c .tag) h (l .items)) in (
+        record { spans = target-spans f s b k q l (oneOf c v ∷ []) (itemMade (c .tag) h) [] y (l .item-at) (l .next-at) (l .next-at) (l .next-at); low = cut-says pack c v p n; high = no-cut-says (p .next) v },
+        target-edits f s b k q l (oneOf c v ∷ []) (itemMade (c .tag) h) [] y (l .item-at) (l .next-at) (l .next-at) (l .next-at)
+            ∙ ap (λ r. withTwo pack s q r []) (made-item (c .tag) h ∙ sym (put-is pack (c .tag) v (c .removal))),
+      )
 
-  pub one-cut : (bs : Bool) (id : ℕ) (c : told.Change) (v w : List ℕ) (p : Place) (x : Cut) → TurnAt f bs id c v s p x → CutAt f (holderOf bs id) (oneOf c v ∷ []) s (cutsOf bs p x (noCut (p .next))) v w
-  one-cut true id c v w p x t = one-of-set id c v w p x t
-  one-cut false id c v w p x t = one-of-target id c v w p x t
+  one-at : (bs : Bool) (id : ℕ) (c : told.Change) (v : List ℕ) (p : Place) (n : nameable (levelOf bs) (c .tag) ≡ true) (t : Placed f (holderOf bs id) (c .tag) s p)
+      → CutAt f bs id (oneOf c v ∷ []) s (oneCut p (cutOf c p (shortOf (levelOf bs) (c .tag) (changeOf (c .removal) v)))) v v
+  one-at true id c v p n t = one-of-set c v p n t
+  one-at false id c v p n t = one-of-target id c v p n t
+
+  pub one-cut : (bs : Bool) (id : ℕ) (c : told.Change) (v : List ℕ) (p : Place) {m : ℕ} → TurnAt f bs id c v s p m → CutAt f bs id (oneOf c v ∷ []) s (oneCut p (cutOf c p m)) v v
+  one-cut bs id c v p t = subst (λ x. CutAt f bs id (oneOf c v ∷ []) s (oneCut p (cutOf c p x)) v v) (sym (t .size-is)) (one-at bs id c v p (t .named) (t .placed))
 
   -- ---- two of a target
 
-  module _ (id : ℕ) (c d : told.Change) (v w : List ℕ) (p p′ : Place) (x y : Cut) (t : TurnAt f false id c v s p x) (t′ : TurnAt f false id d w s p′ y) (o : eqb (c .tag) (d .tag) ≡ false) where
+  module _ (id : ℕ) (c d : told.Change) (v w : List ℕ) (p p′ : Place) {m₀ n₀ : ℕ} (t : TurnAt f false id c v s p m₀) (t′ : TurnAt f false id d w s p′ n₀) (o : eqb (c .tag) (d .tag) ≡ false) where
     abbrev l : TargetPlaced f id (c .tag) s p
     l = t .placed
 
@@ -196,20 +206,20 @@ module _ (f : Form) (s : List ℕ) (b : Bytes s) (k : SetOf f s) where
     abbrev both : Type 0
     both = Two flatItem itemLead itemLead tagOfItem (anItem pack) (made-tag pack) item-some (c .tag) (changeOf (c .removal) v) (d .tag) (changeOf (d .removal) w) o (l .items)
 
-    in-order : both → CutIf f (target id) cs s v w (inOrder false p x₀ y₀)
+    in-order : both → CutIf f id cs s v w (inOrder p x₀ y₀)
     unfolding applied
     in-order (inl (le, z)) =
-        let q : Cuts = cutsOf false p x₀ y₀ in
-        subst (CutIf f (target id) cs s v w) (sym (as-asked false p x₀ y₀ (le-ltb (p′ .at) (p .at) (omega (arith, le, at-second, l .item-at))))) (record {
-          cutting = record { spans = target-spans f s b k q l cs i j z refl (l .item-at) (l .next-at) at-second next-second; low = cut-says pack c v p (t .named); high = cut-says pack d w p′ (t′ .named) };
-          edited = target-edits f s b k q l cs i j z refl (l .item-at) (l .next-at) at-second next-second ∙ ap (λ r. withTwo s q r j) i-is ∙ ap (withTwo s q _) j-is;
-        })
+        let q : Cuts = cutsOf p x₀ y₀ in
+        subst (CutIf f id cs s v w) (sym (as-asked p x₀ y₀ (le-ltb (p′ .at) (p .at) (omega (arith, le, at-second, l .item-at))))) (
+          record { spans = target-spans f s b k q l cs i j z (l .item-at) (l .next-at) at-second next-second; low = cut-says pack c v p (t .named); high = cut-says pack d w p′ (t′ .named) },
+          target-edits f s b k q l cs i j z (l .item-at) (l .next-at) at-second next-second ∙ ap (λ r. withTwo pack s q r j) i-is ∙ ap (withTwo pack s q _) j-is,
+        )
     in-order (inr (lt, z)) =
-        let q : Cuts = cutsOf false p y₀ x₀ in
-        subst (CutIf f (target id) cs s v w) (sym (turned-round false p x₀ y₀ (lt-ltb (p′ .at) (p .at) (omega (arith, lt, at-second, l .item-at))))) (record {
-          cutting = record { spans = target-spans f s b k q l cs j i z refl at-second next-second (l .item-at) (l .next-at); low = cut-says pack d w p′ (t′ .named); high = cut-says pack c v p (t .named) };
-          edited = target-edits f s b k q l cs j i z refl at-second next-second (l .item-at) (l .next-at) ∙ ap (λ r. withTwo s q r i) j-is ∙ ap (withTwo s q _) i-is;
-        })
+        let q : Cuts = cutsOf p y₀ x₀ in
+        subst (CutIf f id cs s v w) (sym (turned-round p x₀ y₀ (lt-ltb (p′ .at) (p .at) (omega (arith, lt, at-second, l .item-at))))) (
+          record { spans = target-spans f s b k q l cs j i z at-second next-second (l .item-at) (l .next-at); low = cut-says pack d w p′ (t′ .named); high = cut-says pack c v p (t .named) },
+          target-edits f s b k q l cs j i z at-second next-second (l .item-at) (l .next-at) ∙ ap (λ r. withTwo pack s q r i) j-is ∙ ap (withTwo pack s q _) i-is,
+        )
 
-    pub two-cuts : CutIf f (target id) cs s v w (inOrder false p x y)
-    two-cuts = rw (t .cut-is, t′ .cut-is) (in-order (two-swapped flatItem itemLead itemLead tagOfItem (anItem pack) (made-tag pack) item-some (c .tag) (changeOf (c .removal) v) (d .tag) (changeOf (d .removal) w) o (l .items)))
+    pub two-cuts : CutIf f id cs s v w (inOrder p (cutOf c p m₀) (cutOf d p′ n₀))
+    two-cuts = rw (t .size-is, t′ .size-is) (in-order (two-swapped flatItem itemLead itemLead tagOfItem (anItem pack) (made-tag pack) item-some (c .tag) (changeOf (c .removal) v) (d .tag) (changeOf (d .removal) w) o (l .items)))

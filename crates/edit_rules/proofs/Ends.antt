@@ -1,5 +1,5 @@
 -- What two cuts leave of a level that stood right: 20 and 14, told by the cuts alone.
-use mathlib.Core.Path.{_≡_, refl, sym, ap, _∙_}
+use mathlib.Core.Path.{_≡_, refl, sym, ap, _∙_, subst}
 use Prim.Native.Nat.{ℕ, _<_}
 use native.Mathlib.Omega.{arith}
 use mathlib.Core.Bool.{Bool, true, false, not, _||_}
@@ -8,7 +8,7 @@ use lib.Dec.{eqb, ltb}
 use borrow.Author.Tests.{eqb-true, eq-eqb, ne-eqb, not-true, not-false}
 use Rattle.format.specs.Answer.{ok, refused, need}
 use Rattle.format.specs.Lists.{has}
-use Rattle.format.specs.Table.{Form, embedded, standalone, isAlone, alike, ended}
+use Rattle.format.specs.Table.{Form, Level, embedded, standalone, isAlone, alike, ended}
 use Rattle.format.specs.Edit.{ending}
 use Rattle.format.proofs.words.Answers.{no-bool, need-then, need-last}
 use Rattle.items.specs.Meet.{formOf, levelOf, answerOf}
@@ -116,6 +116,10 @@ module _ (f : Form) (a b : Cut) where
     pub pack-stays : x ≡ false → {n : ℕ} → n ≡ lostBy f a b 17 → EndsAs f (levelOf b′) a b n
     unfolding ending
     pack-stays z en tags left st sa sb by = let (e, l) = stood-pack f tags (rw eb at st) in rw eb (ap answerOf en ∙ pack-ends f a b tags left by e sa sb l .1 (sym ex ∙ z))
+
+-- by cuts that are these
+pub ends-by : (f : Form) (l : Level) (n : ℕ) {a a′ b b′ : Cut} → a ≡ a′ → b ≡ b′ → EndsAs f l a b n → EndsAs f l a′ b′ n
+ends-by f l n {a = a} {b′ = b′} ea eb e = subst (λ x. EndsAs f l x b′ n) ea (subst (λ y. EndsAs f l a y n) eb e)
 
 -- ---- as the code asks it
 

@@ -18,8 +18,8 @@ use Rattle.store_coded.proofs.Codings.{short-total}
 use Rattle.store_coded.proofs.Shortest.{short-less, last-is}
 use Rattle.find.specs.declared.Place.{Place}
 use Rattle.edit_rules.specs.declared.Change as told
-use Rattle.edit_rules.specs.Meet.{changeOf, shortOf, itemBytes, cutOf, noCut}
-use Rattle.edit_rules.specs.Cuts.{lastOf, itemPut, itemSize, CutOf}
+use Rattle.edit_rules.specs.Meet.{changeOf, shortOf, itemBytes, cutOf}
+use Rattle.edit_rules.specs.Cuts.{lastOf, itemPut, itemSize, noCut, CutOf}
 
 -- ---- how many bytes
 

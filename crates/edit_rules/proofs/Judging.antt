@@ -1,20 +1,21 @@
 -- The rules of an edit of one or two changes: each in its turn, then what is left of the level.
 use mathlib.Core.Path.{_≡_, refl, sym, ap, _∙_, subst}
-use Prim.Native.Nat.{ℕ, _<_}
+use Prim.Native.Nat.{ℕ, zero, suc, _<_}
 use native.Mathlib.Omega.{arith}
 use mathlib.Core.Bool.{Bool, true, false, not, _&&_, _||_}
 use mathlib.Core.List.{List, [], _∷_, map}
 use lib.Dec.{eqb, ltb}
-use borrow.Author.Tests.{le-ltb, ne-eqb}
+use borrow.Author.Tests.{eq-eqb, ne-eqb}
 use Rattle.format.specs.Answer.{Ans, ok, refused, need, _>>=_}
 use Rattle.format.specs.Coding.{Bytes}
 use Rattle.format.specs.Lists.{has}
-use Rattle.format.specs.Table.{Form, nameable}
+use Rattle.format.specs.Table.{Form, set, pack, nameable}
+use Rattle.format.specs.Packet.{tagOfEntry}
 use Rattle.format.specs.Sheet.{partOf}
 use Rattle.format.specs.Edit.{Holder, theSet, target, Change, put, remove, Changes, tagsAt, changeRules, mayFollow, turns, ending, editRules}
 use Rattle.format.specs.Edit as Edit
 use Rattle.format.specs.Valid.{Once, SheetValid}
-use Rattle.format.proofs.words.Answers.{no-bool, ok-inj}
+use Rattle.format.proofs.words.Answers.{ok-inj}
 use Rattle.format.proofs.words.Changes.{changedKeys, isPut, once-changed, has-other, has-changed}
 use Rattle.format.proofs.edits.Levels.{level-valid}
 use Rattle.items.specs.Meet.{levelOf, answerOf}
@@ -24,12 +25,16 @@ use Rattle.find.specs.Places.{holderOf, SetOf, keptOf}
 use Rattle.edit_rules.specs.declared.Change as told
 use Rattle.edit_rules.specs.declared.Cut.{Cut}
 use Rattle.edit_rules.specs.declared.Asked.{Asked}
-use Rattle.edit_rules.specs.Turns as turn
-use Rattle.edit_rules.specs.declared.Judged.{Judged}
-use Rattle.edit_rules.specs.declared.Judged.the-variants.{Wrong}
-use Rattle.edit_rules.specs.Meet.{changeOf, oneOf, alsoOf, changesOf, askedHolder, sheetOf, noCut, turnRules, TurnAt, TurnAs, SecondIf, SecondAs, leftBy, EndsAs, inOrder, verdictOf, CutIf, JudgedAs}
-use Rattle.edit_rules.proofs.Edits.{as-asked, turned-round, one-cut, two-cuts}
-use Rattle.edit_rules.proofs.Rules.{number}
+use Rattle.edit_rules.specs.declared.Valued.the-variants.{Size, Fault}
+use Rattle.edit_rules.specs.declared.one.Judged as One
+use Rattle.edit_rules.specs.declared.one.Judged.the-variants as one
+use Rattle.edit_rules.specs.declared.two.Judged as Two
+use Rattle.edit_rules.specs.declared.two.Judged.the-variants as two
+use Rattle.edit_rules.specs.Cuts.{noCut}
+use Rattle.edit_rules.specs.Meet.{changeOf, oneOf, twoOf, sheetOf, cutOf, turnRules, TurnAt, TurnStops, leftBy, EndsAs, Stops, OneAs, endedOne, LeftAs, TwoAs, inOrder, SetStops, TurnedAs}
+use Rattle.edit_rules.proofs.Sets.{set-tags}
+use Rattle.edit_rules.proofs.Edits.{CutIf, as-asked, turned-round, one-cut, two-cuts}
+use Rattle.edit_rules.proofs.Rules.{number, turn-is, unnamed}
 
 pub level-is : (b : Bool) (id : ℕ) → Edit.levelOf (holderOf b id) ≡ levelOf b
 level-is true id = refl
@@ -75,16 +80,6 @@ unfolding has
 may-begin theSet tag = refl
 may-begin (target i) tag = refl
 
--- a second change is of a target, and of another tag
-follows-under : (b : Bool) (id t u : ℕ) → mayFollow (holderOf b id) (t ∷ []) u ≡ true → (b ≡ false) × (eqb t u ≡ false)
-unfolding has
-follows-under true id t u e = no-bool e
-follows-under false id t u e = (refl, go (eqb t u) refl)
-  where
-    go : (x : Bool) → eqb t u ≡ x → eqb t u ≡ false
-    go true z = no-bool (sym (ap (λ y. not (y || false)) z) ∙ e)
-    go false z = z
-
 -- ---- another tag
 
 change-other : (f : Form) (b : Bool) (t : ℕ) (c : Change) (u : ℕ) (d : Change) (tags : List ℕ) → eqb t u ≡ false
@@ -98,26 +93,14 @@ turn-other : (f : Form) (b : Bool) (t : ℕ) (c : Change) (u : ℕ) (d : Change)
 unfolding turnRules _>>=_
 turn-other f b t c u d tags o = ap (λ z. need (nameable (levelOf b) u) 19 >>= λ _. z) (change-other f b t c u d tags o)
 
--- ---- two cuts
-
-two-by : (f : Form) (s : List ℕ) → Bytes s → SetOf f s → (b : Bool) (id : ℕ) (c d : told.Change) (v w : List ℕ) (p p′ : Place) (x y : Cut)
-    → TurnAt f b id c v s p x → TurnAt f b id d w s p′ y → mayFollow (holderOf b id) (c .tag ∷ []) (d .tag) ≡ true → CutIf f (holderOf b id) (oneOf c v ∷ oneOf d w ∷ []) s v w (inOrder b p x y)
-two-by f s hb k true id c d v w p p′ x y t t′ m = no-bool m
-two-by f s hb k false id c d v w p p′ x y t t′ m = two-cuts f s hb k id c d v w p p′ x y t t′ (follows-under false id (c .tag) (d .tag) m .1)
-
 -- ---- what is left
 
 put-not : (r : Bool) (v : List ℕ) → isPut (changeOf r v) ≡ not r
 put-not true v = refl
 put-not false v = refl
 
-left-is : (f : Form) (b : Bool) (id : ℕ) (c : told.Change) (v s : List ℕ) {p : Place} {x : Cut} → TurnAt f b id c v s p x → (j : ℕ) (tags : List ℕ) → Once tags
-    → has j (changedKeys (c .tag) (changeOf (c .removal) v) tags) ≡ leftBy x j (has j tags)
-left-is f b id c v s t j tags o =
-    rw (t .cut-is) (has-changed (c .tag) (changeOf (c .removal) v) j tags o ∙ ap (λ x. elim (eqb (c .tag) j) [ true ↦ x | false ↦ has j tags ]) (put-not (c .removal) v))
-
-stands-at : (f : Form) (b : Bool) (id : ℕ) (c : told.Change) (v s : List ℕ) {p : Place} {x : Cut} (t : TurnAt f b id c v s p x) → has (x .tag) (t .tags) ≡ ltb (x .at) (x .next)
-stands-at f b id c v s t = rw (t .cut-is) (t .stands)
+left-is : (c : told.Change) (v : List ℕ) (p : Place) (m j : ℕ) (tags : List ℕ) → Once tags → has j (changedKeys (c .tag) (changeOf (c .removal) v) tags) ≡ leftBy (cutOf c p m) j (has j tags)
+left-is c v p m j tags o = has-changed (c .tag) (changeOf (c .removal) v) j tags o ∙ ap (λ x. elim (eqb (c .tag) j) [ true ↦ x | false ↦ has j tags ]) (put-not (c .removal) v)
 
 left-none : (a j : ℕ) (x : Bool) → 0 < j → leftBy (noCut a) j x ≡ x
 left-none a j x l = rw (ne-eqb 0 j (λ e. omega (arith, e, l)), leftBy)
@@ -129,125 +112,152 @@ module _ (f : Form) (b : Bool) (id : ℕ) (c d : told.Change) (v w s : List ℕ)
   abbrev at : Ans (List ℕ)
   at = tagsAt h (map partOf (keptOf f s))
 
-  -- the rules of the edit, with a second change or without
-  abbrev rules : Bool → Ans (Unit {0})
-  rules two = editRules h (oneOf c v ∷ alsoOf two d w) (sheetOf f s)
-
-  pub first-wrong : (two : Bool) (n : ℕ) → TurnAs f b id c v s (turn.Wrong n) → refused n 0 ≡ rules two
+  pub first-wrong : (cs : Changes) (n : ℕ) → TurnStops f b id c v s n → Stops f h (oneOf c v ∷ cs) s n
   unfolding editRules
-  first-wrong two n e =
-      sym (bind-not _ _ n 0 (turn-wrong f h [] (c .tag) (changeOf (c .removal) v) (alsoOf two d w) at (may-begin h (c .tag)) n
-      (ap (λ l. turnRules f l (c .tag) (changeOf (c .removal) v) at) (level-is b id) ∙ e)))
+  first-wrong cs n e =
+      bind-not _ _ n 0 (turn-wrong f h [] (c .tag) (changeOf (c .removal) v) cs at (may-begin h (c .tag)) n
+      (ap (λ l. turnRules f l (c .tag) (changeOf (c .removal) v) at) (level-is b id) ∙ e))
 
-  module _ {p : Place} {x : Cut} (t : TurnAt f b id c v s p x) where
-    -- the level's tags after the first
-    abbrev after : List ℕ
-    after = changedKeys (c .tag) (changeOf (c .removal) v) (t .tags)
+  -- ---- the first may be made, to a level with these tags
 
-    first-right : (cs : Changes) → turns f h [] (oneOf c v ∷ cs) at ≡ turns f h (c .tag ∷ []) cs (ok after)
-    first-right cs =
-        turn-right f h [] (c .tag) (changeOf (c .removal) v) cs at (may-begin h (c .tag)) (ap (λ l. nameable l (c .tag)) (level-is b id) ∙ t .named) (t .tags) (t .tags-are)
-        (ap (λ l. changeRules f l (c .tag) (t .tags) (changeOf (c .removal) v)) (level-is b id) ∙ t .ruled)
+  module _ (tags : List ℕ) (et : tagsAt (holderOf b id) (map partOf (keptOf f s)) ≡ ok tags) (named : nameable (levelOf b) (c .tag) ≡ true)
+      (ruled : changeRules f (levelOf b) (c .tag) tags (changeOf (c .removal) v) ≡ ok tt)
+    where
+      -- the level's tags after it
+      abbrev after : List ℕ
+      after = changedKeys (c .tag) (changeOf (c .removal) v) tags
 
-    pub second-not : mayFollow h (c .tag ∷ []) (d .tag) ≡ false → refused 19 0 ≡ rules true
-    unfolding editRules
-    second-not m = sym (bind-not _ _ 19 0 (first-right (alsoOf true d w) ∙ follows-not f h (c .tag ∷ []) (d .tag) (changeOf (d .removal) w) [] (ok after) m))
+      first-right : (cs : Changes) → turns f h [] (oneOf c v ∷ cs) at ≡ turns f h (c .tag ∷ []) cs (ok after)
+      first-right cs =
+          turn-right f h [] (c .tag) (changeOf (c .removal) v) cs at (may-begin h (c .tag)) (ap (λ l. nameable l (c .tag)) (level-is b id) ∙ named) tags et
+          (ap (λ l. changeRules f l (c .tag) tags (changeOf (c .removal) v)) (level-is b id) ∙ ruled)
 
-    module _ (m : mayFollow h (c .tag ∷ []) (d .tag) ≡ true) where
-      other : eqb (c .tag) (d .tag) ≡ false
-      other = follows-under b id (c .tag) (d .tag) m .1
-
-      pub second-wrong : (n : ℕ) → TurnAs f b id d w s (turn.Wrong n) → refused n 0 ≡ rules true
+      pub second-not : mayFollow (holderOf b id) (c .tag ∷ []) (d .tag) ≡ false → Stops f (holderOf b id) (twoOf c d v w) s 19
       unfolding editRules
-      second-wrong n e =
+      second-not m = bind-not _ _ 19 0 (first-right (oneOf d w ∷ []) ∙ follows-not f h (c .tag ∷ []) (d .tag) (changeOf (d .removal) w) [] (ok after) m)
+
+      pub second-wrong : mayFollow (holderOf b id) (c .tag ∷ []) (d .tag) ≡ true → eqb (c .tag) (d .tag) ≡ false → (n : ℕ) → TurnStops f b id d w s n → Stops f (holderOf b id) (twoOf c d v w) s n
+      unfolding editRules
+      second-wrong m o n e =
           let g = changeOf (d .removal) w in
           let e₂ : turnRules f (levelOf b) (d .tag) g (ok after) ≡ refused n 0
-          = turn-other f b (c .tag) (changeOf (c .removal) v) (d .tag) g (t .tags) other ∙ ap (turnRules f (levelOf b) (d .tag) g) (sym (t .tags-are)) ∙ e in
-          sym (bind-not _ _ n 0 (first-right (alsoOf true d w) ∙ turn-wrong f h (c .tag ∷ []) (d .tag) g [] (ok after) m n (ap (λ l. turnRules f l (d .tag) g (ok after)) (level-is b id) ∙ e₂)))
+          = turn-other f b (c .tag) (changeOf (c .removal) v) (d .tag) g tags o ∙ ap (turnRules f (levelOf b) (d .tag) g) (sym et) ∙ e in
+          bind-not _ _ n 0 (first-right (oneOf d w ∷ []) ∙ turn-wrong f h (c .tag ∷ []) (d .tag) g [] (ok after) m n (ap (λ l. turnRules f l (d .tag) g (ok after)) (level-is b id) ∙ e₂))
 
-    -- ---- the end
+  -- ---- the end
 
-    module _ (sv : SheetValid (sheetOf f s)) (n : ℕ) where
-      once : Once (t .tags)
-      once = level-valid h (sheetOf f s) (t .tags) sv (t .tags-are) .0
+  module _ {p : Place} {m : ℕ} (t : TurnAt f b id c v s p m) (sv : SheetValid (sheetOf f s)) (n : ℕ) where
+    once : Once (t .tags)
+    once = level-valid h (sheetOf f s) (t .tags) sv (t .tags-are) .0
 
-      stood : ending f (levelOf b) (t .tags) ≡ ok tt
-      stood = ap (λ l. ending f l (t .tags)) (sym (level-is b id)) ∙ level-valid h (sheetOf f s) (t .tags) sv (t .tags-are) .1
+    stood : ending f (levelOf b) (t .tags) ≡ ok tt
+    stood = ap (λ l. ending f l (t .tags)) (sym (level-is b id)) ∙ level-valid h (sheetOf f s) (t .tags) sv (t .tags-are) .1
 
-      pub one-ends : (a : ℕ) → EndsAs f (levelOf b) x (noCut a) n → answerOf n ≡ rules false
-      unfolding editRules turns
-      one-ends a e =
-          e (t .tags) after stood (λ _. stands-at f b id c v s t) (λ l. absurd (omega (arith, l))) (λ j l. left-is f b id c v s t j (t .tags) once ∙ sym (left-none a j (leftBy x j (has j (t .tags))) l))
-          ∙ ap (λ l. ending f l after) (sym (level-is b id)) ∙ sym (bind-so _ _ after (first-right []))
+    abbrev left : List ℕ
+    left = changedKeys (c .tag) (changeOf (c .removal) v) (t .tags)
 
-      pub two-ends : {p′ : Place} {y : Cut} → TurnAt f b id d w s p′ y → mayFollow h (c .tag ∷ []) (d .tag) ≡ true → EndsAs f (levelOf b) x y n → answerOf n ≡ rules true
-      unfolding editRules turns
-      two-ends {p′ = p′} {y = y} t′ m e =
-          let g = changeOf (d .removal) w in
-          let same : t′ .tags ≡ t .tags = ok-inj _ _ (sym (t′ .tags-are) ∙ t .tags-are) in
-          let ruled : changeRules f (levelOf b) (d .tag) after g ≡ ok tt
-          = change-other f b (c .tag) (changeOf (c .removal) v) (d .tag) g (t .tags) (other m) ∙ ap (λ r. changeRules f (levelOf b) (d .tag) r g) (sym same) ∙ t′ .ruled in
-          let right : turns f h (c .tag ∷ []) (oneOf d w ∷ []) (ok after) ≡ ok (changedKeys (d .tag) g after)
-          = turn-right f h (c .tag ∷ []) (d .tag) g [] (ok after) m (ap (λ l. nameable l (d .tag)) (level-is b id) ∙ t′ .named) after refl
-          (ap (λ l. changeRules f l (d .tag) after g) (level-is b id) ∙ ruled) in
-          e (t .tags) (changedKeys (d .tag) g after) stood (λ _. stands-at f b id c v s t) (λ _. ap (has (y .tag)) (sym same) ∙ stands-at f b id d w s t′)
-          (λ j l. left-is f b id d w s t′ j after (once-changed (c .tag) (changeOf (c .removal) v) (t .tags) once) ∙ ap (leftBy y j) (left-is f b id c v s t j (t .tags) once))
-          ∙ ap (λ l. ending f l (changedKeys (d .tag) g after)) (sym (level-is b id)) ∙ sym (bind-so _ _ _ (first-right (oneOf d w ∷ []) ∙ right))
+    right : (cs : Changes) → turns f h [] (oneOf c v ∷ cs) at ≡ turns f h (c .tag ∷ []) cs (ok left)
+    right = first-right (t .tags) (t .tags-are) (t .named) (t .ruled)
 
--- ---- the edit as it is asked
+    pub one-ends : (a : ℕ) → EndsAs f (levelOf b) (cutOf c p m) (noCut a) n → answerOf n ≡ editRules (holderOf b id) (oneOf c v ∷ []) (sheetOf f s)
+    unfolding editRules turns
+    one-ends a e =
+        e (t .tags) left stood (λ _. t .stands) (λ l. absurd (omega (arith, l))) (λ j l. left-is c v p m j (t .tags) once ∙ sym (left-none a j (leftBy (cutOf c p m) j (has j (t .tags))) l))
+        ∙ ap (λ l. ending f l left) (sym (level-is b id)) ∙ sym (bind-so _ _ left (right []))
 
-in-order-ok : (b : Bool) (p : Place) (x y : Cut) → verdictOf (inOrder b p x y) ≡ ok tt
-in-order-ok b p x y = go (ltb (y .at) (x .at)) refl
+    pub two-ends : {p′ : Place} {m′ : ℕ} → TurnAt f b id d w s p′ m′ → mayFollow (holderOf b id) (c .tag ∷ []) (d .tag) ≡ true → eqb (c .tag) (d .tag) ≡ false
+        → EndsAs f (levelOf b) (cutOf c p m) (cutOf d p′ m′) n → answerOf n ≡ editRules (holderOf b id) (twoOf c d v w) (sheetOf f s)
+    unfolding editRules turns
+    two-ends {p′ = p′} {m′ = m′} t′ y o e =
+        let g = changeOf (d .removal) w in
+        let same : t′ .tags ≡ t .tags = ok-inj _ _ (sym (t′ .tags-are) ∙ t .tags-are) in
+        let ruled : changeRules f (levelOf b) (d .tag) left g ≡ ok tt
+        = change-other f b (c .tag) (changeOf (c .removal) v) (d .tag) g (t .tags) o ∙ ap (λ r. changeRules f (levelOf b) (d .tag) r g) (sym same) ∙ t′ .ruled in
+        let last : turns f h (c .tag ∷ []) (oneOf d w ∷ []) (ok left) ≡ ok (changedKeys (d .tag) g left)
+        = turn-right f h (c .tag ∷ []) (d .tag) g [] (ok left) y (ap (λ l. nameable l (d .tag)) (level-is b id) ∙ t′ .named) left refl
+        (ap (λ l. changeRules f l (d .tag) left g) (level-is b id) ∙ ruled) in
+        e (t .tags) (changedKeys (d .tag) g left) stood (λ _. t .stands) (λ _. ap (has (d .tag)) (sym same) ∙ t′ .stands)
+        (λ j l. left-is d w p′ m′ j left (once-changed (c .tag) (changeOf (c .removal) v) (t .tags) once) ∙ ap (leftBy (cutOf d p′ m′) j) (left-is c v p m j (t .tags) once))
+        ∙ ap (λ l. ending f l (changedKeys (d .tag) g left)) (sym (level-is b id)) ∙ sym (bind-so _ _ _ (right (oneOf d w ∷ []) ∙ last))
+
+-- ---- one change
+
+pub one-stops : (f : Form) (a : Asked) (v s : List ℕ) (n : ℕ) → TurnStops f (a .set) (a .id) (a .change) v s n → OneAs f a v s (one.Wrong n)
+one-stops f a v s n e = first-wrong f (a .set) (a .id) (a .change) (a .change) v v s [] n e
+
+pub ended-fine : {n : ℕ} → n ≡ 0 → (p : Place) (m : ℕ) → one.Fine p m ≡ endedOne n p m
+ended-fine {n = zero} e p m = refl
+ended-fine {n = suc n} e p m = absurd (omega (arith, e))
+
+pub ended-wrong : {n : ℕ} → (n ≡ 0 → ⊥) → (p : Place) (m : ℕ) → one.Wrong n ≡ endedOne n p m
+ended-wrong {n = zero} e p m = absurd (e refl)
+ended-wrong {n = suc n} e p m = refl
+
+pub one-left : (f : Form) (a : Asked) (v s : List ℕ) → Bytes s → SetOf f s → SheetValid (sheetOf f s) → {p : Place} {m : ℕ} → TurnAt f (a .set) (a .id) (a .change) v s p m
+    → {r : One.Judged} → LeftAs f a p m r → OneAs f a v s r
+one-left f a v s hb k sv {p = p} {m = m} t (n, en, e) = subst (OneAs f a v s) (sym e) (go n en)
   where
-    go : (z : Bool) → ltb (y .at) (x .at) ≡ z → verdictOf (inOrder b p x y) ≡ ok tt
-    go true e = ap verdictOf (turned-round b p x y e)
-    go false e = ap verdictOf (as-asked b p x y e)
+    go : (n : ℕ) → EndsAs f (levelOf (a .set)) (cutOf (a .change) p m) (noCut (p .next)) n → OneAs f a v s (endedOne n p m)
+    go zero en =
+        let (q, r) = one-cut f s hb k (a .set) (a .id) (a .change) v p t in
+        record { passed = sym (one-ends f (a .set) (a .id) (a .change) (a .change) v v s t sv 0 (p .next) en); cutting = q; edited = r }
+    go (suc n) en = sym (one-ends f (a .set) (a .id) (a .change) (a .change) v v s t sv (suc n) (p .next) en)
 
-module _ (f : Form) (a : Asked) (v w s : List ℕ) where
-  abbrev follow : Bool
-  follow = mayFollow (askedHolder a) (a .first .tag ∷ []) (a .second .tag)
+-- ---- two changes of the set
 
-  abbrev ruled : Bool → Ans (Unit {0})
-  ruled two = editRules (askedHolder a) (oneOf (a .first) v ∷ alsoOf two (a .second) w) (sheetOf f s)
+module _ (f : Form) (c : told.Change) (v s : List ℕ) where
+  pub set-unnamed : nameable set (c .tag) ≡ false → SetStops f c v s 19
+  set-unnamed n id d w = first-wrong f true id c d v w s (oneOf d w ∷ []) 19 (unnamed f true id c v s n)
 
-  pub judged-first : (n : ℕ) → TurnAs f (a .set) (a .id) (a .first) v s (turn.Wrong n) → JudgedAs f a v w s (Wrong n)
-  judged-first n e = record { verdict = first-wrong f (a .set) (a .id) (a .first) (a .second) v w s (a .two) n e; placed = tt }
+  -- the tag stands in it, or not
+  module _ (n : nameable set (c .tag) ≡ true) {stands : Bool} (st : has (c .tag) (map tagOfEntry (keptOf f s)) ≡ stands) where
+    pub set-first : (j : ℕ) → TurnedAs f set c v stands (Fault j) → SetStops f c v s j
+    set-first j q id d w =
+        first-wrong f true id c d v w s (oneOf d w ∷ []) j (turn-is f set (c .tag) (changeOf (c .removal) v) n _ (set-tags (keptOf f s)) ∙ sym (q _ st))
 
-  module _ {p : Place} {x : Cut} (t : TurnAt f (a .set) (a .id) (a .first) v s p x) where
-    pub judged-second : (n : ℕ) → SecondAs f a w s p (turn.Wrong n) → JudgedAs f a v w s (Wrong n)
-    judged-second n q = record { verdict = go (a .two) follow refl q; placed = tt }
-      where
-        go : (two m : Bool) → follow ≡ m → SecondIf f a w s p (turn.Wrong n) two m → refused n 0 ≡ ruled two
-        go false m e z = absurd (let y : _≡_ {A = ℕ} 0 1 = cc in omega arith)
-        go true false e z = let y : n ≡ 19 = cc in ap (λ r. refused r 0) y ∙ second-not f (a .set) (a .id) (a .first) (a .second) v w s t e
-        go true true e z = second-wrong f (a .set) (a .id) (a .first) (a .second) v w s t e n z
+    pub set-second : (m : ℕ) → TurnedAs f set c v stands (Size m) → SetStops f c v s 19
+    set-second m q id d w = second-not f true id c d v w s _ (set-tags (keptOf f s)) n (sym (q .0 _ st)) refl
 
-    module _ (p′ : Place) (y : Cut) (q : SecondAs f a w s p (turn.Fine p′ y)) where
-      ends-as : SheetValid (sheetOf f s) → (n : ℕ) → EndsAs f (levelOf (a .set)) x y n → answerOf n ≡ ruled (a .two)
-      ends-as sv n en = go (a .two) follow refl q
-        where
-          go : (two m : Bool) → follow ≡ m → SecondIf f a w s p (turn.Fine p′ y) two m → answerOf n ≡ ruled two
-          go false m e z = let yz : y ≡ noCut (p .next) = cc in one-ends f (a .set) (a .id) (a .first) (a .second) v w s t sv n (p .next) (subst (λ r. EndsAs f (levelOf (a .set)) x r n) yz en)
-          go true false e z = absurd (let j : _≡_ {A = ℕ} 0 1 = cc in omega arith)
-          go true true e z = two-ends f (a .set) (a .id) (a .first) (a .second) v w s t sv n z e en
+-- ---- two changes of a target
 
-      cuts-as : Bytes s → SetOf f s → CutIf f (askedHolder a) (changesOf a v w) s v w (inOrder (a .set) p x y)
-      cuts-as hb k = go (a .two) follow refl q
-        where
-          go : (two m : Bool) → follow ≡ m → SecondIf f a w s p (turn.Fine p′ y) two m → CutIf f (askedHolder a) (oneOf (a .first) v ∷ alsoOf two (a .second) w) s v w (inOrder (a .set) p x y)
-          go false m e z =
-              let yz : y ≡ noCut (p .next) = cc in
-              let r = one-cut f s hb k (a .set) (a .id) (a .first) v w p x t in
-              subst (λ j. CutIf f (askedHolder a) (oneOf (a .first) v ∷ []) s v w (inOrder (a .set) p x j)) (sym yz)
-              (subst (CutIf f (askedHolder a) (oneOf (a .first) v ∷ []) s v w) (sym (as-asked (a .set) p x (noCut (p .next)) (le-ltb (p .next) (x .at) (omega (arith, r .cutting .spans .low, r .cutting .spans .to-high))))) r)
-          go true false e z = absurd (let j : _≡_ {A = ℕ} 0 1 = cc in omega arith)
-          go true true e z = two-by f s hb k (a .set) (a .id) (a .first) (a .second) v w p p′ x y t z e
+module _ (f : Form) (id : ℕ) (c d : told.Change) (v w s : List ℕ) where
+  may-follow : (c .tag ≡ d .tag → ⊥) → (mayFollow (target id) (c .tag ∷ []) (d .tag) ≡ true) × (eqb (c .tag) (d .tag) ≡ false)
+  unfolding has
+  may-follow n = let e = ne-eqb (c .tag) (d .tag) n in (ap (λ x. not (x || false)) e, e)
 
-      pub judged-not : SheetValid (sheetOf f s) → (n : ℕ) → EndsAs f (levelOf (a .set)) x y n → (n ≡ 0 → ⊥) → JudgedAs f a v w s (Wrong n)
-      judged-not sv n en z = record { verdict = number n z ∙ ends-as sv n en; placed = tt }
+  pub two-first : (n : ℕ) → TurnStops f false id c v s n → TwoAs f id c d v w s (two.Wrong n)
+  two-first n e = first-wrong f false id c d v w s (oneOf d w ∷ []) n e
 
-      pub judged-fine : SheetValid (sheetOf f s) → Bytes s → SetOf f s → (n : ℕ) → EndsAs f (levelOf (a .set)) x y n → n ≡ 0 → {r : Judged} → r ≡ inOrder (a .set) p x y → JudgedAs f a v w s r
-      judged-fine sv hb k n en z e = subst (JudgedAs f a v w s) (sym e) (record {
-        verdict = in-order-ok (a .set) p x y ∙ ap answerOf (sym z) ∙ ends-as sv n en;
-        placed = cuts-as hb k;
-      })
+  module _ {p : Place} {m : ℕ} (t : TurnAt f false id c v s p m) where
+    pub two-same : c .tag ≡ d .tag → TwoAs f id c d v w s (two.Wrong 19)
+    unfolding has
+    two-same e = second-not f false id c d v w s (t .tags) (t .tags-are) (t .named) (t .ruled) (ap (λ x. not (x || false)) (eq-eqb (c .tag) (d .tag) e))
+
+    module _ (o : c .tag ≡ d .tag → ⊥) where
+      pub two-second : (n : ℕ) → TurnStops f false id d w s n → TwoAs f id c d v w s (two.Wrong n)
+      two-second n e = second-wrong f false id c d v w s (t .tags) (t .tags-are) (t .named) (t .ruled) (may-follow o .0) (may-follow o .1) n e
+
+      module _ {q : Place} {k : ℕ} (t′ : TurnAt f false id d w s q k) (sv : SheetValid (sheetOf f s)) (n : ℕ) (en : EndsAs f pack (cutOf c p m) (cutOf d q k) n) where
+        ends : answerOf n ≡ editRules (target id) (twoOf c d v w) (sheetOf f s)
+        ends = two-ends f false id c d v w s t sv n t′ (may-follow o .0) (may-follow o .1) en
+
+        pub two-left : (n ≡ 0 → ⊥) → TwoAs f id c d v w s (two.Wrong n)
+        two-left z = sym (number n z ∙ ends)
+
+        -- they are let through, at two cuts
+        through : (x y : Cut) → n ≡ 0 → CutIf f id (twoOf c d v w) s v w (inOrder p x y) → TwoAs f id c d v w s (inOrder p x y)
+        through x y z ci = go (ltb (y .at) (x .at)) refl
+          where
+            ok-is : editRules (target id) (twoOf c d v w) (sheetOf f s) ≡ ok tt
+            ok-is = sym (ap answerOf (sym z) ∙ ends)
+
+            go : (u : Bool) → ltb (y .at) (x .at) ≡ u → TwoAs f id c d v w s (inOrder p x y)
+            go true e =
+                let (a, b) = subst (CutIf f id (twoOf c d v w) s v w) (turned-round p x y e) ci in
+                subst (TwoAs f id c d v w s) (sym (turned-round p x y e)) (record { passed = ok-is; cutting = a; edited = b })
+            go false e =
+                let (a, b) = subst (CutIf f id (twoOf c d v w) s v w) (as-asked p x y e) ci in
+                subst (TwoAs f id c d v w s) (sym (as-asked p x y e)) (record { passed = ok-is; cutting = a; edited = b })
+
+        pub two-fine : Bytes s → SetOf f s → n ≡ 0 → {r : Two.Judged} → r ≡ inOrder p (cutOf c p m) (cutOf d q k) → TwoAs f id c d v w s r
+        two-fine hb kk z e = subst (TwoAs f id c d v w s) (sym e) (through (cutOf c p m) (cutOf d q k) z (two-cuts f s hb kk id c d v w p q t t′ (may-follow o .1)))

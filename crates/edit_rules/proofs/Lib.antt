@@ -6,5 +6,6 @@ pub mod Edits
 pub mod Rules
 pub mod Ends
 pub mod Judging
+pub mod Sizes
 pub mod Storing
 pub mod Callers

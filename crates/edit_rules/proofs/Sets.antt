@@ -4,9 +4,9 @@ use Prim.Native.Nat.{ℕ, _+_}
 use native.Mathlib.Omega.{arith}
 use mathlib.Core.Bool.{Bool, true, false}
 use mathlib.Core.List.{List, _++_, append-assoc, map}
-use lib.ListN.{length, length-append}
+use lib.ListN.{length, drop, length-append}
 use lib.Dec.{eqb, ltb}
-use borrow.Author.Tests.{ltb-true, ltb-false}
+use borrow.Author.Tests.{ltb-true, ltb-false, le-ltb}
 use Rattle.format.specs.Answer.{ok}
 use Rattle.format.specs.Coding.{Bytes}
 use Rattle.format.specs.Lists.{has, flatAll}
@@ -20,14 +20,15 @@ use Rattle.format.proofs.table.Tags.{nameable-set}
 use Rattle.format.proofs.sheets.Content.{part-tag}
 use Rattle.find.specs.declared.Spot.{Spot}
 use Rattle.find.specs.declared.Place.{Place}
-use Rattle.find.specs.Spots.{spotIn, Missed, hasTag, entriesOf, entryLead, entrySpot}
-use Rattle.find.specs.Places.{SetOf, keptOf, SetPlaced}
+use Rattle.find.specs.Spots.{noSpot, spotIn, Missed, hasTag, entriesOf, entryLead, entrySpot}
+use Rattle.find.specs.Places.{SetOf, keptOf, placeIn, SetPlaced}
 use Rattle.find.proofs.Splices.{missed-spot, spot-present, narrowed, absent-too}
 use Rattle.find.proofs.Entries.{entry-some, tag-absent}
+use Rattle.find.proofs.Finds.{set-there, set-added}
 use Rattle.find.proofs.Sets.{Seal, rest-of, theRest, set-bytes, set-long}
 use Rattle.edit_rules.specs.declared.Cuts.{Cuts}
 use Rattle.edit_rules.specs.Meet.{editedOf}
-use Rattle.edit_rules.specs.Cuts.{frontOf, withTwo, Spans}
+use Rattle.edit_rules.specs.Cuts.{headOf, withTwo, Spans}
 use Rattle.edit_rules.proofs.Levels.{has-spot, piece, Swapped}
 
 pub set-tags : (es : List Entry) → tagsAt theSet (map partOf es) ≡ ok (map tagOfEntry es)
@@ -75,38 +76,52 @@ module _ (f : Form) (s : List ℕ) (b : Bytes s) (k : SetOf f s) where
   pub set-stands : (tag : ℕ) (p : Place) → SetSpot f tag s p → has tag (map tagOfEntry (keptOf f s)) ≡ ltb (p .at) (p .next)
   set-stands tag p z = has-spot tagOfEntry tag flatEntry entryLead entryLead entry-some (keptOf f s) 0 (p .at) (p .next) (omega (arith, z .at-is)) (omega (arith, z .next-is))
 
+  -- by its spot alone
+  pub spot-stands : (tag : ℕ) → nameable set tag ≡ true → {a : Spot} → a ≡ entrySpot set f tag s → has tag (map tagOfEntry (keptOf f s)) ≡ ltb (a .at) (a .next)
+  spot-stands tag n {a = a} e = go (ltb (a .at) (a .next)) refl
+    where
+      stop : ℕ
+      stop = length (flatAll flatEntry (keptOf f s))
+
+      go : (x : Bool) → ltb (a .at) (a .next) ≡ x → has tag (map tagOfEntry (keptOf f s)) ≡ ltb (a .at) (a .next)
+      go true z = set-stands tag (placeIn a stop) (set-spot tag n (placeIn a stop) (set-there f tag s e refl (ltb-true _ _ z) refl))
+      go false z = set-stands tag (placeIn (noSpot stop) stop) (set-spot tag n (placeIn (noSpot stop) stop) (set-added f tag s e refl (ltb-false _ _ z) refl)) ∙ le-ltb stop stop (omega arith) ∙ sym z
+
   -- ---- the edited entries, where i and j are put at the cuts
 
   module _ {tag : ℕ} (q : Cuts) (z : SetSpot f tag s (q .place)) (cs : Changes) {a n m e : ℕ} (i j : List ℕ) (x : Swapped (flatAll flatEntry (keptOf f s)) (editedOf f theSet cs s) a n i m e j)
-      (over : q .set ≡ true) (low-at : q .lo .at ≡ a) (low-next : q .lo .next ≡ n) (high-at : q .hi .at ≡ m) (high-next : q .hi .next ≡ e)
+      (low-at : q .lo .at ≡ a) (low-next : q .lo .next ≡ n) (high-at : q .hi .at ≡ m) (high-next : q .hi .next ≡ e)
     where
       entries-long : length (flatAll flatEntry (keptOf f s)) ≡ length (x .front) + (length (x .gone) + (length (x .mid) + (length (x .gone′) + length (x .back))))
       entries-long = ap length (x .was) ∙ simp length-append
 
-      pub set-edits : editedOf f theSet cs s ≡ withTwo s q i j
-      unfolding withTwo frontOf
+      pub set-edits : editedOf f theSet cs s ≡ withTwo set s q i j
+      unfolding withTwo headOf
       set-edits =
           let t : List ℕ = flatAll flatEntry rest in
           let b₀ : s ≡ x .front ++ (x .gone ++ (x .mid ++ (x .gone′ ++ (x .back ++ t)))) = set-bytes f s b k ∙ ap (λ r. r ++ t) (x .was) ∙ simp append-assoc in
-          let (p₁, d₁) = piece s 0 (q .lo .at) (x .front) _ b₀ (omega (arith, low-at, x .low-at)) in
+          let (p₁, d₁) = piece s (q .place .body) (q .lo .at) (x .front) _ (ap (λ n. drop n s) (z .from-0 .3) ∙ b₀) (omega (arith, low-at, x .low-at, z .from-0)) in
           let (_, d₂) = piece s (q .lo .at) (q .lo .next) (x .gone) _ d₁ (omega (arith, low-at, low-next, x .low-next)) in
           let (p₃, d₃) = piece s (q .lo .next) (q .hi .at) (x .mid) _ d₂ (omega (arith, low-next, high-at, x .high-at)) in
           let (_, d₄) = piece s (q .hi .at) (q .hi .next) (x .gone′) _ d₃ (omega (arith, high-at, high-next, x .high-next)) in
           let (p₅, _) = piece s (q .hi .next) (q .place .stop) (x .back) t d₄ (omega (arith, z .stop-is, entries-long, high-next, x .low-at, x .low-next, x .high-at, x .high-next)) in
-          x .is ∙ rw (over, p₁, p₃, p₅)
+          x .is ∙ rw (p₁, p₃, p₅)
 
-      pub set-spans : Spans (length s) q
+      pub set-spans : Spans set (length s) q
       set-spans = record {
-        to-packs = omega (arith, z .from-0);
-        to-pack = omega (arith, z .from-0);
-        to-body = omega (arith, z .from-0);
+        around = record {
+          to-packs = omega (arith, z .from-0);
+          to-pack = omega (arith, z .from-0);
+          to-body = omega (arith, z .from-0);
+          to-last = omega (arith, z .from-0);
+          to-tail = omega (arith, z .to-stop);
+          to-stop = omega (arith, z .to-stop);
+          to-end = omega (arith, z .stop-is, set-long f s b k);
+        };
         to-low = omega (arith, z .from-0);
         low = omega (arith, low-at, low-next, x .low-next);
         to-high = omega (arith, low-next, high-at, x .high-at);
         high = omega (arith, high-at, high-next, x .high-next);
         to-last = omega (arith, z .to-stop, z .stop-is, entries-long, high-next, x .low-at, x .low-next, x .high-at, x .high-next);
-        to-tail = omega (arith, z .to-stop);
-        to-stop = omega (arith, z .to-stop);
-        to-end = omega (arith, z .stop-is, set-long f s b k);
         whole = λ _. (z .from-0 .3, z .to-stop .0);
       }

@@ -1,28 +1,28 @@
--- The set's bytes with two cuts, as they are stored: what stands before the cuts, what the lower puts, what stands between them, what the
--- higher puts, and what follows, one after another.
-use mathlib.Core.Path.{_≡_, refl, sym, ap, _∙_, subst}
-use Prim.Native.Nat.{ℕ, _+_, _-_, _≤_}
+-- The set's bytes with two cuts, as they are stored: what stands before the level's own bytes, their first part, what the lower cut puts,
+-- what stands between them, what the higher puts, and what follows, one after another.
+use mathlib.Core.Path.{_≡_, refl, sym, ap, _∙_}
+use Prim.Native.Nat.{ℕ, _+_, _-_, _^_, _≤_, _<_}
 use native.Mathlib.Omega.{arith}
-use mathlib.Core.Bool.{Bool, true, false}
+use mathlib.Core.Bool.{true, false}
 use mathlib.Core.List.{List, _++_}
-use lib.ListN.{length, drop, length-append, length-drop}
-use lib.Seq.{sets, length-sets, length-take-le}
+use lib.ListN.{length, length-append}
+use lib.Seq.{sets, length-sets}
 use Rattle.format.specs.Coding.{lenWidth, lenBytes}
 use Rattle.format.specs.Table.{Level, set, pack}
 use Rattle.format.specs.Packet.{flatItem}
 use Rattle.format.specs.Calls.{itemOf}
 use Rattle.format.proofs.coding.Lengths.{length-len}
 use Rattle.coding.proofs.Counts.{len-most}
-use Rattle.items.specs.Meet.{levelOf}
+use Rattle.find.specs.declared.Place.{Place}
 use Rattle.stores.proofs.Puts.{Puts, puts-then, puts-sized}
 use Rattle.store_coded.specs.Fronts.{seriesFront}
-use Rattle.store_coded.proofs.Fronts.{series-long}
 use Rattle.edit_rules.specs.declared.Cut.{Cut}
 use Rattle.edit_rules.specs.declared.Cuts.{Cuts}
-use Rattle.edit_rules.specs.Cuts.{lastOf, cutPut, cutSize, part, bodySize, packsSize, frontOf, withTwo, withSize, Spans, Small, Putting, putSize, cutBytes, StoredAt}
-use Rattle.edit_rules.proofs.Items.{put-long, size-most}
+use Rattle.edit_rules.specs.Cuts.{lastOf, cutPut, cutSize, noCut, oneCut, part, bodySize, packsSize, toPack, headOf, withTwo, Around, Small, Putting, putSize, cutBytes, StoredAt}
+use Rattle.edit_rules.proofs.Items.{put-long}
+use Rattle.edit_rules.proofs.Sizes.{spans-more, body-few, low-long, high-long, sizes-are, bytes-long}
 
--- ---- the item
+-- ---- the item, and a part
 
 module _ (c : Cut) (v : List ℕ) where
   pub none-stored : c .removal ≡ true → (o : List ℕ) (at : ℕ) → StoredAt o at (cutPut c v) at o
@@ -35,224 +35,168 @@ module _ (c : Cut) (v : List ℕ) where
     pub put-stored : (o : List ℕ) (at : ℕ) {o′ : List ℕ} {k : ℕ} → Puts o at (flatItem (itemOf (record { tag = c .tag; value = lastOf v (c .size) }))) k o′ → StoredAt o at (cutPut c v) k o′
     put-stored o at p = rw e p
 
-pub cut-few : (c : Cut) → Small c → cutSize c ≤ 16384
-cut-few c h = size-most (c .removal) (c .tag) (c .size) (h .1)
-
--- ---- how many bytes
-
-pub spans-more : (n m : ℕ) (k : Cuts) → Spans n k → n ≤ m → Spans m k
-spans-more n m k h l = record {
-  to-packs = h .to-packs;
-  to-pack = h .to-pack;
-  to-body = h .to-body;
-  to-low = h .to-low;
-  low = h .low;
-  to-high = h .to-high;
-  high = h .high;
-  to-last = h .to-last;
-  to-tail = h .to-tail;
-  to-stop = h .to-stop;
-  to-end = omega (arith, h .to-end);
-  whole = h .whole;
-}
-
--- by the sizes within each other
-module _ (k : Cuts) {n : ℕ} (en : n ≡ bodySize k (cutSize (k .lo)) (cutSize (k .hi))) where
-  pub size-set : k .set ≡ true → n ≡ putSize k
-  unfolding withSize
-  size-set e = rw e en
-
-  pub size-pack : k .set ≡ false → {m : ℕ} → m ≡ packsSize (k .place) n → {w : ℕ} → w ≡ lenWidth m → k .place .series + 1 + w + m + (k .place .stop - k .place .tail) ≡ putSize k
-  unfolding withSize
-  size-pack e em ew = rw (ew, em, en, e)
-
-few-bytes : (l : Level) (k : Cuts) (n : ℕ) → Spans 8192 k → n ≤ 40960 → withSize l (k .place) n ≤ 57344
-unfolding withSize
-few-bytes set k n h l = omega (arith, l)
-few-bytes pack k n h l = omega (arith, h, l, len-most (packsSize (k .place) n), len-most n)
-
-pub put-most : (k : Cuts) → Spans 8192 k → Small (k .lo) → Small (k .hi) → putSize k ≤ 57344
-put-most k h a b = few-bytes (levelOf (k .set)) k _ h (omega (arith, h, cut-few (k .lo) a, cut-few (k .hi) b))
-
--- from the higher cut's end on
-steps : (a b c d : ℕ) → a ≤ b → b ≤ c → c ≤ d → d - a ≡ (b - a) + (c - b) + (d - c)
-steps a b c d h k l = omega arith
-
-regroup : (a w p v l i m j x y z : ℕ) → a + (1 + w + (p + (v + l))) + (i + (m + (j + (x + y + z)))) ≡ a + 1 + w + (p + (v + (l + i + m + j + x)) + y) + z
-regroup a w p v l i m j x y z = omega arith
-
-module _ (s : List ℕ) where
-  pub part-long : (a b : ℕ) → a ≤ b → b ≤ length s → length (part s a b) ≡ b - a
-  part-long a b l m = length-take-le (b - a) (drop a s) (rw length-drop (omega arith))
-
-  module _ (k : Cuts) (h : Spans (length s) k) where
-    front-set : (n : ℕ) → length (frontOf set s (k .place) (k .lo .at) n) ≡ k .lo .at
-    unfolding frontOf
-    front-set n = part-long 0 (k .lo .at) (omega arith) (omega (arith, h)) ∙ omega arith
-
-    front-pack : (n : ℕ) → length (frontOf pack s (k .place) (k .lo .at) n)
-        ≡ k .place .series + (1 + lenWidth (packsSize (k .place) n) + ((k .place .pack - k .place .packs) + (lenWidth n + (k .lo .at - k .place .body))))
-    unfolding frontOf
-    front-pack n =
-        let a = part-long 0 (k .place .series) (omega arith) (omega (arith, h)) in
-        let b = part-long (k .place .packs) (k .place .pack) (h .to-pack) (omega (arith, h)) in
-        let c = part-long (k .place .body) (k .lo .at) (h .to-low) (omega (arith, h)) in
-        rw (length-append, length-append, length-append, length-append, series-long, length-len, a, b, c) (omega arith)
-
-    pub with-long : (i j : List ℕ) → length (withTwo s k i j) ≡ withSize (levelOf (k .set)) (k .place) (bodySize k (length i) (length j))
-    unfolding withTwo withSize
-    with-long i j =
-        let a = part-long (k .lo .next) (k .hi .at) (h .to-high) (omega (arith, h)) in
-        let b = part-long (k .hi .next) (k .place .stop) (omega (arith, h)) (h .to-end) in
-        rw (length-append, length-append, length-append, length-append, a, b) (go (k .set) refl)
-      where
-        go : (x : Bool) → k .set ≡ x → length (frontOf (levelOf (k .set)) s (k .place) (k .lo .at) (bodySize k (length i) (length j))) + (length i + ((k .hi .at - k .lo .next) + (length j + (k .place .stop - k .hi .next))))
-            ≡ withSize (levelOf (k .set)) (k .place) (bodySize k (length i) (length j))
-        go true e = unfold withSize in rw (e, front-set (bodySize k (length i) (length j))) (omega (arith, h, h .whole e))
-        go false e =
-            unfold withSize in
-            rw (e, front-pack (bodySize k (length i) (length j)), steps (k .hi .next) (k .place .last) (k .place .tail) (k .place .stop) (h .to-last) (h .to-tail) (h .to-stop)) (regroup _ _ _ _ _ (length i) _ (length j) _ _ _)
+-- of no bytes
+pub part-none : (s : List ℕ) (a b : ℕ) → b ≤ a → (o : List ℕ) (at : ℕ) → StoredAt o at (part s a b) at o
+part-none s a b h o at =
+    let z : b - a ≡ 0 = omega arith in
+    rw z (omega arith, refl)
 
 kept : (o : List ℕ) (a : ℕ) (xs : List ℕ) {o′ : List ℕ} → o′ ≡ sets o a xs → length o′ ≡ length o
 kept o a xs e = ap length e ∙ length-sets o a xs
 
 -- ---- what is stored
 
-module _ {s v w : List ℕ} {k : Cuts} (q : Putting s k v w) where
+-- what the call asks, where the level has n bytes; and for what stands before them
+abbrev pub Entering : Level → List ℕ → Cuts → List ℕ → List ℕ → ℕ → List ℕ → Type 0
+Entering l s k v w n o = Putting l s k v w × (putSize l k ≤ length o) × (n ≡ bodySize k (cutSize (k .lo)) (cutSize (k .hi)))
+
+abbrev pub Heading : Level → List ℕ → Place → ℕ → List ℕ → Type 0
+Heading l s p n o = (length s ≤ 8192) × Around (length s) p × (n ≤ 40960) × (length (headOf l s p n) ≤ length o)
+
+-- what each step asks, and what all leave
+module _ {l : Level} {s v w : List ℕ} {k : Cuts} {n : ℕ} (o : List ℕ) (g : Entering l s k v w n o) where
+  abbrev q : Putting l s k v w
+  q = g .0
+
   abbrev i : List ℕ
   i = cutPut (k .lo) v
 
   abbrev j : List ℕ
   j = cutPut (k .hi) w
 
-  low-long : length i ≡ cutSize (k .lo)
-  low-long = put-long (k .lo .removal) (k .lo .tag) v (k .lo .size) (q .low-some)
+  abbrev head : List ℕ
+  head = headOf l s (k .place) n
 
-  high-long : length j ≡ cutSize (k .hi)
-  high-long = put-long (k .hi .removal) (k .hi .tag) w (k .hi .size) (q .high-some)
-
-  sizes-are : bodySize k (length i) (length j) ≡ bodySize k (cutSize (k .lo)) (cutSize (k .hi))
-  sizes-are = ap (λ x. bodySize k x (length j)) low-long ∙ ap (bodySize k (cutSize (k .lo))) high-long
-
-  pub bytes-long : length (cutBytes s k v w) ≡ putSize k
-  bytes-long = with-long s k (q .spans) i j ∙ ap (withSize (levelOf (k .set)) (k .place)) sizes-are
-
-  module _ (o : List ℕ) (room : putSize k ≤ length o) {n : ℕ} (en : n ≡ bodySize k (cutSize (k .lo)) (cutSize (k .hi))) where
-    abbrev frontAt : ℕ → List ℕ
-    frontAt x = frontOf (levelOf (k .set)) s (k .place) (k .lo .at) x
-
-    abbrev front : List ℕ
-    front = frontAt (bodySize k (length i) (length j))
-
-    abbrev mid : List ℕ
-    mid = part s (k .lo .next) (k .hi .at)
-
-    abbrev rest : List ℕ
-    rest = part s (k .hi .next) (k .place .stop)
-
-    parts-fit : length front + (length i + (length mid + (length j + length rest))) ≤ length o
-    unfolding withTwo
-    parts-fit =
-        let e : length (cutBytes s k v w) ≡ length front + (length i + (length mid + (length j + length rest))) = simp length-append in
-        omega (arith, room, bytes-long, e)
-
-    pub front-asked : length (frontOf (levelOf (k .set)) s (k .place) (k .lo .at) n) ≤ length o
-    front-asked = omega (arith, parts-fit, ap (λ x. length (frontAt x)) (en ∙ sym sizes-are))
-
-    module _ {a : ℕ} {o₁ : List ℕ} (e₁ : Puts o 0 (frontOf (levelOf (k .set)) s (k .place) (k .lo .at) n) a o₁) where
-      front-is : Puts o 0 front a o₁
-      front-is = subst (λ x. Puts o 0 (frontAt x) a o₁) (en ∙ sym sizes-are) e₁
-
-      pub low-asked : a + cutSize (k .lo) ≤ length o₁
-      low-asked = omega (arith, parts-fit, low-long, front-is .0, kept o 0 front (front-is .1))
-
-      module _ {b : ℕ} {o₂ : List ℕ} (e₂ : Puts o₁ a (cutPut (k .lo) v) b o₂) where
-        long₂ : length o₂ ≡ length o
-        long₂ = kept o₁ a i (e₂ .1) ∙ kept o 0 front (front-is .1)
-
-        pub mid-asked : b + length (part s (k .lo .next) (k .hi .at)) ≤ length o₂
-        mid-asked = omega (arith, parts-fit, front-is .0, e₂ .0, long₂)
-
-        module _ {c : ℕ} {o₃ : List ℕ} (e₃ : Puts o₂ b (part s (k .lo .next) (k .hi .at)) c o₃) where
-          long₃ : length o₃ ≡ length o
-          long₃ = kept o₂ b mid (e₃ .1) ∙ long₂
-
-          pub high-asked : c + cutSize (k .hi) ≤ length o₃
-          high-asked = omega (arith, parts-fit, high-long, front-is .0, e₂ .0, e₃ .0, long₃)
-
-          module _ {d : ℕ} {o₄ : List ℕ} (e₄ : Puts o₃ c (cutPut (k .hi) w) d o₄) where
-            pub rest-asked : d + length (part s (k .hi .next) (k .place .stop)) ≤ length o₄
-            rest-asked = omega (arith, parts-fit, front-is .0, e₂ .0, e₃ .0, e₄ .0, kept o₃ c j (e₄ .1), long₃)
-
-            pub all-stored : {r : ℕ} {o₅ : List ℕ} → Puts o₄ d (part s (k .hi .next) (k .place .stop)) r o₅ → StoredAt o 0 (cutBytes s k v w) r o₅
-            unfolding withTwo
-            all-stored e₅ =
-                puts-then o 0 front (i ++ (mid ++ (j ++ rest))) front-is
-                (puts-then o₁ a i (mid ++ (j ++ rest)) e₂ (puts-then o₂ b mid (j ++ rest) e₃ (puts-then o₃ c j rest e₄ e₅)))
-
--- ---- what stands before the cuts
-
-module _ (s : List ℕ) (k : Cuts) (n : ℕ) (eb : k .set ≡ true) where
-  pub alone-room : (o : List ℕ) → length (frontOf (levelOf (k .set)) s (k .place) (k .lo .at) n) ≤ length o → 0 + length (part s 0 (k .lo .at)) ≤ length o
-  unfolding frontOf
-  alone-room o room = omega (arith, rw eb at room)
-
-  pub alone-stored : (o : List ℕ) {r : ℕ} {o₁ : List ℕ} → Puts o 0 (part s 0 (k .lo .at)) r o₁ → StoredAt o 0 (frontOf (levelOf (k .set)) s (k .place) (k .lo .at) n) r o₁
-  unfolding frontOf
-  alone-stored o e = rw eb e
-
--- n is the size of the pack, ps that of the series
-pub record Fronting (s : List ℕ) (k : Cuts) (n : ℕ) (o : List ℕ) (ps : ℕ) : Type 0 where
-  pub in-pack : k .set ≡ false
-  pub room : length (frontOf (levelOf (k .set)) s (k .place) (k .lo .at) n) ≤ length o
-  pub packs-are : ps ≡ packsSize (k .place) n
-
-module _ {s : List ℕ} {k : Cuts} {n : ℕ} {o : List ℕ} {ps : ℕ} (q : Fronting s k n o ps) where
   abbrev first : List ℕ
-  first = part s 0 (k .place .series)
+  first = part s (k .place .body) (k .lo .at)
 
-  abbrev between : List ℕ
-  between = part s (k .place .packs) (k .place .pack)
+  abbrev mid : List ℕ
+  mid = part s (k .lo .next) (k .hi .at)
 
-  abbrev last : List ℕ
-  last = part s (k .place .body) (k .lo .at)
+  abbrev rest : List ℕ
+  rest = part s (k .hi .next) (k .place .stop)
 
-  abbrev len : List ℕ
-  len = lenBytes (lenWidth n) n
+  head-as : headOf l s (k .place) (bodySize k (length i) (length j)) ≡ head
+  head-as = ap (headOf l s (k .place)) (sizes-are q ∙ sym (g .2))
 
-  total : length first + (length (seriesFront ps) + (length between + (lenWidth n + length last))) ≤ length o
-  unfolding frontOf
-  total = rw (q .packs-are) (omega (arith, simp (length-append, length-len) at (rw (q .in-pack) at (q .room))))
+  parts-fit : length head + (length first + (length i + (length mid + (length j + length rest)))) ≤ length o
+  unfolding withTwo
+  parts-fit =
+      let e : length (cutBytes l s k v w) ≡ length head + (length first + (length i + (length mid + (length j + length rest)))) = rw head-as (simp length-append) in
+      omega (arith, g .1, bytes-long q, e)
 
-  pub first-room : 0 + length (part s 0 (k .place .series)) ≤ length o
-  first-room = omega (arith, total)
+  pub head-asked : Heading l s (k .place) n o
+  head-asked =
+      let m = body-few k (spans-more _ 8192 k (q .spans) (q .short)) (q .low-small) (q .high-small) in
+      (q .short, q .spans .around, omega (arith, g .2, m), omega (arith, parts-fit))
 
-  module _ {a₁ : ℕ} {o₁ : List ℕ} (e₁ : Puts o 0 (part s 0 (k .place .series)) a₁ o₁) where
-    pub series-room : a₁ + length (seriesFront ps) ≤ length o₁
-    series-room = omega (arith, total, e₁ .0, kept o 0 first (e₁ .1))
+  module _ {a : ℕ} {o₁ : List ℕ} (e₁ : Puts o 0 (headOf l s (k .place) n) a o₁) where
+    long₁ : length o₁ ≡ length o
+    long₁ = kept o 0 head (e₁ .1)
 
-    module _ {a₂ : ℕ} {o₂ : List ℕ} (e₂ : Puts o₁ a₁ (seriesFront ps) a₂ o₂) where
-      pub packs-room : a₂ + length (part s (k .place .packs) (k .place .pack)) ≤ length o₂
-      packs-room = omega (arith, total, e₁ .0, kept o 0 first (e₁ .1), e₂ .0, kept o₁ a₁ (seriesFront ps) (e₂ .1))
+    pub first-asked : a + length (part s (k .place .body) (k .lo .at)) ≤ length o₁
+    first-asked = omega (arith, parts-fit, e₁ .0, long₁)
 
-      module _ {a₃ : ℕ} {o₃ : List ℕ} (e₃ : Puts o₂ a₂ (part s (k .place .packs) (k .place .pack)) a₃ o₃) where
-        -- the output is as long as it was
-        long : length o₃ ≡ length o
-        long = kept o₂ a₂ between (e₃ .1) ∙ kept o₁ a₁ (seriesFront ps) (e₂ .1) ∙ kept o 0 first (e₁ .1)
+    module _ {b : ℕ} {o₂ : List ℕ} (e₂ : Puts o₁ a (part s (k .place .body) (k .lo .at)) b o₂) where
+      long₂ : length o₂ ≡ length o
+      long₂ = kept o₁ a first (e₂ .1) ∙ long₁
 
-        pub len-room : a₃ + lenWidth n ≤ length o₃
-        len-room = omega (arith, total, e₁ .0, e₂ .0, e₃ .0, long)
+      pub low-asked : Small (k .lo) × (k .lo .size ≤ length v) × (b + cutSize (k .lo) ≤ length o₂)
+      low-asked = (q .low-small, q .low-some, omega (arith, parts-fit, low-long q, e₁ .0, e₂ .0, long₂))
 
-        module _ {a₄ : ℕ} {o₄ : List ℕ} (e₄ : (a₄ ≡ a₃ + lenWidth n) × (o₄ ≡ sets o₃ a₃ (lenBytes (lenWidth n) n))) where
-          len-is : Puts o₃ a₃ len a₄ o₄
-          len-is = puts-sized o₃ a₃ len (length-len (lenWidth n) n) e₄
+      module _ {c : ℕ} {o₃ : List ℕ} (e₃ : Puts o₂ b (cutPut (k .lo) v) c o₃) where
+        long₃ : length o₃ ≡ length o
+        long₃ = kept o₂ b i (e₃ .1) ∙ long₂
 
-          pub last-room : a₄ + length (part s (k .place .body) (k .lo .at)) ≤ length o₄
-          last-room = omega (arith, total, e₁ .0, e₂ .0, e₃ .0, long, e₄ .0, kept o₃ a₃ len (e₄ .1))
+        pub mid-asked : (k .lo .next ≤ k .hi .at) × (k .hi .at ≤ length s) × (c + length (part s (k .lo .next) (k .hi .at)) ≤ length o₃)
+        mid-asked = (q .spans .to-high, omega (arith, q .spans), omega (arith, parts-fit, e₁ .0, e₂ .0, e₃ .0, long₃))
 
-          pub front-stored : {r : ℕ} {o₅ : List ℕ} → Puts o₄ a₄ (part s (k .place .body) (k .lo .at)) r o₅ → StoredAt o 0 (frontOf (levelOf (k .set)) s (k .place) (k .lo .at) n) r o₅
-          unfolding frontOf
-          front-stored e₅ =
-              let z = puts-then o 0 first (seriesFront ps ++ (between ++ (len ++ last))) e₁
-              (puts-then o₁ a₁ (seriesFront ps) (between ++ (len ++ last)) e₂ (puts-then o₂ a₂ between (len ++ last) e₃ (puts-then o₃ a₃ len last len-is e₅))) in
-              rw (q .in-pack, ← q .packs-are) z
+        module _ {d : ℕ} {o₄ : List ℕ} (e₄ : Puts o₃ c (part s (k .lo .next) (k .hi .at)) d o₄) where
+          long₄ : length o₄ ≡ length o
+          long₄ = kept o₃ c mid (e₄ .1) ∙ long₃
+
+          pub high-asked : Small (k .hi) × (k .hi .size ≤ length w) × (d + cutSize (k .hi) ≤ length o₄)
+          high-asked = (q .high-small, q .high-some, omega (arith, parts-fit, high-long q, e₁ .0, e₂ .0, e₃ .0, e₄ .0, long₄))
+
+          module _ {e : ℕ} {o₅ : List ℕ} (e₅ : Puts o₄ d (cutPut (k .hi) w) e o₅) where
+            pub rest-asked : (k .hi .next ≤ k .place .stop) × (k .place .stop ≤ length s) × (e + length (part s (k .hi .next) (k .place .stop)) ≤ length o₅)
+            rest-asked = (omega (arith, q .spans), q .spans .around .to-end, omega (arith, parts-fit, e₁ .0, e₂ .0, e₃ .0, e₄ .0, e₅ .0, kept o₄ d j (e₅ .1), long₄))
+
+            pub all-stored : {r : ℕ} {o₆ : List ℕ} → Puts o₅ e (part s (k .hi .next) (k .place .stop)) r o₆ → StoredAt o 0 (cutBytes l s k v w) r o₆
+            unfolding withTwo
+            all-stored e₆ =
+                rw head-as
+                (puts-then o 0 head (first ++ (i ++ (mid ++ (j ++ rest)))) e₁
+                (puts-then o₁ a first (i ++ (mid ++ (j ++ rest))) e₂
+                (puts-then o₂ b i (mid ++ (j ++ rest)) e₃ (puts-then o₃ c mid (j ++ rest) e₄ (puts-then o₄ d j rest e₅ e₆)))))
+
+-- one cut: the higher puts nothing, and nothing stands between them
+module _ {l : Level} {s v w : List ℕ} {p : Place} {c : Cut} {n : ℕ} (o : List ℕ) (g : Entering l s (oneCut p c) v w n o) {a : ℕ} {o₁ : List ℕ} (e₁ : Puts o 0 (headOf l s p n) a o₁)
+    {b : ℕ} {o₂ : List ℕ} (e₂ : Puts o₁ a (part s (p .body) (c .at)) b o₂) {d : ℕ} {o₃ : List ℕ} (e₃ : Puts o₂ b (cutPut c v) d o₃) where
+  no-mid : Puts o₃ d (part s (c .next) (c .next)) d o₃
+  no-mid = part-none s (c .next) (c .next) (omega arith) o₃ d
+
+  no-high : Puts o₃ d (cutPut (noCut (c .next)) w) d o₃
+  no-high = none-stored (noCut (c .next)) w refl o₃ d
+
+  pub one-asked : (c .next ≤ p .stop) × (p .stop ≤ length s) × (d + length (part s (c .next) (p .stop)) ≤ length o₃)
+  one-asked = rest-asked o g e₁ e₂ e₃ no-mid no-high
+
+  pub one-stored : {r : ℕ} {o₄ : List ℕ} → Puts o₃ d (part s (c .next) (p .stop)) r o₄ → StoredAt o 0 (cutBytes l s (oneCut p c) v w) r o₄
+  one-stored e₄ = all-stored o g e₁ e₂ e₃ no-mid no-high e₄
+
+-- ---- what stands before the level's own bytes
+
+-- m is the size of the series
+module _ (s : List ℕ) (p : Place) (m : ℕ) (o : List ℕ) (room : length (toPack s p m) ≤ length o) where
+  abbrev start : List ℕ
+  start = part s 0 (p .series)
+
+  abbrev packs : List ℕ
+  packs = part s (p .packs) (p .pack)
+
+  total : length start + (length (seriesFront m) + length packs) ≤ length o
+  unfolding toPack
+  total = omega (arith, simp length-append at room)
+
+  pub start-asked : 0 + length (part s 0 (p .series)) ≤ length o
+  start-asked = omega (arith, total)
+
+  module _ {a : ℕ} {o₁ : List ℕ} (e₁ : Puts o 0 (part s 0 (p .series)) a o₁) where
+    pub series-asked : a + length (seriesFront m) ≤ length o₁
+    series-asked = omega (arith, total, e₁ .0, kept o 0 start (e₁ .1))
+
+    module _ {b : ℕ} {o₂ : List ℕ} (e₂ : Puts o₁ a (seriesFront m) b o₂) where
+      pub packs-asked : b + length (part s (p .packs) (p .pack)) ≤ length o₂
+      packs-asked = omega (arith, total, e₁ .0, e₂ .0, kept o 0 start (e₁ .1), kept o₁ a (seriesFront m) (e₂ .1))
+
+      pub to-pack-stored : {r : ℕ} {o₃ : List ℕ} → Puts o₂ b (part s (p .packs) (p .pack)) r o₃ → StoredAt o 0 (toPack s p m) r o₃
+      unfolding toPack
+      to-pack-stored e₃ = puts-then o 0 start (seriesFront m ++ packs) e₁ (puts-then o₁ a (seriesFront m) packs e₂ e₃)
+
+module _ {l : Level} (s : List ℕ) (p : Place) (n : ℕ) (o : List ℕ) where
+  pub head-none : l ≡ set → StoredAt o 0 (headOf l s p n) 0 o
+  unfolding headOf
+  head-none e = rw e (refl, refl)
+
+  -- m is the size of the series, with a pack of n
+  module _ (e : l ≡ pack) (g : Heading l s p n o) {m : ℕ} (em : m ≡ packsSize p n) where
+    abbrev len : List ℕ
+    len = lenBytes (lenWidth n) n
+
+    head-fits : length (toPack s p m) + lenWidth n ≤ length o
+    unfolding headOf
+    head-fits = rw em (omega (arith, simp (length-append, length-len) at (rw e at (g .3))))
+
+    pub to-pack-asked : Around (length s) p × (m ≤ 65536) × (length (toPack s p m) ≤ length o)
+    to-pack-asked = (g .1, omega (arith, em, len-most n, g), omega (arith, head-fits))
+
+    module _ {a : ℕ} {o₁ : List ℕ} (e₁ : Puts o 0 (toPack s p m) a o₁) where
+      pub len-asked : (n < 2 ^ 32) × (a + lenWidth n ≤ length o₁)
+      len-asked = (omega (arith, g), omega (arith, head-fits, e₁ .0, kept o 0 (toPack s p m) (e₁ .1)))
+
+      pub head-stored : {r : ℕ} {o₂ : List ℕ} → (r ≡ a + lenWidth n) × (o₂ ≡ sets o₁ a (lenBytes (lenWidth n) n)) → StoredAt o 0 (headOf l s p n) r o₂
+      unfolding headOf
+      head-stored e₂ =
+          let z = puts-then o 0 (toPack s p m) len e₁ (puts-sized o₁ a len (length-len (lenWidth n) n) e₂) in
+          rw (e, ← em) z

@@ -9,12 +9,11 @@ use lib.Dec.{eqb}
 use Rattle.format.specs.Answer.{ok, refused}
 use Rattle.format.specs.Coding.{Bytes, lenWidth, lenBytes, oidBytes}
 use Rattle.format.specs.Lists.{flatAll, onHit, askHit}
-use Rattle.format.specs.Table.{Form, pack}
+use Rattle.format.specs.Table.{Form, Level, set, pack}
 use Rattle.format.specs.Packet.{Item, Pack, Entry, plain, series, tagOfItem, packBody, flatItem, flatPack, flatEntry}
 use Rattle.format.specs.Sheet.{tagOfVal, valOf, targetOf, partOf}
 use Rattle.format.specs.Calls.{packWith, seriesWith}
 use Rattle.format.specs.Edit.{Changes, target, isTargets, targetTags, tagsAt, inPack, isSeries, inEntry, editEntries}
-use Rattle.format.proofs.words.Answers.{no-bool}
 use Rattle.format.proofs.words.Flats.{flat-append}
 use Rattle.format.proofs.words.Changes.{map-ask}
 use Rattle.format.proofs.words.Together.{map-keys}
@@ -30,8 +29,11 @@ use Rattle.find.proofs.Sets.{theRest, set-bytes, set-long}
 use Rattle.find.proofs.Placing as Placing
 use Rattle.edit_rules.specs.declared.Cuts.{Cuts}
 use Rattle.edit_rules.specs.Meet.{editedOf}
-use Rattle.edit_rules.specs.Cuts.{bodySize, packsSize, frontOf, withTwo, Spans}
+use Rattle.edit_rules.specs.Cuts.{bodySize, packsSize, toPack, headOf, withTwo, Spans}
 use Rattle.edit_rules.proofs.Levels.{piece, Swapped}
+
+no-pack : {A : Type 0} → _≡_ {A = Level} pack set → A
+no-pack e = absurd (let z : _≡_ {A = ℕ} 0 1 = cc in omega arith)
 
 -- ---- the bytes of what is changed in its place
 
@@ -63,7 +65,7 @@ was-flat : (B O l P K I F G M H R Q L T : List ℕ)
 was-flat B O l P K I F G M H R Q L T = simp append-assoc
 
 now-flat : (B O l P K I F G M H R Q L : List ℕ)
-    → B ++ ((O ++ (l ++ (P ++ ((K ++ (I ++ (F ++ (G ++ (M ++ (H ++ R)))))) ++ Q)))) ++ L) ≡ (B ++ ((O ++ l) ++ (P ++ (K ++ (I ++ F))))) ++ (G ++ (M ++ (H ++ (R ++ (Q ++ L)))))
+    → B ++ ((O ++ (l ++ (P ++ ((K ++ (I ++ (F ++ (G ++ (M ++ (H ++ R)))))) ++ Q)))) ++ L) ≡ ((B ++ ((O ++ l) ++ P)) ++ K) ++ ((I ++ F) ++ (G ++ (M ++ (H ++ (R ++ (Q ++ L))))))
 now-flat B O l P K I F G M H R Q L = simp append-assoc
 
 module _ (f : Form) (s : List ℕ) (b : Bytes s) (k : SetOf f s) {id tag : ℕ} (q : Cuts) (t : TargetPlaced f id tag s (q .place)) where
@@ -110,7 +112,7 @@ module _ (f : Form) (s : List ℕ) (b : Bytes s) (k : SetOf f s) {id tag : ℕ} 
   -- ---- the edited entries
 
   -- i and j are put in the items at the cuts
-  module _ (cs : Changes) {a n m e : ℕ} (i j : List ℕ) (x : Swapped itemsBytes (itemsNow cs (t .items)) a n i m e j) (under : q .set ≡ false)
+  module _ (cs : Changes) {a n m e : ℕ} (i j : List ℕ) (x : Swapped itemsBytes (itemsNow cs (t .items)) a n i m e j)
       (low-at : q .lo .at ≡ q .place .body + (length (oidBytes id) + a)) (low-next : q .lo .next ≡ q .place .body + (length (oidBytes id) + n))
       (high-at : q .hi .at ≡ q .place .body + (length (oidBytes id) + m)) (high-next : q .hi .next ≡ q .place .body + (length (oidBytes id) + e))
     where
@@ -173,8 +175,8 @@ module _ (f : Form) (s : List ℕ) (b : Bytes s) (k : SetOf f s) {id tag : ℕ} 
       after-long =
           simp length-append (omega (arith, t .body-at, t .pack-at, t .packs-at, t .series-at, t .stop-at, entries-long, packs-long, items-long, high-next, x .low-at, x .low-next, x .high-at, x .high-next))
 
-      pub target-edits : editedOf f (target id) cs s ≡ withTwo s q i j
-      unfolding withTwo frontOf seriesFront
+      pub target-edits : editedOf f (target id) cs s ≡ withTwo pack s q i j
+      unfolding withTwo headOf toPack seriesFront
       target-edits =
           let p = q .place in
           let (p₁, d₁) = piece s 0 (p .series) before _ set-was (omega (arith, t .series-at)) in
@@ -188,22 +190,25 @@ module _ (f : Form) (s : List ℕ) (b : Bytes s) (k : SetOf f s) {id tag : ℕ} 
           let (p₉, _) = piece s (q .hi .next) (p .stop) after _ d₈ after-long in
           entries-now
           ∙ now-flat before (oidBytes 101) (lenOf (packsSize p size)) packsBefore (lenOf size) (oidBytes id) (x .front) i (x .mid) j (x .back) packsLater later
-          ∙ rw (under, p₁, p₃, p₅, p₇, p₉)
+          ∙ rw (p₁, p₃, p₅, p₇, p₉)
 
-      pub target-spans : Spans (length s) q
+      pub target-spans : Spans pack (length s) q
       target-spans = record {
-        to-packs = omega (arith, t .packs-at);
-        to-pack = omega (arith, t .pack-at);
-        to-body = omega (arith, t .body-at);
+        around = record {
+          to-packs = omega (arith, t .packs-at);
+          to-pack = omega (arith, t .pack-at);
+          to-body = omega (arith, t .body-at);
+          to-last = omega (arith, t .last-at);
+          to-tail = omega (arith, t .last-at, t .tail-at, t .body-at, t .pack-at, packs-long);
+          to-stop = omega (arith, t .tail-at, t .packs-at, t .series-at, t .stop-at, entries-long);
+          to-end = omega (arith, t .stop-at, set-long f s b k);
+        };
         to-low = omega (arith, low-at);
         low = omega (arith, low-at, low-next, x .low-next);
         to-high = omega (arith, low-next, high-at, x .high-at);
         high = omega (arith, high-at, high-next, x .high-next);
         to-last = omega (arith, high-next, t .last-at, items-long, x .low-at, x .low-next, x .high-at, x .high-next);
-        to-tail = omega (arith, t .last-at, t .tail-at, t .body-at, t .pack-at, packs-long);
-        to-stop = omega (arith, t .tail-at, t .packs-at, t .series-at, t .stop-at, entries-long);
-        to-end = omega (arith, t .stop-at, set-long f s b k);
-        whole = λ e. no-bool (sym under ∙ e);
+        whole = λ e. no-pack e;
       }
 
 -- ---- there is no such target

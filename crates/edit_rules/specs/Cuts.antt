@@ -9,7 +9,6 @@ use Rattle.format.specs.Coding.{lenWidth, lenBytes, oidBytes}
 use Rattle.format.specs.Table.{Level, set, pack}
 use Rattle.format.specs.Packet.{flatItem}
 use Rattle.format.specs.Calls.{itemOf}
-use Rattle.items.specs.Meet.{levelOf}
 use Rattle.store_coded.specs.Fronts.{seriesFront}
 use Rattle.find.specs.declared.Place.{Place}
 use Rattle.edit_rules.specs.declared.Cut.{Cut}
@@ -35,6 +34,19 @@ cutPut c v = itemPut (c .removal) (c .tag) v (c .size)
 abbrev pub cutSize : Cut → ℕ
 cutSize c = itemSize (c .removal) (c .tag) (c .size)
 
+-- nothing is cut, at a; no item has its tag
+abbrev pub noCut : ℕ → Cut
+noCut a = record { at = a; next = a; tag = 0; removal = true; size = 0 }
+
+-- one cut, and nothing after it
+abbrev pub oneCut : Place → Cut → Cuts
+oneCut p c = record { place = p; lo = c; hi = noCut (c .next) }
+
+-- of two values, what belongs to the lower cut: turned, the second
+abbrev pub lowOf : Bool → List ℕ → List ℕ → List ℕ
+lowOf true v w = w
+lowOf false v w = v
+
 -- ---- the set's bytes with two cuts
 
 -- the bytes from a to b
@@ -48,43 +60,48 @@ bodySize k m n = (k .lo .at - k .place .body) + m + (k .hi .at - k .lo .next) + 
 abbrev pub packsSize : Place → ℕ → ℕ
 packsSize p n = (p .pack - p .packs) + (lenWidth n + n) + (p .tail - p .last)
 
--- what stands before `at`: in a target under new lengths of the series and of the pack, of n bytes
-unfoldable pub frontOf : Level → List ℕ → Place → ℕ → ℕ → List ℕ
-frontOf set s p at n = part s 0 at
-frontOf pack s p at n =
-    part s 0 (p .series)
-    ++ (seriesFront (packsSize p n)
-    ++ (part s (p .packs) (p .pack)
-    ++ (lenBytes (lenWidth n) n
-    ++ part s (p .body) at)))
+-- what stands before the length of the pack, with m bytes of packs under a new length of the series
+unfoldable pub toPack : List ℕ → Place → ℕ → List ℕ
+toPack s p m = part s 0 (p .series) ++ (seriesFront m ++ part s (p .packs) (p .pack))
 
-unfoldable pub withTwo : List ℕ → Cuts → List ℕ → List ℕ → List ℕ
-withTwo s k i j =
-    frontOf (levelOf (k .set)) s (k .place) (k .lo .at) (bodySize k (length i) (length j))
+-- what stands before the level's own bytes: before a pack's id that too, and the pack's new length, of n bytes
+unfoldable pub headOf : Level → List ℕ → Place → ℕ → List ℕ
+headOf set s p n = []
+headOf pack s p n = toPack s p (packsSize p n) ++ lenBytes (lenWidth n) n
+
+unfoldable pub withTwo : Level → List ℕ → Cuts → List ℕ → List ℕ → List ℕ
+withTwo l s k i j =
+    headOf l s (k .place) (bodySize k (length i) (length j))
+    ++ (part s (k .place .body) (k .lo .at)
     ++ (i
     ++ (part s (k .lo .next) (k .hi .at)
     ++ (j
-    ++ part s (k .hi .next) (k .place .stop))))
+    ++ part s (k .hi .next) (k .place .stop)))))
 
 -- how many bytes the entries take with a pack of n; the set has no length of its own
 unfoldable pub withSize : Level → Place → ℕ → ℕ
 withSize set p n = n
 withSize pack p n = p .series + 1 + lenWidth (packsSize p n) + packsSize p n + (p .stop - p .tail)
 
--- in order, within n bytes; of the set, from its start to its end
-pub record Spans (n : ℕ) (k : Cuts) : Type 0 where
-  pub to-packs : k .place .series ≤ k .place .packs
-  pub to-pack : k .place .packs ≤ k .place .pack
-  pub to-body : k .place .pack ≤ k .place .body
+-- what stands around a level is in order, within n bytes
+pub record Around (n : ℕ) (p : Place) : Type 0 where
+  pub to-packs : p .series ≤ p .packs
+  pub to-pack : p .packs ≤ p .pack
+  pub to-body : p .pack ≤ p .body
+  pub to-last : p .body ≤ p .last
+  pub to-tail : p .last ≤ p .tail
+  pub to-stop : p .tail ≤ p .stop
+  pub to-end : p .stop ≤ n
+
+-- the cuts in order within it; of the set, from its start to its end
+pub record Spans (l : Level) (n : ℕ) (k : Cuts) : Type 0 where
+  pub around : Around n (k .place)
   pub to-low : k .place .body ≤ k .lo .at
   pub low : k .lo .at ≤ k .lo .next
   pub to-high : k .lo .next ≤ k .hi .at
   pub high : k .hi .at ≤ k .hi .next
   pub to-last : k .hi .next ≤ k .place .last
-  pub to-tail : k .place .last ≤ k .place .tail
-  pub to-stop : k .place .tail ≤ k .place .stop
-  pub to-end : k .place .stop ≤ n
-  pub whole : k .set ≡ true → (k .place .body ≡ 0) × (k .place .last ≡ k .place .stop)
+  pub whole : l ≡ set → (k .place .body ≡ 0) × (k .place .last ≡ k .place .stop)
 
 -- ---- what is written
 
@@ -95,8 +112,8 @@ pub record CutOf (c : Cut) (v : List ℕ) : Type 0 where
   pub none : c .removal ≡ true → c .size ≡ 0
 
 -- cuts in order, which put what they do of v and w
-pub record Cutting (s : List ℕ) (k : Cuts) (v w : List ℕ) : Type 0 where
-  pub spans : Spans (length s) k
+pub record Cutting (l : Level) (s : List ℕ) (k : Cuts) (v w : List ℕ) : Type 0 where
+  pub spans : Spans l (length s) k
   pub low : CutOf (k .lo) v
   pub high : CutOf (k .hi) w
 
@@ -105,19 +122,19 @@ abbrev pub Small : Cut → Type 0
 Small c = (c .tag ≤ 16383) × (c .size ≤ 8192)
 
 -- cuts that put no more than that, in a set that has no more
-pub record Putting (s : List ℕ) (k : Cuts) (v w : List ℕ) : Type 0 where
+pub record Putting (l : Level) (s : List ℕ) (k : Cuts) (v w : List ℕ) : Type 0 where
   pub short : length s ≤ 8192
-  pub spans : Spans (length s) k
+  pub spans : Spans l (length s) k
   pub low-small : Small (k .lo)
   pub low-some : k .lo .size ≤ length v
   pub high-small : Small (k .hi)
   pub high-some : k .hi .size ≤ length w
 
-abbrev pub putSize : Cuts → ℕ
-putSize k = withSize (levelOf (k .set)) (k .place) (bodySize k (cutSize (k .lo)) (cutSize (k .hi)))
+abbrev pub putSize : Level → Cuts → ℕ
+putSize l k = withSize l (k .place) (bodySize k (cutSize (k .lo)) (cutSize (k .hi)))
 
-abbrev pub cutBytes : List ℕ → Cuts → List ℕ → List ℕ → List ℕ
-cutBytes s k v w = withTwo s k (cutPut (k .lo) v) (cutPut (k .hi) w)
+abbrev pub cutBytes : Level → List ℕ → Cuts → List ℕ → List ℕ → List ℕ
+cutBytes l s k v w = withTwo l s k (cutPut (k .lo) v) (cutPut (k .hi) w)
 
 -- xs was stored at a, up to k
 abbrev pub StoredAt : List ℕ → ℕ → List ℕ → ℕ → List ℕ → Type 0

@@ -1,35 +1,33 @@
 -- Where the code that judges an edit meets document 01: what is asked, a change in its turn, what is left of the level, and what is judged.
 use mathlib.Core.Path.{_≡_}
-use Prim.Native.Nat.{ℕ, _<_}
+use Prim.Native.Nat.{ℕ, zero, suc, _<_}
 use mathlib.Core.Bool.{Bool, true, false, not, _||_}
 use mathlib.Core.List.{List, [], _∷_, map}
 use lib.ListN.{length}
 use lib.Dec.{ltb, eqb}
 use Rattle.format.specs.Answer.{Ans, ok, refused, need, _>>=_}
+use Rattle.format.specs.Coding.{Bytes}
 use Rattle.format.specs.Lists.{has, flatAll}
 use Rattle.format.specs.Table.{Form, Level, isAlone, ruleOf, nameable, alike, short}
 use Rattle.format.specs.Packet.{flatItem, flatEntry, closed}
 use Rattle.format.specs.Sheet.{Sheet, partOf}
 use Rattle.format.specs.Calls.{itemOf, packed}
-use Rattle.format.specs.Edit.{Holder, Change, put, remove, Changes, valWith, tagsAt, changeRules, mayFollow, ending, editRules, editEntries}
+use Rattle.format.specs.Edit.{Holder, Change, put, remove, Changes, valWith, tagsAt, changeRules, ending, editRules, editEntries}
+use Rattle.format.specs.Valid.{SheetValid}
 use Rattle.items.specs.Meet.{levelOf, answerOf}
 use Rattle.find.specs.declared.Place.{Place}
-use Rattle.find.specs.Places.{holderOf, keptOf, Placed}
+use Rattle.find.specs.Places.{holderOf, SetOf, keptOf, Placed}
 use Rattle.edit_rules.specs.declared.Change as told
 use Rattle.edit_rules.specs.declared.Asked.{Asked}
 use Rattle.edit_rules.specs.declared.Cut.{Cut}
 use Rattle.edit_rules.specs.declared.Cuts.{Cuts}
 use Rattle.edit_rules.specs.declared.Valued.{Valued}
 use Rattle.edit_rules.specs.declared.Valued.the-variants.{Size, Fault}
-use Rattle.edit_rules.specs.declared.Turn.{Turn}
-use Rattle.edit_rules.specs.declared.Turn.the-variants as code
-use Rattle.find.specs.declared.Found.{Found}
-use Rattle.find.specs.declared.Found.the-variants.{There, Nowhere}
-use Rattle.edit_rules.specs.Turns.{Turned}
-use Rattle.edit_rules.specs.Turns as turn
-use Rattle.edit_rules.specs.declared.Judged.{Judged}
-use Rattle.edit_rules.specs.declared.Judged.the-variants.{Fine, Wrong}
-use Rattle.edit_rules.specs.Cuts.{Cutting, cutBytes}
+use Rattle.edit_rules.specs.declared.one.Judged as One
+use Rattle.edit_rules.specs.declared.one.Judged.the-variants as one
+use Rattle.edit_rules.specs.declared.two.Judged as Two
+use Rattle.edit_rules.specs.declared.two.Judged.the-variants as two
+use Rattle.edit_rules.specs.Cuts.{noCut, oneCut, lowOf, Cutting, cutBytes}
 
 -- ---- what is asked
 
@@ -37,17 +35,15 @@ abbrev pub changeOf : Bool → List ℕ → Change
 changeOf true v = remove
 changeOf false v = put v
 
--- a change with its value
+-- a change with its value; and one, or two, as a list
 abbrev pub oneOf : told.Change → List ℕ → ℕ × Change
 oneOf c v = (c .tag, changeOf (c .removal) v)
 
--- a second, if there is one
-abbrev pub alsoOf : Bool → told.Change → List ℕ → Changes
-alsoOf true c w = oneOf c w ∷ []
-alsoOf false c w = []
+abbrev pub changesOf : Asked → List ℕ → Changes
+changesOf a v = oneOf (a .change) v ∷ []
 
-abbrev pub changesOf : Asked → List ℕ → List ℕ → Changes
-changesOf a v w = oneOf (a .first) v ∷ alsoOf (a .two) (a .second) w
+abbrev pub twoOf : told.Change → told.Change → List ℕ → List ℕ → Changes
+twoOf c d v w = oneOf c v ∷ oneOf d w ∷ []
 
 abbrev pub askedHolder : Asked → Holder
 askedHolder a = holderOf (a .set) (a .id)
@@ -83,12 +79,17 @@ abbrev pub ValuedAs : Form → Level → ℕ → List ℕ → Valued → Type 0
 ValuedAs f l tag v (Size m) = ((tags : List ℕ) → ok tt ≡ changeRules f l tag tags (put v)) × (m ≡ shortOf l tag (put v))
 ValuedAs f l tag v (Fault n) = (tags : List ℕ) → refused n 0 ≡ changeRules f l tag tags (put v)
 
--- the cut of a change at its place; and none
+-- the rules on a change, where its level has the tag or not
+abbrev pub RuledAs : Form → Level → told.Change → List ℕ → Bool → Ans (Unit {0}) → Type 0
+RuledAs f l c v stands r = (tags : List ℕ) → has (c .tag) tags ≡ stands → r ≡ changeRules f l (c .tag) tags (changeOf (c .removal) v)
+
+abbrev pub TurnedAs : Form → Level → told.Change → List ℕ → Bool → Valued → Type 0
+TurnedAs f l c v stands (Size m) = RuledAs f l c v stands (ok tt) × (m ≡ shortOf l (c .tag) (changeOf (c .removal) v))
+TurnedAs f l c v stands (Fault n) = RuledAs f l c v stands (refused n 0)
+
+-- the cut of a change at its place
 abbrev pub cutOf : told.Change → Place → ℕ → Cut
 cutOf c p m = record { at = p .at; next = p .next; tag = c .tag; removal = c .removal; size = m }
-
-abbrev pub noCut : ℕ → Cut
-noCut a = record { at = a; next = a; tag = 0; removal = true; size = 0 }
 
 -- the rules of a change to a level that has these tags, but for what stood before it
 unfoldable pub turnRules : Form → Level → ℕ → Change → Ans (List ℕ) → Ans (Unit {0})
@@ -97,43 +98,19 @@ turnRules f l tag c at = do
   tags ← at
   changeRules f l tag tags c
 
--- a change that may be made, at its place, to the level as the packet has it
-pub record TurnAt (f : Form) (b : Bool) (id : ℕ) (c : told.Change) (v s : List ℕ) (p : Place) (x : Cut) : Type 0 where
+-- a change that may be made, at its place, to the level as the packet has it; m bytes are put
+pub record TurnAt (f : Form) (b : Bool) (id : ℕ) (c : told.Change) (v s : List ℕ) (p : Place) (m : ℕ) : Type 0 where
   pub placed : Placed f (holderOf b id) (c .tag) s p
   pub tags : List ℕ
   pub tags-are : tagsAt (holderOf b id) (map partOf (keptOf f s)) ≡ ok tags
   pub stands : has (c .tag) tags ≡ ltb (p .at) (p .next)
   pub named : nameable (levelOf b) (c .tag) ≡ true
   pub ruled : changeRules f (levelOf b) (c .tag) tags (changeOf (c .removal) v) ≡ ok tt
-  pub cut-is : x ≡ cutOf c p (shortOf (levelOf b) (c .tag) (changeOf (c .removal) v))
+  pub size-is : m ≡ shortOf (levelOf b) (c .tag) (changeOf (c .removal) v)
 
-abbrev pub TurnAs : Form → Bool → ℕ → told.Change → List ℕ → List ℕ → Turned → Type 0
-TurnAs f b id c v s (turn.Fine p x) = TurnAt f b id c v s p x
-TurnAs f b id c v s (turn.Wrong n) = turnRules f (levelOf b) (c .tag) (changeOf (c .removal) v) (tagsAt (holderOf b id) (map partOf (keptOf f s))) ≡ refused n 0
-
--- one that was found so, and put in so many bytes or refused
-abbrev pub sizedTurn : told.Change → Valued → Found → Turned
-sizedTurn c (Size m) (There p) = turn.Fine p (cutOf c p m)
-sizedTurn c (Size m) Nowhere = turn.Wrong 18
-sizedTurn c (Fault n) g = turn.Wrong n
-
--- its cut alone
-abbrev pub cutAlone : Turned → Turn
-cutAlone (turn.Fine p x) = code.Fine x
-cutAlone (turn.Wrong n) = code.Wrong n
-
--- the second, if there is one, and it may follow
-abbrev pub SecondIf : Form → Asked → List ℕ → List ℕ → Place → Turned → Bool → Bool → Type 0
-SecondIf f a w s p t false m = t ≡ turn.Fine p (noCut (p .next))
-SecondIf f a w s p t true false = t ≡ turn.Wrong 19
-SecondIf f a w s p t true true = TurnAs f (a .set) (a .id) (a .second) w s t
-
-abbrev pub SecondAs : Form → Asked → List ℕ → List ℕ → Place → Turned → Type 0
-SecondAs f a w s p t = SecondIf f a w s p t (a .two) (mayFollow (askedHolder a) (a .first .tag ∷ []) (a .second .tag))
-
--- its cut alone
-abbrev pub SecondCut : Form → Asked → List ℕ → List ℕ → Place → Turn → Type 0
-SecondCut f a w s p r = (t : Turned) × (r ≡ cutAlone t) × SecondAs f a w s p t
+-- and one that may not
+abbrev pub TurnStops : Form → Bool → ℕ → told.Change → List ℕ → List ℕ → ℕ → Type 0
+TurnStops f b id c v s n = turnRules f (levelOf b) (c .tag) (changeOf (c .removal) v) (tagsAt (holderOf b id) (map partOf (keptOf f s))) ≡ refused n 0
 
 -- ---- what is left of the level
 
@@ -162,36 +139,50 @@ EndsAs f l a b n =
 
 -- ---- what is judged
 
-abbrev pub cutsOf : Bool → Place → Cut → Cut → Cuts
-cutsOf b p x y = record { set = b; place = p; lo = x; hi = y }
+-- the rules refuse an edit, by this number; or they let it through at these cuts, which put what they do of v and w: the edited entries are
+-- the set's bytes with that
+abbrev pub Stops : Form → Holder → Changes → List ℕ → ℕ → Type 0
+Stops f h cs s n = editRules h cs (sheetOf f s) ≡ refused n 0
+
+pub record Passes (f : Form) (b : Bool) (id : ℕ) (cs : Changes) (s : List ℕ) (k : Cuts) (v w : List ℕ) : Type 0 where
+  pub passed : editRules (holderOf b id) cs (sheetOf f s) ≡ ok tt
+  pub cutting : Cutting (levelOf b) s k v w
+  pub edited : editedOf f (holderOf b id) cs s ≡ cutBytes (levelOf b) s k v w
+
+-- ---- one change
+
+abbrev pub OneAs : Form → Asked → List ℕ → List ℕ → One.Judged → Type 0
+OneAs f a v s (one.Fine p m) = Passes f (a .set) (a .id) (changesOf a v) s (oneCut p (cutOf (a .change) p m)) v v
+OneAs f a v s (one.Wrong n) = Stops f (askedHolder a) (changesOf a v) s n
+
+-- with n for what it leaves
+abbrev pub endedOne : ℕ → Place → ℕ → One.Judged
+endedOne zero p m = one.Fine p m
+endedOne (suc n) p m = one.Wrong (suc n)
+
+abbrev pub LeftAs : Form → Asked → Place → ℕ → One.Judged → Type 0
+LeftAs f a p m r = (n : ℕ) × EndsAs f (levelOf (a .set)) (cutOf (a .change) p m) (noCut (p .next)) n × (r ≡ endedOne n p m)
+
+-- ---- two changes of a target
+
+abbrev pub TwoAs : Form → ℕ → told.Change → told.Change → List ℕ → List ℕ → List ℕ → Two.Judged → Type 0
+TwoAs f id c d v w s (two.Fine k t) = Passes f false id (twoOf c d v w) s k (lowOf t v w) (lowOf t w v)
+TwoAs f id c d v w s (two.Wrong n) = Stops f (holderOf false id) (twoOf c d v w) s n
+
+abbrev pub cutsOf : Place → Cut → Cut → Cuts
+cutsOf p x y = record { place = p; lo = x; hi = y }
 
 -- the lower first; as they were asked, where they stand at the same end
-abbrev pub inOrder : Bool → Place → Cut → Cut → Judged
-inOrder b p x y = elim (ltb (y .at) (x .at)) [ true ↦ Fine (cutsOf b p y x) true | false ↦ Fine (cutsOf b p x y) false ]
+abbrev pub inOrder : Place → Cut → Cut → Two.Judged
+inOrder p x y = elim (ltb (y .at) (x .at)) [ true ↦ two.Fine (cutsOf p y x) true | false ↦ two.Fine (cutsOf p x y) false ]
 
--- of the first and the second, what belongs to the lower cut
-abbrev pub lowOf : Bool → List ℕ → List ℕ → List ℕ
-lowOf true v w = w
-lowOf false v w = v
+-- after a first change of m bytes, which may be made, where the second has its place
+abbrev pub RestAs : Form → told.Change → told.Change → List ℕ → Place → Place → ℕ → Two.Judged → Type 0
+RestAs f c d w p q m r =
+    (id : ℕ) (v s : List ℕ) → Bytes s → SetOf f s → SheetValid (sheetOf f s)
+    → TurnAt f false id c v s p m → Placed f (holderOf false id) (d .tag) s q
+    → TwoAs f id c d v w s r
 
-abbrev pub verdictOf : Judged → Ans (Unit {0})
-verdictOf (Fine k t) = ok tt
-verdictOf (Wrong n) = refused n 0
-
--- an edit at its cuts, which put what they do of v and w: the edited entries are the set's bytes with that
-pub record CutAt (f : Form) (h : Holder) (cs : Changes) (s : List ℕ) (k : Cuts) (v w : List ℕ) : Type 0 where
-  pub cutting : Cutting s k v w
-  pub edited : editedOf f h cs s ≡ cutBytes s k v w
-
-abbrev pub CutIf : Form → Holder → Changes → List ℕ → List ℕ → List ℕ → Judged → Type 0
-CutIf f h cs s v w (Fine k t) = CutAt f h cs s k (lowOf t v w) (lowOf t w v)
-CutIf f h cs s v w (Wrong n) = Unit {0}
-
--- the answer of the rules; and where they let the edit through, its cuts
-pub record JudgedAs (f : Form) (a : Asked) (v w s : List ℕ) (r : Judged) : Type 0 where
-  pub verdict : verdictOf r ≡ editRules (askedHolder a) (changesOf a v w) (sheetOf f s)
-  pub placed : CutIf f (askedHolder a) (changesOf a v w) s v w r
-
--- after a first change that may be made
-abbrev pub RestAs : Form → Asked → List ℕ → List ℕ → Place → Cut → Judged → Type 0
-RestAs f a w s p x r = (v : List ℕ) → TurnAt f (a .set) (a .id) (a .first) v s p x → JudgedAs f a v w s r
+-- of the set two changes are refused, whatever the second is
+abbrev pub SetStops : Form → told.Change → List ℕ → List ℕ → ℕ → Type 0
+SetStops f c v s n = (id : ℕ) (d : told.Change) (w : List ℕ) → Stops f (holderOf true id) (twoOf c d v w) s n

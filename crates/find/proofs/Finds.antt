@@ -17,12 +17,12 @@ use Rattle.find.specs.declared.Place.{Place}
 use Rattle.find.specs.declared.Found.{Found}
 use Rattle.find.specs.declared.Found.the-variants.{There}
 use Rattle.find.specs.Spots.{noSpot, Missed, Hit, thingsOf, hasId, entriesOf, packsOf, itemLead, entryLead, entrySpot, packSpot}
-use Rattle.find.specs.Places.{holderOf, SetOf, keptOf, placeIn, SetPlaced, TargetPlaced, packsIn, FoundIs}
+use Rattle.find.specs.Places.{holderOf, sealSize, SetOf, keptOf, placeIn, SetPlaced, Sums, placeUnder, TargetPlaced, packsIn, FoundIs}
 use Rattle.find.proofs.Splices.{hit-spot, narrowed, absent-too}
 use Rattle.find.proofs.Seeks.{ran-ok, inside, inside-long, inside-bytes}
 use Rattle.find.proofs.Entries.{items-flat, items-spot, tag-within, TagFound, tag-hit, tag-at, tag-from, tag-room, tag-series, series-hit, no-series}
 use Rattle.find.proofs.Packs.{packs-flat, id-absent, IdFound, id-hit, id-at, id-pack}
-use Rattle.find.proofs.Sets.{rest-of, theRest, rest-plain}
+use Rattle.find.proofs.Sets.{rest-of, theRest, seal-room, set-stop, rest-plain}
 
 -- ---- an item of the set
 
@@ -49,112 +49,115 @@ packs-past (series v qs ∷ es) later w ps m = no-bool (sym (m .0))
 
 -- ---- an item of a target
 
--- the code's sums: a is the spot of the series, c that of the pack in it, d that of the item in that
-pub record Sums (a c d : Spot) : Type 0 where
-  pub pack : a .from + c .at ≤ 8192
-  pub body : a .from + c .body ≤ 8192
-  pub items : a .from + c .from ≤ 8192
-  pub at : a .from + c .from + d .at ≤ 8192
-  pub from : a .from + c .from + d .from ≤ 8192
-  pub next : a .from + c .from + d .next ≤ 8192
-  pub last : a .from + c .next ≤ 8192
+-- in a set that was checked the series stands at a
+pub record SeriesFound (f : Form) (s : List ℕ) (a : Spot) : Type 0 where
+  pub checked : SetOf f s
+  pub found : TagFound set f 101 s a
 
-module _ (f : Form) (s : List ℕ) (b : Bytes s) (k : SetOf f s) where
-  pub none-series : (id : ℕ) {a : Spot} → a ≡ entrySpot set f 101 s → a .next ≤ a .at → Missed (hasId id) (packsIn (keptOf f s))
-  none-series id e h =
-      rw (packs-none (keptOf f s) (absent-too isSeries (keptOf f s) (theRest f s b k) (rest-of f s k .is) (no-series f s e h))) tt
+-- and the pack stands at c in its packs
+pub record PackFound (f : Form) (id : ℕ) (s : List ℕ) (a c : Spot) : Type 0 where
+  pub within : SeriesFound f s a
+  pub found : IdFound f id (inside s a) c
 
-  -- the series stands at a
-  module _ {a : Spot} (i : TagFound set f 101 s a) where
-    packs-long : length (inside s a) ≡ a .next - a .from
-    packs-long = inside-long s a (tag-room i)
+-- e, here and below, is what the search ensures that gave a, c or d
+module _ {f : Form} {s : List ℕ} (b : Bytes s) (k : SetOf f s) {a : Spot} (e : Ran (levelRun set f s) → a ≡ entrySpot set f 101 s) where
+  pub none-series : (id : ℕ) → a .next ≤ a .at → Missed (hasId id) (packsIn (keptOf f s))
+  none-series id h =
+      rw (packs-none (keptOf f s) (absent-too isSeries (keptOf f s) (theRest f s b k) (rest-of f s k .is) (no-series f s (e (k .ran)) h))) tt
 
-    pub packs-asked : (length (inside s a) ≤ 8192) × Ran (seriesRun f (inside s a))
-    packs-asked = (omega (arith, packs-long, tag-room i, k .short), ran-ok (seriesRun f (inside s a)) (tag-series i refl .3))
+  pub series-found : (a .at ≡ a .next → ⊥) → SeriesFound f s a
+  series-found n = record { checked = k; found = record { bytes = b; ran = k .ran; spot-is = e (k .ran); some = n } }
 
-    kept-hit : (q : Hit isSeries (keptOf f s)) × (q .it ≡ tag-hit i .it) × (a .at ≡ length (flatAll flatEntry (q .before)))
-    kept-hit =
-        let (q, e, z) = narrowed isSeries (keptOf f s) (theRest f s b k) (rest-of f s k .is) (rest-plain f s b k) flatEntry entryLead entryLead (series-hit i) in
-        (q, e, tag-at i ∙ ap (λ x. x .at) (sym (hit-spot isSeries flatEntry entryLead entryLead (series-hit i)) ∙ sym z ∙ hit-spot isSeries flatEntry entryLead entryLead q))
+module _ {f : Form} {s : List ℕ} {a : Spot} (w : SeriesFound f s a) where
+  pub stop-asked : sealSize f ≤ length s
+  stop-asked = seal-room f s (w .found .bytes) (w .checked)
 
-    kept-series : kept-hit .0 .it ≡ series (tag-series i refl .0) (packsOf f (inside s a))
-    kept-series = kept-hit .1 ∙ tag-series i refl .2 ∙ ap (series (tag-series i refl .0)) (sym (ap thingsOf (tag-series i refl .3)))
+  packs-long : length (inside s a) ≡ a .next - a .from
+  packs-long = inside-long s a (tag-room (w .found))
 
-    pub none-pack : (id : ℕ) {c : Spot} → c ≡ packSpot f id (inside s a) → c .next ≤ c .at → Missed (hasId id) (packsIn (keptOf f s))
-    none-pack id e h =
+  pub packs-asked : (length (inside s a) ≤ 8192) × Ran (seriesRun f (inside s a))
+  packs-asked = (omega (arith, packs-long, tag-room (w .found), w .checked .short), ran-ok (seriesRun f (inside s a)) (tag-series (w .found) refl .3))
+
+  kept-hit : (q : Hit isSeries (keptOf f s)) × (q .it ≡ tag-hit (w .found) .it) × (a .at ≡ length (flatAll flatEntry (q .before)))
+  kept-hit =
+      let i = w .found in
+      let b = i .bytes in
+      let k = w .checked in
+      let (q, e, z) = narrowed isSeries (keptOf f s) (theRest f s b k) (rest-of f s k .is) (rest-plain f s b k) flatEntry entryLead entryLead (series-hit i) in
+      (q, e, tag-at i ∙ ap (λ x. x .at) (sym (hit-spot isSeries flatEntry entryLead entryLead (series-hit i)) ∙ sym z ∙ hit-spot isSeries flatEntry entryLead entryLead q))
+
+  kept-series : kept-hit .0 .it ≡ series (tag-series (w .found) refl .0) (packsOf f (inside s a))
+  kept-series = let (n, ps, e, r) = tag-series (w .found) refl in kept-hit .1 ∙ e ∙ ap (series n) (sym (ap thingsOf r))
+
+  module _ (id : ℕ) {c : Spot} (e : Ran (seriesRun f (inside s a)) → c ≡ packSpot f id (inside s a)) where
+    pub none-pack : c .next ≤ c .at → Missed (hasId id) (packsIn (keptOf f s))
+    none-pack h =
         let q = kept-hit .0 in
         let z : packsIn (keptOf f s) ≡ packsOf f (inside s a)
         = ap packsIn (q .list-is ∙ ap (λ y. q .before ++ y ∷ q .later) kept-series) ∙ packs-past (q .before) (q .later) _ _ (q .missed) in
-        subst (Missed (hasId id)) (sym z) (id-absent f id (inside s a) e h)
+        subst (Missed (hasId id)) (sym z) (id-absent f id (inside s a) (e (packs-asked .1)) h)
 
-    -- the pack stands at c in the packs
-    pub pack-found : {id : ℕ} {c : Spot} → c ≡ packSpot f id (inside s a) → (c .at ≡ c .next → ⊥) → IdFound f id (inside s a) c
-    pack-found e n = record { bytes = inside-bytes s a (i .bytes); ran = packs-asked .1; spot-is = e; some = n }
+    pub pack-found : (c .at ≡ c .next → ⊥) → PackFound f id s a c
+    pack-found n = let r = packs-asked .1 in record { within = w; found = record { bytes = inside-bytes s a (w .found .bytes); ran = r; spot-is = e r; some = n } }
 
-    module _ {id : ℕ} {c : Spot} (j : IdFound f id (inside s a) c) where
-      items-long : length (inside (inside s a) c) ≡ c .next - c .from
-      items-long = inside-long (inside s a) c (id-pack j .room)
+module _ {f : Form} {id : ℕ} {s : List ℕ} {a c : Spot} (w : PackFound f id s a c) where
+  items-long : length (inside (inside s a) c) ≡ c .next - c .from
+  items-long = inside-long (inside s a) c (id-pack (w .found) .room)
 
-      items-bytes : Bytes (inside (inside s a) c)
-      items-bytes = inside-bytes (inside s a) c (j .bytes)
+  items-bytes : Bytes (inside (inside s a) c)
+  items-bytes = inside-bytes (inside s a) c (w .found .bytes)
 
-      pub items-asked : (length (inside (inside s a) c) ≤ 8192) × Ran (levelRun pack f (inside (inside s a) c))
-      items-asked = (omega (arith, items-long, id-pack j .room, packs-asked .0), ran-ok (levelRun pack f (inside (inside s a) c)) (id-pack j .runs))
+  pub items-asked : (length (inside (inside s a) c) ≤ 8192) × Ran (levelRun pack f (inside (inside s a) c))
+  items-asked = let j = id-pack (w .found) in (omega (arith, items-long, j .room, packs-asked (w .within) .0), ran-ok (levelRun pack f (inside (inside s a) c)) (j .runs))
 
-      -- the item stands at d in the pack
-      module _ (tag : ℕ) {d : Spot} (ed : d ≡ entrySpot pack f tag (inside (inside s a) c)) where
-        pub sums : Sums a c d
-        sums =
-            let (p, q, r) = tag-within pack f tag (inside (inside s a) c) ed items-bytes (items-asked .1) in
-            let e : a .from + c .next ≤ 8192 = omega (arith, id-pack j .room, packs-long, tag-room i, k .short) in
-            let m : a .from + c .from ≤ 8192 = omega (arith, e, id-pack j .room) in
-            let n : a .from + c .from + d .next ≤ 8192 = omega (arith, e, r, items-long, id-pack j .room) in
-            record {
-              pack = omega (arith, m, id-pack j .body-at, id-pack j .from-at);
-              body = omega (arith, m, id-pack j .from-at);
-              items = m;
-              at = omega (arith, n, p);
-              from = omega (arith, n, q);
-              next = n;
-              last = e;
-            }
+  -- the item stands at d in the pack
+  module _ (tag : ℕ) {d : Spot} (e : Ran (levelRun pack f (inside (inside s a) c)) → d ≡ entrySpot pack f tag (inside (inside s a) c)) where
+    pub sums : Sums a c d
+    sums =
+        let i = w .within in
+        let j = id-pack (w .found) in
+        let (p, q, r) = tag-within pack f tag (inside (inside s a) c) (e (items-asked .1)) items-bytes (items-asked .1) in
+        let l : a .from + c .next ≤ 8192 = omega (arith, j .room, packs-long i, tag-room (i .found), i .checked .short) in
+        let m : a .from + c .from ≤ 8192 = omega (arith, l, j .room) in
+        let n : a .from + c .from + d .next ≤ 8192 = omega (arith, l, r, items-long, j .room) in
+        record {
+          pack = omega (arith, m, j .body-at, j .from-at);
+          body = omega (arith, m, j .from-at);
+          items = m;
+          at = omega (arith, n, p);
+          from = omega (arith, n, q);
+          next = n;
+          last = l;
+        }
 
-        pub in-place : {stop : ℕ} → stop ≡ length (flatAll flatEntry (keptOf f s)) → TargetPlaced f id tag s (record {
-          series = a .at;
-          packs = a .from;
-          pack = a .from + c .at;
-          body = a .from + c .body;
-          at = a .from + c .from + d .at;
-          from = a .from + c .from + d .from;
-          next = a .from + c .from + d .next;
-          last = a .from + c .next;
-          tail = a .next;
-          stop = stop;
+    pub in-place : {stop : ℕ} → stop ≡ length s - sealSize f → {p : Place} → p ≡ placeUnder a c d stop → TargetPlaced f id tag s p
+    in-place es ep =
+        let i = w .within .found in
+        let j = w .found in
+        let q = id-pack j in
+        let u : List ℕ = inside (inside s a) c in
+        let sp = e (items-asked .1) ∙ items-spot f u (q .items) (q .runs) (q .entries-are) tag in
+        rw ep
+        (record {
+          hit = kept-hit (w .within) .0;
+          width = tag-series i refl .0;
+          ps = packsOf f (inside s a);
+          it-is = kept-series (w .within);
+          pack-hit = id-hit j;
+          pack-width = q .width;
+          items = q .items;
+          pack-is = q .it-is;
+          series-at = kept-hit (w .within) .2;
+          packs-at = omega (arith, tag-from i, ap entryLead (tag-series i refl .2));
+          pack-at = omega (arith, id-at j);
+          body-at = omega (arith, q .body-at);
+          item-at = omega (arith, q .from-at, ap (λ x. x .at) sp);
+          value-at = omega (arith, q .from-at, ap (λ x. x .from) sp);
+          next-at = omega (arith, q .from-at, ap (λ x. x .next) sp);
+          last-at = omega (arith, q .from-at, q .room, items-long, ap length (items-flat f u (q .items) (q .runs) (q .entries-are) items-bytes));
+          tail-at = omega (arith, packs-long (w .within), tag-room i, ap length (packs-flat f (inside s a) (j .bytes) (j .ran)));
+          stop-at = set-stop f s (i .bytes) (w .within .checked) es;
         })
-        in-place es =
-            let q = id-pack j in
-            let u : List ℕ = inside (inside s a) c in
-            let sp = ed ∙ items-spot f u (q .items) (q .runs) (q .entries-are) tag in
-            record {
-              hit = kept-hit .0;
-              width = tag-series i refl .0;
-              ps = packsOf f (inside s a);
-              it-is = kept-series;
-              pack-hit = id-hit j;
-              pack-width = q .width;
-              items = q .items;
-              pack-is = q .it-is;
-              series-at = kept-hit .2;
-              packs-at = omega (arith, tag-from i, ap entryLead (tag-series i refl .2));
-              pack-at = omega (arith, id-at j);
-              body-at = omega (arith, q .body-at);
-              item-at = omega (arith, q .from-at, ap (λ x. x .at) sp);
-              value-at = omega (arith, q .from-at, ap (λ x. x .from) sp);
-              next-at = omega (arith, q .from-at, ap (λ x. x .next) sp);
-              last-at = omega (arith, q .from-at, q .room, items-long, ap length (items-flat f u (q .items) (q .runs) (q .entries-are) items-bytes));
-              tail-at = omega (arith, packs-long, tag-room i, ap length (packs-flat f (inside s a) (inside-bytes s a (i .bytes)) (packs-asked .1)));
-              stop-at = es;
-            }
 
 -- ---- by what holds the item
 

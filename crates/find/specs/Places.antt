@@ -16,6 +16,8 @@ use Rattle.find.specs.declared.Spot.{Spot}
 use Rattle.find.specs.declared.Place.{Place}
 use Rattle.find.specs.declared.Found.{Found}
 use Rattle.find.specs.declared.Found.the-variants.{There, Nowhere}
+use Rattle.find.specs.declared.Both.{Both}
+use Rattle.find.specs.declared.Both.the-variants as both
 use Rattle.find.specs.Spots.{noSpot, Missed, Hit, entriesOf, hasId, itemSpot, entrySpot}
 
 abbrev pub holderOf : Bool → ℕ → Holder
@@ -57,6 +59,31 @@ pub record SetPlaced (f : Form) (tag : ℕ) (s : List ℕ) (p : Place) : Type 0 
   pub added : entrySpot set f tag s .next ≤ entrySpot set f tag s .at → p ≡ placeIn (noSpot stop) stop
 
 -- ---- an item of a target
+
+-- the code's sums: a is the spot of the series, c that of the pack in it, d that of the item in that
+pub record Sums (a c d : Spot) : Type 0 where
+  pub pack : a .from + c .at ≤ 8192
+  pub body : a .from + c .body ≤ 8192
+  pub items : a .from + c .from ≤ 8192
+  pub at : a .from + c .from + d .at ≤ 8192
+  pub from : a .from + c .from + d .from ≤ 8192
+  pub next : a .from + c .from + d .next ≤ 8192
+  pub last : a .from + c .next ≤ 8192
+
+-- the place that they make, in entries that end at `stop`
+abbrev pub placeUnder : Spot → Spot → Spot → ℕ → Place
+placeUnder a c d stop = record {
+  series = a .at;
+  packs = a .from;
+  pack = a .from + c .at;
+  body = a .from + c .body;
+  at = a .from + c .from + d .at;
+  from = a .from + c .from + d .from;
+  next = a .from + c .from + d .next;
+  last = a .from + c .next;
+  tail = a .next;
+  stop = stop;
+}
 
 -- the series, the pack with the id, and the item in it, each within the other
 pub record TargetPlaced (f : Form) (id tag : ℕ) (s : List ℕ) (p : Place) : Type 0 where
@@ -100,6 +127,11 @@ Unheld f (target id) s = Missed (hasId id) (packsIn (keptOf f s))
 abbrev pub FoundIs : Form → Holder → ℕ → List ℕ → Found → Type 0
 FoundIs f h tag s (There p) = Placed f h tag s p
 FoundIs f h tag s Nowhere = Unheld f h s
+
+-- of two items of one target
+abbrev pub BothAre : Form → ℕ → ℕ → ℕ → List ℕ → Both → Type 0
+BothAre f id tag other s (both.There p q) = TargetPlaced f id tag s p × TargetPlaced f id other s q
+BothAre f id tag other s both.Nowhere = Unheld f (target id) s
 
 -- ---- the numbers of a place
 

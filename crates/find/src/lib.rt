@@ -7,7 +7,7 @@ ghost use Rattle.format.specs.Edit.{target};
 ghost use Rattle.items.specs.Meet.{formOf, levelOf};
 ghost use Rattle.tally.specs.Runs.{Ran, levelRun, seriesRun};
 ghost use Rattle.find.specs.Spots.{noSpot, entrySpot, packSpot};
-ghost use Rattle.find.specs.Places.{holderOf, sealSize, SetOf, placeIn, SetPlaced, FoundIs};
+ghost use Rattle.find.specs.Places.{holderOf, sealSize, SetOf, placeIn, SetPlaced, FoundIs, Sums, placeUnder, BothAre};
 use heads::Head;
 
 // Where something stands: where it begins, where what its length counts begins (an item's value, a pack's id), where its value or
@@ -120,6 +120,12 @@ pub enum Found {
     Nowhere,
 }
 
+// The places of two items of one target; or that there is no such target.
+pub enum Both {
+    There { first: Place, second: Place },
+    Nowhere,
+}
+
 // Where the entries end: before the checksum.
 fn stop_of(s: &[u8], alone: bool) -> usize
     requires { ⌜ sealSize (formOf alone) ≤ length (now s) ⌝ }
@@ -162,7 +168,27 @@ fn set_place(s: &[u8], alone: bool, tag: u64) -> Place
     place_in(no_spot(stop), stop)
 }
 
-// An item of a target: the series, its pack with the id, and the item in that.
+// An item of a target: c is its spot in the pack, b the pack's in the series, a the series' in the set, each counted from where what holds it begins.
+fn place_under(a: Spot, b: Spot, c: Spot, stop: usize) -> Place
+    requires { ⌜ Sums a b c ⌝ }
+    ensures { λ r. ⌜ r ≡ placeUnder a b c stop ⌝ }
+{
+    let base = a.from + b.from;
+    Place {
+        series: a.at,
+        packs: a.from,
+        pack: a.from + b.at,
+        body: a.from + b.body,
+        at: base + c.at,
+        from: base + c.from,
+        next: base + c.next,
+        last: a.from + b.next,
+        tail: a.next,
+        stop,
+    }
+}
+
+// The series, its pack with the id, and the item in that.
 fn target_place(s: &[u8], alone: bool, id: u64, tag: u64) -> Found
     requires { ⌜ SetOf (formOf alone) (now s) ⌝ }
     ensures { λ r. ⌜ FoundIs (formOf alone) (target id) tag (now (s .entry)) r ⌝ }
@@ -181,20 +207,35 @@ fn target_place(s: &[u8], alone: bool, id: u64, tag: u64) -> Found
     let items = b.from;
     let end = b.next;
     let c = item_spot(&inner[items..end], false, tag);
-    let base = packs + items;
     let stop = stop_of(s, alone);
-    Found::There(Place {
-        series: a.at,
-        packs,
-        pack: packs + b.at,
-        body: packs + b.body,
-        at: base + c.at,
-        from: base + c.from,
-        next: base + c.next,
-        last: packs + end,
-        tail,
-        stop,
-    })
+    Found::There(place_under(a, b, c, stop))
+}
+
+// The same for two items of one target, as a walk of its own: so that each way is compiled into its caller.
+pub fn places_of(s: &[u8], alone: bool, id: u64, tag: u64, other: u64) -> Both
+    requires { ⌜ SetOf (formOf alone) (now s) ⌝ }
+    ensures { λ r. ⌜ BothAre (formOf alone) id tag other (now (s .entry)) r ⌝ }
+{
+    let a = item_spot(s, true, 101);
+    if a.at == a.next {
+        return Both::Nowhere;
+    }
+    let packs = a.from;
+    let tail = a.next;
+    let inner = &s[packs..tail];
+    let b = pack_spot(inner, id);
+    if b.at == b.next {
+        return Both::Nowhere;
+    }
+    let items = b.from;
+    let end = b.next;
+    let c = item_spot(&inner[items..end], false, tag);
+    let d = item_spot(&inner[items..end], false, other);
+    let stop = stop_of(s, alone);
+    Both::There {
+        first: place_under(a, b, c, stop),
+        second: place_under(a, b, d, stop),
+    }
 }
 
 // The place of an item; or that there is no such target.

@@ -1,7 +1,7 @@
 -- Where the calls as C makes them meet document 01: what numbers name.
 use mathlib.Core.Path.{_≡_}
 use Prim.Native.Nat.{ℕ}
-use mathlib.Core.Bool.{Bool, not}
+use mathlib.Core.Bool.{not}
 use mathlib.Core.List.{List}
 use lib.Dec.{eqb}
 use Rattle.format.specs.Answer.{Ans}
@@ -33,5 +33,5 @@ changeNamed removal v = changeOf (not (eqb removal 0)) v
 abbrev pub changeTold : ℕ → ℕ → told.Change
 changeTold tag removal = record { tag = tag; removal = not (eqb removal 0) }
 
-abbrev pub askedBy : ℕ → ℕ → told.Change → Bool → told.Change → Asked
-askedBy level id first two second = record { set = eqb level 0; id = id; first = first; two = two; second = second }
+abbrev pub askedBy : ℕ → ℕ → told.Change → Asked
+askedBy level id c = record { set = eqb level 0; id = id; change = c }

@@ -7,6 +7,7 @@ ghost use Rattle.format.specs.Edit as Edit;
 ghost use Rattle.vmti.specs.Meet.{Returns, formNamed, holderNamed, changeNamed, changeTold, askedBy};
 use answers::Answer;
 use edit::edit;
+use edit::two::edit_two;
 use edit_rules::Asked;
 use edit_rules::Change;
 use normalise::normalise;
@@ -54,19 +55,16 @@ fn change(tag: u64, removal: u64) -> Change
 }
 
 // Level 0 is the set, any other number the target named.
-fn asked(level: u64, target: u64, first: Change, two: bool, second: Change) -> Asked
-    ensures { λ r. ⌜ r ≡ askedBy level target first two second ⌝ }
+fn asked(level: u64, target: u64, c: Change) -> Asked
+    ensures { λ r. ⌜ r ≡ askedBy level target c ⌝ }
 {
     Asked {
         set: level == 0,
         id: target,
-        first,
-        two,
-        second,
+        change: c,
     }
 }
 
-// One change: there is no second, whatever stands for it.
 #[no_mangle]
 pub extern "C" fn vmti_edit(
     form: u64,
@@ -82,24 +80,23 @@ pub extern "C" fn vmti_edit(
         (Edit.edit (formNamed form) (holderNamed level target) ((tag, changeNamed removal (now (value .entry))) ∷ []) (now (packet .entry)))
         r (now (out .exit)) ⌝ }
 {
-    let c = change(tag, removal);
-    let a = asked(level, target, c, false, c);
-    one_number(edit(packet, form != 0, a, value, value, out))
+    let a = asked(level, target, change(tag, removal));
+    one_number(edit(packet, form != 0, a, value, out))
 }
 
 // The same with a second change to the target named: first the one, then the other, judged as one.
 #[no_mangle]
-pub extern "C" fn vmti_edit_two(
+pub extern "C" fn vmti_edit_two<'a>(
     form: u64,
     packet: &[u8],
     level: u64,
     target: u64,
     tag: u64,
     removal: u64,
-    value: &[u8],
+    value: &'a [u8],
     tag2: u64,
     removal2: u64,
-    value2: &[u8],
+    value2: &'a [u8],
     out: &mut [u8],
 ) -> u64
     ensures { λ r. ⌜ Returns (now (out .entry))
@@ -108,12 +105,7 @@ pub extern "C" fn vmti_edit_two(
         (now (packet .entry)))
         r (now (out .exit)) ⌝ }
 {
-    let a = asked(
-        level,
-        target,
-        change(tag, removal),
-        true,
-        change(tag2, removal2),
-    );
-    one_number(edit(packet, form != 0, a, value, value2, out))
+    let first = asked(level, target, change(tag, removal));
+    let second = change(tag2, removal2);
+    one_number(edit_two(packet, form != 0, first, second, value, value2, out))
 }

@@ -33,7 +33,7 @@ returns c = edit-unread _ _ _ _ (c .before .before .before .check .ensures) _ (c
 sub-s : tie.Need-sub-s
 sub-s c =
     let a = c .before in
-    set-room _ _ (a .before .before .check .ensures) (λ i. a .before .before .before .before .before .before .before .before .shared-slice-known .given i .fits) (a .c .given .1)
+    set-room _ _ (a .before .before .check .ensures) (λ i. a .before .before .before .before .before .before .before .shared-slice-known .given i .fits) (a .c .given .1)
 
 part-s-start : tie.Need-part-s-start
 part-s-start c = sub-s c
@@ -48,8 +48,8 @@ edit-set-requires : tie.Need-edit-set-requires
 edit-set-requires c κs =
     let a = c .before .before .before .before in (
       a .before .before .before .before .glances .ensures,
-      set-is _ _ (a .before .before .check .ensures) (λ i. a .before .before .before .before .before .before .before .before .shared-slice-known .given i .fits) (a .c .given .1),
-      sheet-is _ _ (a .before .before .check .ensures) (λ i. a .before .before .before .before .before .before .before .before .shared-slice-known .given i .fits) (a .c .given .1),
+      set-is _ _ (a .before .before .check .ensures) (λ i. a .before .before .before .before .before .before .before .shared-slice-known .given i .fits) (a .c .given .1),
+      sheet-is _ _ (a .before .before .check .ensures) (λ i. a .before .before .before .before .before .before .before .shared-slice-known .given i .fits) (a .c .given .1),
     )
 
 same-length : tie.Need-same-length
@@ -59,7 +59,7 @@ returns-2 : tie.Need-returns-2
 returns-2 c =
     let a = c .before .before .before .before .before .before .before in
     c .before .before .edit-set .ensures
-    ∙ ap (leaves _) (sym (edit-is _ _ (a .before .before .check .ensures) (λ i. a .before .before .before .before .before .before .before .before .shared-slice-known .given i .fits) (a .c .given .1) _ _))
+    ∙ ap (leaves _) (sym (edit-is _ _ (a .before .before .check .ensures) (λ i. a .before .before .before .before .before .before .before .shared-slice-known .given i .fits) (a .c .given .1) _ _))
 
 pub edit-spec : {M : Type 1} → statement M
 edit-spec =

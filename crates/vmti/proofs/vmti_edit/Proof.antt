@@ -1,7 +1,7 @@
 -- `vmti::vmti_edit` meets its contract: the answer of `edit` on the one change, as one number.
 use borrow.Author.Needs.{needs}
 use Rattle.vmti.proofs.Bounds.{edit-small, one-number}
-use Rattle.vmti.proofs.Naming.{edits-named}
+use Rattle.vmti.proofs.Naming.{one-named}
 use Rattle.vmti.proofs.vmti_edit.Statement.{statement}
 use Rattle.vmti.proofs.vmti_edit.Tie as tie
 
@@ -23,9 +23,10 @@ same-length c = search needs
 returns : tie.Need-returns
 returns c =
     let a = c .before .before .before .before .before in
-    let n = a .before .change .ensures in
-    one-number _ _ _ (edits-named _ (a .before .before .before .before .before .args .level) _ _ n n (a .asked .ensures) _ _ _ _ _ _ (c .before .before .before .edit .ensures)) (c .one-number .ensures)
+    let i = a .before .before .before .before .before .args in
+    one-number _ _ _ (one-named _ (i .level) (i .target) (a .before .change .ensures) (a .asked .ensures) _ _ _ _ _ (c .before .before .before .edit .ensures)) (c .one-number .ensures)
 
 pub vmti-edit-spec : {M : Type 1} → statement M
 vmti-edit-spec =
-    tie.close (tie.spec change-requires asked-requires edit-requires one-number-requires same-length returns)
+    tie.close
+    (tie.spec change-requires asked-requires edit-requires one-number-requires same-length returns)

@@ -54,43 +54,47 @@ module _ {f : Form} {l : Level} {s : List ℕ} {k : Cuts} {v w : List ℕ} {n si
   packs : (es : List Entry) → flatAll flatEntry es ≡ cutBytes l s k v w → Packs (packed (closed f es)) f es n size
   packs es e = cut-packs f es (z .entries ∙ sym (ap length e)) (z .frame)
 
-  module _ (lent : List ℕ) where
-    pub sized-long : 8192 < size → {r : Answer} → r ≡ answerOf 1 0 → CutPacked f l s k v w lent r lent
-    sized-long h er es e = packs-long (packs es e) lent h er
+  pub sized-long : (lent : List ℕ) → 8192 < size → {r : Answer} → r ≡ answerOf 1 0 → CutPacked f l s k v w lent r lent
+  sized-long lent h er es e = packs-long (packs es e) lent h er
 
-    module _ (small : size ≤ 8192) where
-      pub sized-short : length lent < size → {r : Answer} → r ≡ answerOf 16 size → CutPacked f l s k v w lent r lent
-      sized-short h er es e = packs-short (packs es e) lent small h er
+  pub sized-short : (lent : List ℕ) → size ≤ 8192 → length lent < size → {r : Answer} → r ≡ answerOf 16 size → CutPacked f l s k v w lent r lent
+  sized-short lent small h er es e = packs-short (packs es e) lent small h er
 
-      -- ---- there is room
+-- ---- there is room
 
-      module _ (room : size ≤ length lent) where
-        fits : Fits f (z .entered .0) lent n size
-        fits = packs-fit (packs (z .entered .0) (z .entered .1)) lent small room
+pub record Roomy (f : Form) (l : Level) (s : List ℕ) (k : Cuts) (v w : List ℕ) (n size : ℕ) (lent : List ℕ) : Type 0 where
+  pub sizes : Sized f l s k v w n size
+  pub small : size ≤ 8192
+  pub room : size ≤ length lent
 
-        pub sized-open : (n ≤ 1048576) × (length (openBytes f n) ≤ length lent)
-        sized-open = open-asked fits
+module _ {f : Form} {l : Level} {s : List ℕ} {k : Cuts} {v w : List ℕ} {n size : ℕ} {lent : List ℕ} (z : Roomy f l s k v w n size lent) where
+  fits : (es : List Entry) → flatAll flatEntry es ≡ cutBytes l s k v w → Fits f es lent n size
+  fits es e = packs-fit (packs (z .sizes) es e) lent (z .small) (z .room)
 
-        module _ {a : ℕ} {out : List ℕ} (eo : (a ≡ length (openBytes f n)) × (out ≡ sets lent 0 (openBytes f n))) where
-          pub sized-from : a ≤ length out
-          sized-from = rest-from fits eo
+  -- entries that do
+  some : Fits f (z .sizes .entered .0) lent n size
+  some = fits (z .sizes .entered .0) (z .sizes .entered .1)
 
-          pub sized-room : putSize l k ≤ length (take (length out - a) (drop a out))
-          sized-room = omega (arith, rest-room fits eo (sym (z .entered .1)), bytes-long (z .putting))
+  pub opening : (n ≤ 1048576) × (length (openBytes f n) ≤ length lent)
+  opening = open-asked some
 
-          module _ {m : ℕ} {e : List ℕ} (put : StoredAt (take (length out - a) (drop a out)) 0 (cutBytes l s k v w) m e) where
-            stored : (m ≡ length (cutBytes l s k v w)) × (e ≡ sets (take (length out - a) (drop a out)) 0 (cutBytes l s k v w))
-            stored = (omega (arith, put .0), put .1)
+  module _ {a : ℕ} {out : List ℕ} (eo : (a ≡ length (openBytes f n)) × (out ≡ sets lent 0 (openBytes f n))) where
+    pub entries-from : a ≤ length out
+    entries-from = rest-from some eo
 
-            pub sized-end : a + m ≤ 8192
-            sized-end = entries-end fits eo (sym (z .entered .1)) stored
+    pub entries-room : putSize l k ≤ length (take (length out - a) (drop a out))
+    entries-room = omega (arith, rest-room some eo (sym (z .sizes .entered .1)), bytes-long (z .sizes .putting))
 
-            abbrev back : List ℕ
-            back = putMid a (length out - a) out e
+    module _ {m : ℕ} {e : List ℕ} (put : StoredAt (take (length out - a) (drop a out)) 0 (cutBytes l s k v w) m e) where
+      stored : (m ≡ length (cutBytes l s k v w)) × (e ≡ sets (take (length out - a) (drop a out)) 0 (cutBytes l s k v w))
+      stored = (omega (arith, put .0), put .1)
 
-            pub sized-close : (a + m + length (sealBytes f []) ≤ length (putMid a (length out - a) out e)) × (a + m + length (sealBytes f []) ≤ 8192)
-            sized-close = close-asked fits eo (sym (z .entered .1)) stored
+      pub entries-to : a + m ≤ 8192
+      entries-to = entries-end some eo (sym (z .sizes .entered .1)) stored
 
-            pub sized-done : {k′ : ℕ} {last : List ℕ} → StoredAt (putMid a (length out - a) out e) (a + m) (sealBytes f (take (a + m) (putMid a (length out - a) out e))) k′ last
-                → {r : Answer} → r ≡ answerOf 0 size → CutPacked f l s k v w lent r last
-            sized-done p er es e′ = packs-done (packs es e′) lent small room (all-written (packs-fit (packs es e′) lent small room) eo (sym e′) stored p) er
+      pub closing : (a + m + length (sealBytes f []) ≤ length (putMid a (length out - a) out e)) × (a + m + length (sealBytes f []) ≤ 8192)
+      closing = close-asked some eo (sym (z .sizes .entered .1)) stored
+
+      pub written : {j : ℕ} {last : List ℕ} → StoredAt (putMid a (length out - a) out e) (a + m) (sealBytes f (take (a + m) (putMid a (length out - a) out e))) j last
+          → {r : Answer} → r ≡ answerOf 0 size → CutPacked f l s k v w lent r last
+      written p er es e′ = packs-done (packs (z .sizes) es e′) lent (z .small) (z .room) (all-written (fits es e′) eo (sym e′) stored p) er

@@ -136,13 +136,13 @@ pub fn is_plain(set: bool, alone: bool, p: usize, top: u64, low: u64, tag: u64, 
     if !items::begins(set, alone, tag, p == 0) {
         return false;
     }
-    if tag < 64 {
+    if !items::quick::is_beyond(set, tag) {
         return false;
     }
-    !tally::is_series(set, tag)
+    64 <= tag
 }
 
-// The items after those of the quick way that are such, one after another.
+// The items after those of the quick way that are such, one after another. The series is none of them.
 pub fn onward(s: &[u8], set: bool, alone: bool, q: Stage) -> Stage
     requires { ⌜ (length (now s) ≤ 8192) × LevelTo set (formOf alone) (now s) q ⌝ }
     ensures { λ r. ⌜ LevelTo set (formOf alone) (now (s .entry)) r ⌝ }
@@ -152,10 +152,6 @@ pub fn onward(s: &[u8], set: bool, alone: bool, q: Stage) -> Stage
     let mut top = q.top;
     let mut low = q.low;
     while p < s.len() {
-        // the series is no such item
-        if tally::is_series(set, coding::wide(s[p])) {
-            return tally::stages::stage_at(p, sum, q.held, top, low);
-        }
         let h = heads::item_head(&s[p..], set);
         let Head::Whole {
             key,

@@ -1,20 +1,11 @@
 -- `quick_items::is_plain` meets its contract: each `false` says nothing.
-use mathlib.Core.Path.{_≡_, sym, ap, _∙_}
-use Prim.Native.Nat.{ℕ, _≤_}
+use mathlib.Core.Path.{sym, _∙_}
 use native.Mathlib.Omega.{arith}
-use mathlib.Core.Bool.{Bool, true, false, not, _&&_}
-use lib.Dec.{eqb}
 use borrow.Author.Needs.{needs}
-use borrow.Author.Tests.{lt-ltb, not-false}
+use borrow.Author.Tests.{leb-true, not-false}
 use Rattle.format.proofs.words.Answers.{no-bool}
-use Rattle.items.specs.Quick.{beyond}
 use Rattle.quick_items.proofs.is_plain.Statement.{statement}
 use Rattle.quick_items.proofs.is_plain.Tie as tie
-
--- no table lists a tag from 64 on, and the set's series is the one that is another thing
-past-tables : (b : Bool) (tag : ℕ) → 64 ≤ tag → {x : Bool} → x ≡ (b && eqb tag 101) → not x ≡ true → beyond b tag ≡ true
-past-tables true tag l e z = rw (lt-ltb 12 tag (omega (arith, l)), ← e) z
-past-tables false tag l e z = lt-ltb 23 tag (omega (arith, l))
 
 returns : tie.Need-returns
 returns c = λ e. no-bool e
@@ -31,22 +22,21 @@ begins-requires c κs = search needs
 returns-3 : tie.Need-returns-3
 returns-3 c = λ e. no-bool e
 
+is-beyond-requires : tie.Need-is-beyond-requires
+is-beyond-requires c κs = search needs
+
 returns-4 : tie.Need-returns-4
 returns-4 c = λ e. no-bool e
 
-is-series-requires : tie.Need-is-series-requires
-is-series-requires c κs = search needs
-
 returns-5 : tie.Need-returns-5
 returns-5 c =
-    let i = c .before .before .before .before .before .before .before .args in
-    let bare : 64 ≤ i .tag = omega (arith, c .before .if4 .left) in
+    let b = c .before .before .before in
     λ e. record {
-      some = omega (arith, c .before .before .before .before .before .before .if1 .left);
-      bare = bare;
-      new = c .before .before .before .before .before .is-new .ensures (not-false _ (c .before .before .before .before .if2 .left));
-      begins = sym (c .before .before .before .begins .ensures) ∙ not-false _ (c .before .before .if3 .left);
-      beyond = past-tables (i .set) (i .tag) bare (c .is-series .ensures) e;
+      some = omega (arith, b .before .before .before .if1 .left);
+      bare = leb-true 64 (b .before .before .before .before .args .tag) e;
+      new = b .before .before .is-new .ensures (not-false _ (b .before .if2 .left));
+      begins = sym (b .begins .ensures) ∙ not-false _ (c .before .before .if3 .left);
+      beyond = sym (c .before .is-beyond .ensures) ∙ not-false _ (c .if4 .left);
     }
 
 pub is-plain-spec : {M : Type 1} → statement M
@@ -58,6 +48,6 @@ is-plain-spec =
     returns-2
     begins-requires
     returns-3
+    is-beyond-requires
     returns-4
-    is-series-requires
     returns-5)

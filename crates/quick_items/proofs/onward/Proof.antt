@@ -9,17 +9,6 @@ use Rattle.tally.specs.Going.{LevelGoing}
 use Rattle.quick_items.proofs.Beyond.{PlainAt, plain-small, plain-next, plain-sums, plain-more}
 use Rattle.quick_items.proofs.onward.Statement.{statement}
 use Rattle.quick_items.proofs.onward.Tie as tie
-use Rattle.quick_items.proofs.onward.Reads as reads
-use Rattle.quick_items.proofs.onward.Lts as lts
-use Rattle.coding.proofs.wide.Reads as wide-reads
-use Rattle.heads.proofs.item_head.Reads as item-head-reads
-use Rattle.tally.proofs.is_series.Reads as is-series-reads
-use Rattle.tally.proofs.larger.Reads as larger-reads
-use Rattle.quick_items.proofs.is_plain.Reads as is-plain-reads
-use Rattle.tally.proofs.stages.stage_at.Reads as stage-at-reads
-use Rattle.tally.proofs.smaller.Reads as smaller-reads
-use Rattle.tally.proofs.weights.plain_sizes.Reads as plain-sizes-reads
-use Rattle.tally.proofs.weights.plus.Reads as plus-reads
 
 abbrev Inv-loop : tie.InvT-loop
 Inv-loop s set alone q p₀ sum₀ top₀ low₀ p sum top low = LevelGoing set (formOf alone) s p sum (q .held) top low
@@ -27,83 +16,40 @@ Inv-loop s set alone q p₀ sum₀ top₀ low₀ p sum top low = LevelGoing set 
 abbrev μ-loop : tie.MeasureT-loop
 μ-loop s set alone q p₀ sum₀ top₀ low₀ p sum top low = length s - p
 
-abbrev claims : lts.Claims
-claims = (
-  wide-reads.Asked,
-  wide-reads.Learnt,
-  is-series-reads.Asked,
-  is-series-reads.Learnt,
-  stage-at-reads.Asked,
-  stage-at-reads.Learnt,
-  item-head-reads.Asked,
-  item-head-reads.Learnt,
-  is-plain-reads.Asked,
-  is-plain-reads.Learnt,
-  plain-sizes-reads.Asked,
-  plain-sizes-reads.Learnt,
-  plus-reads.Asked,
-  plus-reads.Learnt,
-  larger-reads.Asked,
-  larger-reads.Learnt,
-  smaller-reads.Asked,
-  smaller-reads.Learnt,
-)
-
-abbrev Turn : Type 0
-Turn = lts.At-loop claims reads.Pre reads.Post Inv-loop μ-loop
-
-abbrev start : Turn → lts.Start claims reads.Pre reads.Post Inv-loop μ-loop
+abbrev start : tie.At-loop Inv-loop μ-loop → tie.Start Inv-loop μ-loop
 start u = u .before .before .before
 
-abbrev Plain-read : Type 0
-Plain-read = lts.Else2 claims reads.Pre reads.Post Inv-loop μ-loop
+abbrev turn : tie.Else1 Inv-loop μ-loop → tie.At-loop Inv-loop μ-loop
+turn a = a .before .before .before .before .before .before .before .before
 
-abbrev turn : Plain-read → Turn
-turn a = a .before .before .before .before .before .before .before .before .before .before .before .before
-
-abbrev tag : Plain-read → ℕ
+abbrev tag : tie.Else1 Inv-loop μ-loop → ℕ
 tag a = a .before .before .before .h .given .0 .0
 
-abbrev used : Plain-read → ℕ
+abbrev used : tie.Else1 Inv-loop μ-loop → ℕ
 used a = a .before .before .before .h .given .0 .1 .0
 
-abbrev width : Plain-read → ℕ
+abbrev width : tie.Else1 Inv-loop μ-loop → ℕ
 width a = a .before .before .before .h .given .0 .1 .1 .0
 
-abbrev size : Plain-read → ℕ
+abbrev size : tie.Else1 Inv-loop μ-loop → ℕ
 size a = a .before .before .before .h .given .0 .1 .1 .1 .0
 
-here : (a : Plain-read)
+here : (a : tie.Else1 Inv-loop μ-loop)
     → PlainAt (start (turn a) .args .set) (formOf (start (turn a) .args .alone)) (start (turn a) .args .s .now) (turn a .loop .p) (turn a .loop .sum) (start (turn a) .args .q .held) (turn a .loop .top) (turn a .loop .low)
     (tag a) (used a) (width a) (size a)
 here a = record {
   going = turn a .loop .inv;
-  here = a .before .before .before .before .before .before .before .before .before .before .before .loop-test .taken;
+  here = a .before .before .before .before .before .before .before .loop-test .taken;
   it = a .before .before .before .before .before .item-head .result;
   told = a .before .before .before .before .before .item-head .ensures;
   is = a .before .before .before .h .given .1;
-  plain = a .before .is-plain .ensures (not-false _ (a .if2 .left));
+  plain = a .before .is-plain .ensures (not-false _ (a .if1 .left));
   bytes = λ i. turn a .before .before .shared-slice-known .given i .fits;
   most = start (turn a) .pre .0;
 }
 
 loop-holds : tie.Need-loop-holds Inv-loop μ-loop
 loop-holds c = c .before .before .pre .1
-
-shared-slice-read-wide : tie.Need-shared-slice-read-wide Inv-loop μ-loop
-shared-slice-read-wide c = search needs
-
-wide-requires : tie.Need-wide-requires Inv-loop μ-loop
-wide-requires c κs = search needs
-
-is-series-requires : tie.Need-is-series-requires Inv-loop μ-loop
-is-series-requires c κs = search needs
-
-stage-at-requires : tie.Need-stage-at-requires Inv-loop μ-loop
-stage-at-requires c κs = search needs
-
-returns : tie.Need-returns Inv-loop μ-loop
-returns c = rw (c .stage-at .ensures) (c .before .before .before .before .before .before .loop .inv)
 
 sub-item-head : tie.Need-sub-item-head Inv-loop μ-loop
 sub-item-head c = search needs
@@ -123,20 +69,20 @@ enum-known-h c = search needs
 enum-told : tie.Need-enum-told Inv-loop μ-loop
 enum-told c = search needs
 
-stage-at-requires-2 : tie.Need-stage-at-requires-2 Inv-loop μ-loop
-stage-at-requires-2 c κs = search needs
+stage-at-requires : tie.Need-stage-at-requires Inv-loop μ-loop
+stage-at-requires c κs = search needs
 
-returns-2 : tie.Need-returns-2 Inv-loop μ-loop
-returns-2 c = rw (c .stage-at2 .ensures) (c .before .before .before .before .before .before .before .before .before .before .loop .inv)
+returns : tie.Need-returns Inv-loop μ-loop
+returns c = rw (c .stage-at .ensures) (c .before .before .before .before .before .before .loop .inv)
 
 is-plain-requires : tie.Need-is-plain-requires Inv-loop μ-loop
 is-plain-requires c κs = search needs
 
-stage-at-requires-3 : tie.Need-stage-at-requires-3 Inv-loop μ-loop
-stage-at-requires-3 c κs = search needs
+stage-at-requires-2 : tie.Need-stage-at-requires-2 Inv-loop μ-loop
+stage-at-requires-2 c κs = search needs
 
-returns-3 : tie.Need-returns-3 Inv-loop μ-loop
-returns-3 c = rw (c .stage-at3 .ensures) (c .before .before .before .before .before .before .before .before .before .before .before .before .before .loop .inv)
+returns-2 : tie.Need-returns-2 Inv-loop μ-loop
+returns-2 c = rw (c .stage-at2 .ensures) (c .before .before .before .before .before .before .before .before .before .loop .inv)
 
 plain-sizes-requires : tie.Need-plain-sizes-requires Inv-loop μ-loop
 plain-sizes-requires c κs = plain-small (here c)
@@ -165,11 +111,11 @@ loop-less c = omega (arith, plain-next (here (c .before .before .before .before)
 loop-again : tie.Need-loop-again Inv-loop μ-loop
 loop-again c = plain-more (here (c .before .before .before .before)) (c .before .before .before .plain-sizes .ensures) (c .before .before .plus .ensures) (c .before .larger .ensures .over) (c .smaller .ensures)
 
-stage-at-requires-4 : tie.Need-stage-at-requires-4 Inv-loop μ-loop
-stage-at-requires-4 c κs = search needs
+stage-at-requires-3 : tie.Need-stage-at-requires-3 Inv-loop μ-loop
+stage-at-requires-3 c κs = search needs
 
-returns-4 : tie.Need-returns-4 Inv-loop μ-loop
-returns-4 c = rw (c .stage-at4 .ensures) (c .before .before .loop .inv)
+returns-3 : tie.Need-returns-3 Inv-loop μ-loop
+returns-3 c = rw (c .stage-at3 .ensures) (c .before .before .loop .inv)
 
 pub onward-spec : {M : Type 1} → statement M
 onward-spec =
@@ -178,22 +124,17 @@ onward-spec =
     Inv-loop
     μ-loop
     loop-holds
-    shared-slice-read-wide
-    wide-requires
-    is-series-requires
-    stage-at-requires
-    returns
     sub-item-head
     part-item-head-start
     part-item-head-end
     item-head-requires
     enum-known-h
     enum-told
+    stage-at-requires
+    returns
+    is-plain-requires
     stage-at-requires-2
     returns-2
-    is-plain-requires
-    stage-at-requires-3
-    returns-3
     plain-sizes-requires
     plus-requires
     larger-requires
@@ -203,5 +144,5 @@ onward-spec =
     add-p-3
     loop-less
     loop-again
-    stage-at-requires-4
-    returns-4)
+    stage-at-requires-3
+    returns-3)

@@ -5,7 +5,7 @@ use borrow.Author.Needs.{needs}
 use Rattle.format.specs.Table.{pack}
 use Rattle.items.specs.Meet.{formOf}
 use Rattle.edit_rules.specs.Cuts.{lowOf}
-use Rattle.edit.proofs.Writing.{Sized, sized, spans-are, size-asked, frame-asked, sized-long, sized-short, sized-open, sized-from, sized-room, sized-end, sized-close, sized-done}
+use Rattle.edit.proofs.Writing.{Sized, sized, spans-are, size-asked, frame-asked, sized-long, sized-short, Roomy, opening, entries-from, entries-room, entries-to, closing, written}
 use Rattle.edit.proofs.two.edit_at.Statement.{statement}
 use Rattle.edit.proofs.two.edit_at.Tie as tie
 
@@ -15,10 +15,16 @@ from z = z .before .before .before .before .before .before .before
 size : (z : tie.After-frame-size) → let i = from z .args in Sized (formOf (i .alone)) pack (i .s .now) (i .k) (lowOf (i .turned) (i .v .now) (i .w .now)) (lowOf (i .turned) (i .w .now) (i .v .now)) (z .before .edited-size .result) (z .frame-size .result)
 size z = sized (formOf (from z .args .alone)) (from z .pre .0) (from z .pre .1) (z .before .before .body-size .ensures) (z .before .edited-size .ensures) (z .frame-size .ensures)
 
+abbrev up : tie.Else2 → tie.After-frame-size
+up g = g .before .before
+
+room : (g : tie.Else2) → let i = from (up g) .args in Roomy (formOf (i .alone)) pack (i .s .now) (i .k) (lowOf (i .turned) (i .v .now) (i .w .now)) (lowOf (i .turned) (i .w .now) (i .v .now)) (up g .before .edited-size .result) (up g .frame-size .result) (i .out .now)
+room g = record { sizes = size (up g); small = g .before .if1 .left; room = g .if2 .left }
+
 body-size-requires : tie.Need-body-size-requires
 body-size-requires c κs =
-    let i = c .before .before .before .before in
-    (spans-are (i .pre .0), i .pre .0 .low-small, i .pre .0 .high-small)
+    let q = c .before .before .before .before .pre .0 in
+    (spans-are q, q .low-small, q .high-small)
 
 edited-size-requires : tie.Need-edited-size-requires
 edited-size-requires c κs = size-asked (c .before .before .before .before .before .pre .0) (c .body-size .ensures)
@@ -30,31 +36,21 @@ answer-of-requires : tie.Need-answer-of-requires
 answer-of-requires c κs = search needs
 
 returns : tie.Need-returns
-returns c = let z = c .before .before in sized-long (size z) _ (c .before .if1 .taken) (c .answer-of .ensures)
+returns c = sized-long (size (c .before .before)) _ (c .before .if1 .taken) (c .answer-of .ensures)
 
 answer-of-requires-2 : tie.Need-answer-of-requires-2
 answer-of-requires-2 c κs = search needs
 
 returns-2 : tie.Need-returns-2
-returns-2 c =
-    let g = c .before in
-    let z = g .before .before in
-    sized-short (size z) _ (g .before .if1 .left) (g .if2 .taken) (c .answer-of2 .ensures)
+returns-2 c = sized-short (size (c .before .before .before)) _ (c .before .before .if1 .left) (c .before .if2 .taken) (c .answer-of2 .ensures)
 
 -- ---- there is room
 
 open-requires : tie.Need-open-requires
-open-requires c κs =
-    let g = c .before in
-    let z = g .before .before in
-    sized-open (size z) (from z .args .out .now) (g .before .if1 .left) (g .if2 .left)
+open-requires c κs = opening (room (c .before))
 
 sub-put-edited : tie.Need-sub-put-edited
-sub-put-edited c =
-    let o = c .before .before in
-    let g = o .before .before in
-    let z = g .before .before in
-    sized-from (size z) (from z .args .out .now) (g .before .if1 .left) (g .if2 .left) (o .«open» .ensures)
+sub-put-edited c = let o = c .before .before in entries-from (room (o .before .before)) (o .«open» .ensures)
 
 part-put-edited-start : tie.Need-part-put-edited-start
 part-put-edited-start c = sub-put-edited c
@@ -66,25 +62,19 @@ put-edited-requires : tie.Need-put-edited-requires
 put-edited-requires c κs =
     let o = c .before .before .before in
     let g = o .before .before in
-    let z = g .before .before in
-    let i = from z in
-    (i .pre .0, sized-room (size z) (i .args .out .now) (g .before .if1 .left) (g .if2 .left) (o .«open» .ensures), z .before .before .body-size .ensures)
+    (from (up g) .pre .0, entries-room (room g) (o .«open» .ensures), up g .before .before .body-size .ensures)
 
 add-close : tie.Need-add-close
 add-close c =
     let n = c .before .before .before in
     let o = n .before .before .before .before in
-    let g = o .before .before in
-    let z = g .before .before in
-    omega (arith, sized-end (size z) (from z .args .out .now) (g .before .if1 .left) (g .if2 .left) (o .«open» .ensures) (n .put-edited .ensures))
+    omega (arith, entries-to (room (o .before .before)) (o .«open» .ensures) (n .put-edited .ensures))
 
 close-requires : tie.Need-close-requires
 close-requires c κs =
     let n = c .before .before .before in
     let o = n .before .before .before .before in
-    let g = o .before .before in
-    let z = g .before .before in
-    sized-close (size z) (from z .args .out .now) (g .before .if1 .left) (g .if2 .left) (o .«open» .ensures) (n .put-edited .ensures)
+    closing (room (o .before .before)) (o .«open» .ensures) (n .put-edited .ensures)
 
 answer-of-requires-3 : tie.Need-answer-of-requires-3
 answer-of-requires-3 c κs = search needs
@@ -96,9 +86,7 @@ returns-3 : tie.Need-returns-3
 returns-3 c =
     let n = c .before .before .before .before .before .before .before in
     let o = n .before .before .before .before in
-    let g = o .before .before in
-    let z = g .before .before in
-    sized-done (size z) _ (g .before .if1 .left) (g .if2 .left) (o .«open» .ensures) (n .put-edited .ensures) (c .before .before .before .close .ensures) (c .answer-of3 .ensures)
+    written (room (o .before .before)) (o .«open» .ensures) (n .put-edited .ensures) (c .before .before .before .close .ensures) (c .answer-of3 .ensures)
 
 pub edit-at-spec : {M : Type 1} → statement M
 edit-at-spec =

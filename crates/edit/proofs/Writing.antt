@@ -1,5 +1,5 @@
 -- The packet with what the cuts put, as it is written: its sizes, what opens it, its entries, and what closes it. For one change and for two.
-use mathlib.Core.Path.{_≡_, refl, sym, ap, _∙_}
+use mathlib.Core.Path.{_≡_, sym, ap, _∙_}
 use Prim.Native.Nat.{ℕ, _+_, _-_, _≤_, _<_}
 use native.Mathlib.Omega.{arith}
 use mathlib.Core.List.{List, []}

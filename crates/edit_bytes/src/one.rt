@@ -1,6 +1,6 @@
 // One change: what stands before its cut, what it puts, and what follows.
 ghost use mathlib.Core.Path.{_≡_};
-ghost use Prim.Native.Nat.{_+_, _-_, _≤_};
+ghost use Prim.Native.Nat.{_≤_};
 ghost use lib.ListN.{length};
 ghost use Rattle.items.specs.Meet.{levelOf};
 ghost use Rattle.edit_rules.specs.Cuts.{cutSize, oneCut, bodySize, headOf, Around, Small, Putting, putSize, cutBytes, StoredAt};
@@ -22,7 +22,8 @@ pub fn body_size(p: Place, c: Cut) -> usize
 
 // What stands before the level's own bytes, of which there are n; where it ends.
 fn put_head(s: &[u8], set: bool, p: Place, n: usize, out: &mut [u8]) -> usize
-    requires { ⌜ (length (now s) ≤ 8192) × Around (length (now s)) p × (n ≤ 40960) × (length (headOf (levelOf set) (now s) p n) ≤ length (now out)) ⌝ }
+    requires { ⌜ (length (now s) ≤ 8192) × Around (length (now s)) p × (n ≤ 40960)
+        × (length (headOf (levelOf set) (now s) p n) ≤ length (now out)) ⌝ }
     ensures { λ r. ⌜ StoredAt (now (out .entry)) 0 (headOf (levelOf set) (now (s .entry)) p n) r (now (out .exit)) ⌝ }
 {
     if set {

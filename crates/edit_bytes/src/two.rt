@@ -3,13 +3,12 @@ ghost use mathlib.Core.Path.{_≡_};
 ghost use Prim.Native.Nat.{_≤_};
 ghost use lib.ListN.{length};
 ghost use Rattle.format.specs.Table.{pack};
-ghost use Rattle.edit_rules.specs.Cuts.{lowOf, cutPut, cutSize, bodySize, headOf, Around, Spans, Small, Putting, putSize, cutBytes, StoredAt};
+ghost use Rattle.edit_rules.specs.Cuts.{lowOf, cutSize, bodySize, headOf, Around, Spans, Small, Putting, putSize, cutBytes, StoredAt};
 use super::cut_size;
 use super::packs_size;
 use super::put_cut;
 use super::put_part;
 use super::put_to_pack;
-use edit_rules::Cut;
 use edit_rules::Cuts;
 use find::Place;
 

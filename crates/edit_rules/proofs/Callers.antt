@@ -28,7 +28,7 @@ use Rattle.find.proofs.Callers.{setAt, entries-are}
 use Rattle.edit_rules.specs.declared.Cut.{Cut}
 use Rattle.edit_rules.specs.declared.Cuts.{Cuts}
 use Rattle.edit_rules.specs.Meet.{sheetOf, setEdited}
-use Rattle.edit_rules.specs.Cuts.{cutPut, bodySize, withSize, CutOf, Cutting, Small, Putting, cutBytes}
+use Rattle.edit_rules.specs.Cuts.{cutPut, bodySize, withSize, CutOf, Cutting, Putting, cutBytes}
 use Rattle.edit_rules.proofs.Items.{put-long, size-more}
 use Rattle.edit_rules.proofs.Sizes.{with-long}
 

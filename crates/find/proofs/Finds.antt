@@ -5,18 +5,18 @@ use native.Mathlib.Omega.{arith}
 use mathlib.Core.Bool.{Bool, true, false}
 use mathlib.Core.List.{List, [], _∷_, _++_}
 use lib.ListN.{length}
-use Rattle.format.specs.Coding.{Bytes, oidBytes}
+use Rattle.format.specs.Coding.{Bytes}
 use Rattle.format.specs.Lists.{flatAll}
 use Rattle.format.specs.Table.{Form, set, pack}
-use Rattle.format.specs.Packet.{Pack, Entry, plain, series, flatItem, flatPack, flatEntry}
-use Rattle.format.specs.Edit.{theSet, target, isSeries}
+use Rattle.format.specs.Packet.{Pack, Entry, plain, series, flatEntry}
+use Rattle.format.specs.Edit.{target, isSeries}
 use Rattle.format.proofs.words.Answers.{no-bool}
 use Rattle.tally.specs.Runs.{Ran, levelRun, seriesRun}
 use Rattle.find.specs.declared.Spot.{Spot}
 use Rattle.find.specs.declared.Place.{Place}
 use Rattle.find.specs.declared.Found.{Found}
 use Rattle.find.specs.declared.Found.the-variants.{There}
-use Rattle.find.specs.Spots.{noSpot, Missed, Hit, thingsOf, hasId, entriesOf, packsOf, itemLead, entryLead, entrySpot, packSpot}
+use Rattle.find.specs.Spots.{noSpot, Missed, Hit, thingsOf, hasId, packsOf, entryLead, entrySpot, packSpot}
 use Rattle.find.specs.Places.{holderOf, sealSize, SetOf, keptOf, placeIn, SetPlaced, Sums, placeUnder, TargetPlaced, packsIn, FoundIs}
 use Rattle.find.proofs.Splices.{hit-spot, narrowed, absent-too}
 use Rattle.find.proofs.Seeks.{ran-ok, inside, inside-long, inside-bytes}

@@ -11,8 +11,9 @@ use Rattle.format.specs.Table.{Form, Level}
 use Rattle.format.specs.Packet.{Entry, flatEntry, closed}
 use Rattle.format.specs.Calls.{packed}
 use Rattle.frames.specs.Meet.{frameSize, openBytes, sealBytes}
+use Rattle.find.specs.Places.{Ordered}
 use Rattle.edit_rules.specs.declared.Cuts.{Cuts}
-use Rattle.edit_rules.specs.Cuts.{cutSize, bodySize, withSize, Around, Spans, Putting, putSize, cutBytes, StoredAt}
+use Rattle.edit_rules.specs.Cuts.{cutSize, bodySize, withSize, Spans, Putting, putSize, cutBytes, StoredAt}
 use Rattle.edit_rules.proofs.Sizes.{spans-more, body-few, put-most, bytes-long}
 use Rattle.answers.specs.declared.Answer.{Answer}
 use Rattle.answers.specs.Meet.{answerOf}
@@ -28,8 +29,8 @@ module _ {l : Level} {s v w : List ℕ} {k : Cuts} (q : Putting l s k v w) where
   spans-are = spans-more (length s) 8192 k (q .spans) (q .short)
 
   module _ {body : ℕ} (eb : body ≡ bodySize k (cutSize (k .lo)) (cutSize (k .hi))) where
-    pub size-asked : Around 8192 (k .place) × (body ≤ 40960)
-    size-asked = (spans-are .around, omega (arith, eb, body-few k spans-are (q .low-small) (q .high-small)))
+    pub size-asked : Ordered 8192 (k .place) × (body ≤ 40960)
+    size-asked = (spans-are .ordered, omega (arith, eb, body-few k spans-are (q .low-small) (q .high-small)))
 
     module _ {n : ℕ} (en : n ≡ withSize l (k .place) body) where
       put-is : n ≡ putSize l k

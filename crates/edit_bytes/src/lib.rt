@@ -4,7 +4,8 @@ ghost use mathlib.Core.Path.{_≡_};
 ghost use Prim.Native.Nat.{_+_, _≤_};
 ghost use lib.ListN.{length};
 ghost use Rattle.items.specs.Meet.{levelOf};
-ghost use Rattle.edit_rules.specs.Cuts.{cutPut, cutSize, part, packsSize, toPack, withSize, Around, Small, StoredAt};
+ghost use Rattle.find.specs.Places.{Ordered};
+ghost use Rattle.edit_rules.specs.Cuts.{cutPut, cutSize, part, packsSize, toPack, withSize, Small, StoredAt};
 
 pub mod one;
 pub mod two;
@@ -52,7 +53,7 @@ pub fn put_part(out: &mut [u8], at: usize, s: &[u8], from: usize, to: usize) -> 
 
 // The bytes of the series under its length, with a pack of n.
 pub fn packs_size(p: Place, n: usize) -> usize
-    requires { ⌜ Around 8192 p × (n ≤ 40960) ⌝ }
+    requires { ⌜ Ordered 8192 p × (n ≤ 40960) ⌝ }
     ensures { λ r. ⌜ r ≡ packsSize p n ⌝ }
 {
     (p.pack - p.packs) + (coding::widths::len_width(n) + n) + (p.tail - p.last)
@@ -60,7 +61,7 @@ pub fn packs_size(p: Place, n: usize) -> usize
 
 // How many bytes the entries take, with n in the pack or in the set.
 pub fn edited_size(set: bool, p: Place, n: usize) -> usize
-    requires { ⌜ Around 8192 p × (n ≤ 40960) ⌝ }
+    requires { ⌜ Ordered 8192 p × (n ≤ 40960) ⌝ }
     ensures { λ r. ⌜ r ≡ withSize (levelOf set) p n ⌝ }
 {
     if set {
@@ -72,7 +73,7 @@ pub fn edited_size(set: bool, p: Place, n: usize) -> usize
 
 // What stands before the pack, with n bytes of packs; where it ends.
 pub fn put_to_pack(s: &[u8], p: Place, n: usize, out: &mut [u8]) -> usize
-    requires { ⌜ Around (length (now s)) p × (n ≤ 65536) × (length (toPack (now s) p n) ≤ length (now out)) ⌝ }
+    requires { ⌜ Ordered (length (now s)) p × (n ≤ 65536) × (length (toPack (now s) p n) ≤ length (now out)) ⌝ }
     ensures { λ r. ⌜ StoredAt (now (out .entry)) 0 (toPack (now (s .entry)) p n) r (now (out .exit)) ⌝ }
 {
     let series = p.series;

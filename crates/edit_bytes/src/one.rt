@@ -3,7 +3,8 @@ ghost use mathlib.Core.Path.{_≡_};
 ghost use Prim.Native.Nat.{_≤_};
 ghost use lib.ListN.{length};
 ghost use Rattle.items.specs.Meet.{levelOf};
-ghost use Rattle.edit_rules.specs.Cuts.{cutSize, oneCut, bodySize, headOf, Around, Small, Putting, putSize, cutBytes, StoredAt};
+ghost use Rattle.find.specs.Places.{Ordered};
+ghost use Rattle.edit_rules.specs.Cuts.{cutSize, oneCut, bodySize, headOf, Small, Putting, putSize, cutBytes, StoredAt};
 use super::cut_size;
 use super::packs_size;
 use super::put_cut;
@@ -22,7 +23,7 @@ pub fn body_size(p: Place, c: Cut) -> usize
 
 // What stands before the level's own bytes, of which there are n; where it ends.
 fn put_head(s: &[u8], set: bool, p: Place, n: usize, out: &mut [u8]) -> usize
-    requires { ⌜ (length (now s) ≤ 8192) × Around (length (now s)) p × (n ≤ 40960)
+    requires { ⌜ (length (now s) ≤ 8192) × Ordered (length (now s)) p × (n ≤ 40960)
         × (length (headOf (levelOf set) (now s) p n) ≤ length (now out)) ⌝ }
     ensures { λ r. ⌜ StoredAt (now (out .entry)) 0 (headOf (levelOf set) (now (s .entry)) p n) r (now (out .exit)) ⌝ }
 {

@@ -3,7 +3,8 @@ ghost use mathlib.Core.Path.{_≡_};
 ghost use Prim.Native.Nat.{_≤_};
 ghost use lib.ListN.{length};
 ghost use Rattle.format.specs.Table.{pack};
-ghost use Rattle.edit_rules.specs.Cuts.{lowOf, cutSize, bodySize, headOf, Around, Spans, Small, Putting, putSize, cutBytes, StoredAt};
+ghost use Rattle.find.specs.Places.{Ordered};
+ghost use Rattle.edit_rules.specs.Cuts.{lowOf, cutSize, bodySize, headOf, Spans, Small, Putting, putSize, cutBytes, StoredAt};
 use super::cut_size;
 use super::packs_size;
 use super::put_cut;
@@ -24,7 +25,8 @@ pub fn body_size(k: Cuts) -> usize
 
 // What stands before the pack's id, where the pack has n bytes; where it ends.
 fn put_head(s: &[u8], p: Place, n: usize, out: &mut [u8]) -> usize
-    requires { ⌜ (length (now s) ≤ 8192) × Around (length (now s)) p × (n ≤ 40960) × (length (headOf pack (now s) p n) ≤ length (now out)) ⌝ }
+    requires { ⌜ (length (now s) ≤ 8192) × Ordered (length (now s)) p × (n ≤ 40960)
+        × (length (headOf pack (now s) p n) ≤ length (now out)) ⌝ }
     ensures { λ r. ⌜ StoredAt (now (out .entry)) 0 (headOf pack (now (s .entry)) p n) r (now (out .exit)) ⌝ }
 {
     let a = put_to_pack(s, p, packs_size(p, n), out);

@@ -21,8 +21,8 @@ use Rattle.format.proofs.sheets.Content.{part-tag}
 use Rattle.find.specs.declared.Spot.{Spot}
 use Rattle.find.specs.declared.Place.{Place}
 use Rattle.find.specs.Spots.{noSpot, spotIn, Missed, hasTag, entriesOf, entryLead, entrySpot}
-use Rattle.find.specs.Places.{SetOf, keptOf, placeIn, SetPlaced}
-use Rattle.find.proofs.Splices.{missed-spot, spot-present, narrowed, absent-too}
+use Rattle.find.specs.Places.{SetOf, keptOf, placeIn, SetPlaced, Ordered}
+use Rattle.find.proofs.Splices.{missed-spot, spot-present, spot-room, narrowed, absent-too}
 use Rattle.find.proofs.Entries.{entry-some, tag-absent}
 use Rattle.find.proofs.Finds.{set-there, set-added}
 use Rattle.find.proofs.Sets.{Seal, rest-of, theRest, set-bytes, set-long}
@@ -76,6 +76,21 @@ module _ (f : Form) (s : List ℕ) (b : Bytes s) (k : SetOf f s) where
   pub set-stands : (tag : ℕ) (p : Place) → SetSpot f tag s p → has tag (map tagOfEntry (keptOf f s)) ≡ ltb (p .at) (p .next)
   set-stands tag p z = has-spot tagOfEntry tag flatEntry entryLead entryLead entry-some (keptOf f s) 0 (p .at) (p .next) (omega (arith, z .at-is)) (omega (arith, z .next-is))
 
+  set-ordered : {tag : ℕ} {p : Place} → SetSpot f tag s p → Ordered (length s) p
+  set-ordered {tag = tag} z =
+      let room = spot-room (hasTag tag) flatEntry entryLead entryLead (keptOf f s) in
+      record {
+        to-packs = omega (arith, z .from-0);
+        to-pack = omega (arith, z .from-0);
+        to-body = omega (arith, z .from-0);
+        to-at = omega (arith, z .from-0);
+        to-next = omega (arith, z .at-is, z .next-is, room);
+        to-last = omega (arith, z .next-is, z .to-stop, z .stop-is, room);
+        to-tail = omega (arith, z .to-stop);
+        to-stop = omega (arith, z .to-stop);
+        to-end = omega (arith, z .stop-is, set-long f s b k);
+      }
+
   -- by its spot alone
   pub spot-stands : (tag : ℕ) → nameable set tag ≡ true → {a : Spot} → a ≡ entrySpot set f tag s → has tag (map tagOfEntry (keptOf f s)) ≡ ltb (a .at) (a .next)
   spot-stands tag n {a = a} e = go (ltb (a .at) (a .next)) refl
@@ -109,15 +124,7 @@ module _ (f : Form) (s : List ℕ) (b : Bytes s) (k : SetOf f s) where
 
       pub set-spans : Spans set (length s) q
       set-spans = record {
-        around = record {
-          to-packs = omega (arith, z .from-0);
-          to-pack = omega (arith, z .from-0);
-          to-body = omega (arith, z .from-0);
-          to-last = omega (arith, z .from-0);
-          to-tail = omega (arith, z .to-stop);
-          to-stop = omega (arith, z .to-stop);
-          to-end = omega (arith, z .stop-is, set-long f s b k);
-        };
+        ordered = set-ordered z;
         to-low = omega (arith, z .from-0);
         low = omega (arith, low-at, low-next, x .low-next);
         to-high = omega (arith, low-next, high-at, x .high-at);

@@ -12,19 +12,22 @@ use Rattle.format.proofs.coding.Lengths.{length-len}
 use Rattle.coding.proofs.Counts.{len-most}
 use Rattle.items.specs.Meet.{levelOf}
 use Rattle.find.specs.declared.Place.{Place}
+use Rattle.find.specs.Places.{Ordered}
 use Rattle.store_coded.proofs.Fronts.{series-long}
 use Rattle.edit_rules.specs.declared.Cut.{Cut}
 use Rattle.edit_rules.specs.declared.Cuts.{Cuts}
-use Rattle.edit_rules.specs.Cuts.{cutPut, cutSize, part, bodySize, packsSize, toPack, headOf, withTwo, withSize, Around, Spans, Small, Putting, putSize, cutBytes}
+use Rattle.edit_rules.specs.Cuts.{cutPut, cutSize, part, bodySize, packsSize, toPack, headOf, withTwo, withSize, Spans, Small, Putting, putSize, cutBytes}
 use Rattle.edit_rules.proofs.Items.{put-long, size-most}
 
 -- ---- as the code counts them
 
-pub around-more : (n m : ℕ) (p : Place) → Around n p → n ≤ m → Around m p
-around-more n m p h l = record {
+pub ordered-more : (n m : ℕ) (p : Place) → Ordered n p → n ≤ m → Ordered m p
+ordered-more n m p h l = record {
   to-packs = h .to-packs;
   to-pack = h .to-pack;
   to-body = h .to-body;
+  to-at = h .to-at;
+  to-next = h .to-next;
   to-last = h .to-last;
   to-tail = h .to-tail;
   to-stop = h .to-stop;
@@ -33,7 +36,7 @@ around-more n m p h l = record {
 
 pub spans-more : {l : Level} (n m : ℕ) (k : Cuts) → Spans l n k → n ≤ m → Spans l m k
 spans-more n m k h l = record {
-  around = around-more n m (k .place) (h .around) l;
+  ordered = ordered-more n m (k .place) (h .ordered) l;
   to-low = h .to-low;
   low = h .low;
   to-high = h .to-high;
@@ -55,7 +58,7 @@ module _ {b : Bool} (p : Place) (n : ℕ) where
 pub cut-few : (c : Cut) → Small c → cutSize c ≤ 16384
 cut-few c h = size-most (c .removal) (c .tag) (c .size) (h .1)
 
-few-bytes : (l : Level) (p : Place) (n : ℕ) → Around 8192 p → n ≤ 40960 → withSize l p n ≤ 57344
+few-bytes : (l : Level) (p : Place) (n : ℕ) → Ordered 8192 p → n ≤ 40960 → withSize l p n ≤ 57344
 unfolding withSize
 few-bytes set p n h l = omega (arith, l)
 few-bytes pack p n h l = omega (arith, h, l, len-most (packsSize p n), len-most n)
@@ -65,7 +68,7 @@ module _ {l : Level} (k : Cuts) (h : Spans l 8192 k) (a : Small (k .lo)) (b : Sm
   body-few = omega (arith, h, cut-few (k .lo) a, cut-few (k .hi) b)
 
   pub put-most : putSize l k ≤ 57344
-  put-most = few-bytes l (k .place) _ (h .around) body-few
+  put-most = few-bytes l (k .place) _ (h .ordered) body-few
 
 -- ---- as the bytes are
 
@@ -80,7 +83,7 @@ module _ (s : List ℕ) where
   pub part-long : (a b : ℕ) → a ≤ b → b ≤ length s → length (part s a b) ≡ b - a
   part-long a b l m = length-take-le (b - a) (drop a s) (rw length-drop (omega arith))
 
-  head-long : (p : Place) → Around (length s) p → (n : ℕ) → length (headOf pack s p n) ≡ p .series + (1 + lenWidth (packsSize p n) + ((p .pack - p .packs) + lenWidth n))
+  head-long : (p : Place) → Ordered (length s) p → (n : ℕ) → length (headOf pack s p n) ≡ p .series + (1 + lenWidth (packsSize p n) + ((p .pack - p .packs) + lenWidth n))
   unfolding headOf toPack
   head-long p h n =
       let a = part-long 0 (p .series) (omega arith) (omega (arith, h)) in
@@ -96,15 +99,15 @@ module _ (s : List ℕ) where
     parts-long =
         let a = part-long (k .place .body) (k .lo .at) (h .to-low) (omega (arith, h)) in
         let b = part-long (k .lo .next) (k .hi .at) (h .to-high) (omega (arith, h)) in
-        let c = part-long (k .hi .next) (k .place .stop) (omega (arith, h)) (h .around .to-end) in
+        let c = part-long (k .hi .next) (k .place .stop) (omega (arith, h)) (h .ordered .to-end) in
         rw (length-append, length-append, length-append, length-append, length-append, a, b, c)
 
   pub with-long : {l : Level} (k : Cuts) → Spans l (length s) k → (i j : List ℕ) → length (withTwo l s k i j) ≡ withSize l (k .place) (bodySize k (length i) (length j))
   unfolding headOf withSize
   with-long {l = set} k h i j = parts-long k h i j ∙ omega (arith, h, h .whole refl)
   with-long {l = pack} k h i j =
-      let a = head-long (k .place) (h .around) (bodySize k (length i) (length j)) in
-      let b = steps (k .hi .next) (k .place .last) (k .place .tail) (k .place .stop) (h .to-last) (h .around .to-tail) (h .around .to-stop) in
+      let a = head-long (k .place) (h .ordered) (bodySize k (length i) (length j)) in
+      let b = steps (k .hi .next) (k .place .last) (k .place .tail) (k .place .stop) (h .to-last) (h .ordered .to-tail) (h .ordered .to-stop) in
       rw (parts-long k h i j, a, b) (regroup _ _ _ _ _ (length i) _ (length j) _ _ _)
 
 module _ {l : Level} {s v w : List ℕ} {k : Cuts} (q : Putting l s k v w) where

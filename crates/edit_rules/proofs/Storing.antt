@@ -14,11 +14,12 @@ use Rattle.format.specs.Calls.{itemOf}
 use Rattle.format.proofs.coding.Lengths.{length-len}
 use Rattle.coding.proofs.Counts.{len-most}
 use Rattle.find.specs.declared.Place.{Place}
+use Rattle.find.specs.Places.{Ordered}
 use Rattle.stores.proofs.Puts.{Puts, puts-then, puts-sized}
 use Rattle.store_coded.specs.Fronts.{seriesFront}
 use Rattle.edit_rules.specs.declared.Cut.{Cut}
 use Rattle.edit_rules.specs.declared.Cuts.{Cuts}
-use Rattle.edit_rules.specs.Cuts.{lastOf, cutPut, cutSize, noCut, oneCut, part, bodySize, packsSize, toPack, headOf, withTwo, Around, Small, Putting, putSize, cutBytes, StoredAt}
+use Rattle.edit_rules.specs.Cuts.{lastOf, cutPut, cutSize, noCut, oneCut, part, bodySize, packsSize, toPack, headOf, withTwo, Small, Putting, putSize, cutBytes, StoredAt}
 use Rattle.edit_rules.proofs.Items.{put-long}
 use Rattle.edit_rules.proofs.Sizes.{spans-more, body-few, low-long, high-long, sizes-are, bytes-long}
 
@@ -51,7 +52,7 @@ abbrev pub Entering : Level → List ℕ → Cuts → List ℕ → List ℕ → 
 Entering l s k v w n o = Putting l s k v w × (putSize l k ≤ length o) × (n ≡ bodySize k (cutSize (k .lo)) (cutSize (k .hi)))
 
 abbrev pub Heading : Level → List ℕ → Place → ℕ → List ℕ → Type 0
-Heading l s p n o = (length s ≤ 8192) × Around (length s) p × (n ≤ 40960) × (length (headOf l s p n) ≤ length o)
+Heading l s p n o = (length s ≤ 8192) × Ordered (length s) p × (n ≤ 40960) × (length (headOf l s p n) ≤ length o)
 
 -- what each step asks, and what all leave
 module _ {l : Level} {s v w : List ℕ} {k : Cuts} {n : ℕ} (o : List ℕ) (g : Entering l s k v w n o) where
@@ -88,7 +89,7 @@ module _ {l : Level} {s v w : List ℕ} {k : Cuts} {n : ℕ} (o : List ℕ) (g :
   pub head-asked : Heading l s (k .place) n o
   head-asked =
       let m = body-few k (spans-more _ 8192 k (q .spans) (q .short)) (q .low-small) (q .high-small) in
-      (q .short, q .spans .around, omega (arith, g .2, m), omega (arith, parts-fit))
+      (q .short, q .spans .ordered, omega (arith, g .2, m), omega (arith, parts-fit))
 
   module _ {a : ℕ} {o₁ : List ℕ} (e₁ : Puts o 0 (headOf l s (k .place) n) a o₁) where
     long₁ : length o₁ ≡ length o
@@ -120,7 +121,7 @@ module _ {l : Level} {s v w : List ℕ} {k : Cuts} {n : ℕ} (o : List ℕ) (g :
 
           module _ {e : ℕ} {o₅ : List ℕ} (e₅ : Puts o₄ d (cutPut (k .hi) w) e o₅) where
             pub rest-asked : (k .hi .next ≤ k .place .stop) × (k .place .stop ≤ length s) × (e + length (part s (k .hi .next) (k .place .stop)) ≤ length o₅)
-            rest-asked = (omega (arith, q .spans), q .spans .around .to-end, omega (arith, parts-fit, e₁ .0, e₂ .0, e₃ .0, e₄ .0, e₅ .0, kept o₄ d j (e₅ .1), long₄))
+            rest-asked = (omega (arith, q .spans), q .spans .ordered .to-end, omega (arith, parts-fit, e₁ .0, e₂ .0, e₃ .0, e₄ .0, e₅ .0, kept o₄ d j (e₅ .1), long₄))
 
             pub all-stored : {r : ℕ} {o₆ : List ℕ} → Puts o₅ e (part s (k .hi .next) (k .place .stop)) r o₆ → StoredAt o 0 (cutBytes l s k v w) r o₆
             unfolding withTwo
@@ -188,7 +189,7 @@ module _ {l : Level} (s : List ℕ) (p : Place) (n : ℕ) (o : List ℕ) where
     unfolding headOf
     head-fits = rw em (omega (arith, simp (length-append, length-len) at (rw e at (g .3))))
 
-    pub to-pack-asked : Around (length s) p × (m ≤ 65536) × (length (toPack s p m) ≤ length o)
+    pub to-pack-asked : Ordered (length s) p × (m ≤ 65536) × (length (toPack s p m) ≤ length o)
     to-pack-asked = (g .1, omega (arith, em, len-most n, g), omega (arith, head-fits))
 
     module _ {a : ℕ} {o₁ : List ℕ} (e₁ : Puts o 0 (toPack s p m) a o₁) where

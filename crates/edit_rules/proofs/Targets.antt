@@ -25,7 +25,7 @@ use Rattle.store_coded.specs.Fronts.{seriesFront}
 use Rattle.find.specs.Spots.{Missed, Hit, hasId}
 use Rattle.find.specs.Places.{SetOf, keptOf, TargetPlaced, packsIn}
 use Rattle.find.proofs.Splices.{on-hit, ask-hit, ask-absent}
-use Rattle.find.proofs.Sets.{theRest, set-bytes, set-long}
+use Rattle.find.proofs.Sets.{theRest, set-bytes}
 use Rattle.find.proofs.Placing as Placing
 use Rattle.edit_rules.specs.declared.Cuts.{Cuts}
 use Rattle.edit_rules.specs.Meet.{editedOf}
@@ -194,15 +194,7 @@ module _ (f : Form) (s : List ℕ) (b : Bytes s) (k : SetOf f s) {id tag : ℕ} 
 
       pub target-spans : Spans pack (length s) q
       target-spans = record {
-        around = record {
-          to-packs = omega (arith, t .packs-at);
-          to-pack = omega (arith, t .pack-at);
-          to-body = omega (arith, t .body-at);
-          to-last = omega (arith, t .last-at);
-          to-tail = omega (arith, t .last-at, t .tail-at, t .body-at, t .pack-at, packs-long);
-          to-stop = omega (arith, t .tail-at, t .packs-at, t .series-at, t .stop-at, entries-long);
-          to-end = omega (arith, t .stop-at, set-long f s b k);
-        };
+        ordered = Placing.target-ordered f s b k t;
         to-low = omega (arith, low-at);
         low = omega (arith, low-at, low-next, x .low-next);
         to-high = omega (arith, low-next, high-at, x .high-at);

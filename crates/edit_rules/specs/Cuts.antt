@@ -11,6 +11,7 @@ use Rattle.format.specs.Packet.{flatItem}
 use Rattle.format.specs.Calls.{itemOf}
 use Rattle.store_coded.specs.Fronts.{seriesFront}
 use Rattle.find.specs.declared.Place.{Place}
+use Rattle.find.specs.Places.{Ordered}
 use Rattle.edit_rules.specs.declared.Cut.{Cut}
 use Rattle.edit_rules.specs.declared.Cuts.{Cuts}
 
@@ -83,19 +84,9 @@ unfoldable pub withSize : Level → Place → ℕ → ℕ
 withSize set p n = n
 withSize pack p n = p .series + 1 + lenWidth (packsSize p n) + packsSize p n + (p .stop - p .tail)
 
--- what stands around a level is in order, within n bytes
-pub record Around (n : ℕ) (p : Place) : Type 0 where
-  pub to-packs : p .series ≤ p .packs
-  pub to-pack : p .packs ≤ p .pack
-  pub to-body : p .pack ≤ p .body
-  pub to-last : p .body ≤ p .last
-  pub to-tail : p .last ≤ p .tail
-  pub to-stop : p .tail ≤ p .stop
-  pub to-end : p .stop ≤ n
-
--- the cuts in order within it; of the set, from its start to its end
+-- the place in order within n bytes, and the cuts within its level; of the set, from its start to its end
 pub record Spans (l : Level) (n : ℕ) (k : Cuts) : Type 0 where
-  pub around : Around n (k .place)
+  pub ordered : Ordered n (k .place)
   pub to-low : k .place .body ≤ k .lo .at
   pub low : k .lo .at ≤ k .lo .next
   pub to-high : k .lo .next ≤ k .hi .at

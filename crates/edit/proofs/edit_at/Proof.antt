@@ -24,7 +24,7 @@ body-size-requires : tie.Need-body-size-requires
 body-size-requires c κs =
     let q = c .before .before .before .pre .0 in
     let h = spans-are q in
-    (q .low-small, h .to-low, h .low, h .to-last, omega (arith, h .around))
+    (q .low-small, h .to-low, h .low, h .to-last, omega (arith, h .ordered))
 
 edited-size-requires : tie.Need-edited-size-requires
 edited-size-requires c κs = size-asked (c .before .before .before .before .pre .0) (c .body-size .ensures)

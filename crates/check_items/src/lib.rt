@@ -174,7 +174,8 @@ pub fn pack_walk(
     requires { ⌜ WalkAsked (now table) (now glances) (now s) × SeriesTo (formOf alone) (now s) from ⌝ }
     ensures { λ r. ⌜ (r ≡ seriesWalk (formOf alone) (now (s .entry))) × Within r (length (now (s .entry))) ⌝ }
 {
-    let q = quick_packs::noted(glances, s, alone, from, bits);
+    let noted = quick_packs::noted(glances, s, alone, from, bits);
+    let q = quick_packs::closer::packs(glances, s, alone, noted);
     let mut p = q.at;
     let mut sum = q.sizes;
     let mut top = q.top;

@@ -29,7 +29,7 @@ use Rattle.tally.proofs.Turns.{within-more, going-between}
 use Rattle.tally.proofs.Pieces.{piece-within}
 use Rattle.tally.proofs.ItemTurns.{ItemAt, EntryTold, item-told, series-told, good-small, entry-bad, entry-more}
 use Rattle.tally.proofs.Begins.{begun-later}
-use Rattle.quick_items.proofs.Glances.{met-item}
+use Rattle.quick_items.proofs.Glances.{Headed, value-size, met-item}
 use Rattle.check_packet.specs.Meet.{HeadIf}
 use Rattle.check_packet.specs.Sets.{SeriesNext}
 
@@ -74,19 +74,20 @@ module _ {f : Form} {s : List ℕ} {p : ℕ} {sum : Sizes} {held top low tag u w
   -- ---- it is the checksum, and ends the set
 
   module _ (alone : isAlone f ≡ true) (next : (0 < p) × (1 < low) × (tag ≡ 1) × (n ≡ 2)) (end : p + u + w + n ≡ length s) where
+    seal-head : Headed true s p 1 u w 2
+    seal-head = record { it = heads.Whole 1 u w 2; told = head-as 1 2 (next .2) (next .3); is = refl }
+
     seal-item : ItemAt true f s p sum held top low 1 (u + w) 2 2
     unfolding mayStand
     seal-item = met-item (record {
       going = i .going;
       here = head-told .0;
       meets = record {
-        it = heads.Whole 1 u w 2;
-        told = head-as 1 2 (next .2) (next .3);
-        is = refl;
+        head = seal-head;
         some = omega arith;
         stands = rw (alone, eq-eqb (u + w + 2) (length (drop p s)) (omega (arith, length-drop p s, end, next .3)));
-        allowed = λ v e _. seal-value v e .0;
-        shortest = λ v e _. seal-value v e .1;
+        allowed = seal-value _ (value-size seal-head) .0;
+        shortest = ap length (seal-value _ (value-size seal-head) .1) ∙ value-size seal-head;
         begins = begun-later true f p 1 (next .0);
       };
       new = inr (inr (next .1));
@@ -136,6 +137,9 @@ module _ {f : Form} {s : List ℕ} {q : Stage} {from next : ℕ} (i : SeriesAt f
       let l = head-within s (q .at) 101 (j .used) (j .width) (j .size) (j .here, j .head) in
       (omega (arith, j .next-is), omega (arith, l, j .from-is, j .next-is))
 
+  series-head : Headed true s (q .at) 101 (i .series .used) (i .series .width) (i .series .size)
+  series-head = let j = i .series in record { it = heads.Whole 101 (j .used) (j .width) (j .size); told = j .head; is = refl }
+
   series-item : ItemAt true f s (q .at) (q .sizes) (q .held) (q .top) (q .low) 101 (i .series .used + i .series .width) (i .series .size) (i .series .size)
   unfolding mayStand
   series-item =
@@ -144,13 +148,11 @@ module _ {f : Form} {s : List ℕ} {q : Stage} {from next : ℕ} (i : SeriesAt f
         going = i .going;
         here = j .here;
         meets = record {
-          it = heads.Whole 101 (j .used) (j .width) (j .size);
-          told = j .head;
-          is = refl;
+          head = series-head;
           some = j .some;
           stands = refl;
-          allowed = λ v e _. series-value v (omega (arith, e, j .some)) .0;
-          shortest = λ v e _. series-value v (omega (arith, e, j .some)) .1;
+          allowed = series-value _ (omega (arith, value-size series-head, j .some)) .0;
+          shortest = ap length (series-value _ (omega (arith, value-size series-head, j .some)) .1) ∙ value-size series-head;
           begins = begun-later true f (q .at) 101 (j .later);
         };
         new = inr (inl (j .new));

@@ -99,3 +99,10 @@ module _ (s : List ℕ) (b : ℕ) (e : b ≡ getD s 0 0) (p : 0 < length s) (q :
   pub len-whole : (n : ℕ) → 128 < b → b ≤ 132 → b - 128 ≤ length s - 1 → n ≡ bytesNumber (take (b - 128) (take (length s - 1) (drop 1 s))) → ok (got n (b - 128 + 1)) ≡ lenOf s
   len-whole n h j c z =
       rw (z, tail-part 1 s, add-one) (sym (large ∙ long-whole (b - 128) (drop 1 s) (omega arith) (omega arith) (rw length-drop c)))
+
+-- two bytes, of which the first says that there is one more
+pub len-two : (s : List ℕ) {b : ℕ} → b ≡ getD s 0 0 → b ≡ 129 → 2 ≤ length s → {n : ℕ} → n ≡ getD s 1 0 → ok (got n 2) ≡ lenOf s
+len-two s {b = b} e h p {n = n} en =
+    let one : bytesNumber (take 0 (drop 1 s)) * 256 + getD (drop 1 s) 0 0 ≡ bytesNumber (take 1 (drop 1 s)) = number-more (drop 1 s) 0 (omega (arith, length-drop 1 s, p)) in
+    let value : n ≡ bytesNumber (take 1 (take (length s - 1) (drop 1 s))) = rw tail-part (omega (arith, none (drop 1 s), one, getD-drop 1 s 0 0, en)) in
+    len-whole s 129 (sym h ∙ e) (omega arith) (omega arith) n (omega arith) (omega arith) (omega arith) value

@@ -6,7 +6,7 @@ ghost use lib.ListN.{length, take};
 ghost use Rattle.format.specs.Coding.{bytesNumber, lenOf, oidGo, oid, tagOf, idOf};
 ghost use Rattle.format.specs.Lists.{same};
 ghost use Rattle.format.specs.Packet.{theKey, checksum};
-ghost use Rattle.coding.specs.Code.{numOf};
+ghost use Rattle.coding.specs.Code.{numOf, LenIf};
 
 // A value and how many bytes it took; or the number of a refusal, which stands where the reading began.
 pub enum Num {
@@ -66,6 +66,24 @@ pub fn len_of(s: &[u8]) -> Num
     }
     let value = number_of(&s[1..], k);
     Num::Value { value, used: k + 1 }
+}
+
+// The same for a length in one byte or two, with no loop over its bytes. It knows neither longer ones nor any refusal: one says nothing.
+pub fn closer_len(s: &[u8]) -> Num
+    ensures { λ r. ⌜ LenIf r (now (s .entry)) ⌝ }
+{
+    if s.len() < 2 {
+        return Num::Refused(0);
+    }
+    let b = wide(s[0]);
+    if b < 128 {
+        return Num::Value { value: b, used: 1 };
+    }
+    if b != 129 {
+        return Num::Refused(0);
+    }
+    let value = wide(s[1]);
+    Num::Value { value, used: 2 }
 }
 
 // Seven bits more at the low end.

@@ -14,7 +14,7 @@ use Rattle.format.specs.Table.{Level, isSet}
 use Rattle.format.specs.Read.{headOf, packHead}
 use Rattle.format.proofs.words.Bytes.{bytes-drop}
 use Rattle.format.proofs.bounds.Packets.{head-room, pack-head-room}
-use Rattle.coding.specs.Code.{numOf}
+use Rattle.coding.specs.Code.{numOf, LenIf}
 use Rattle.coding.specs.declared.Num.{Num}
 use Rattle.coding.specs.declared.Num.the-variants.{Value, Refused}
 use Rattle.coding.proofs.Lens.{len-small}
@@ -114,6 +114,20 @@ item-head-short l s t n et en z th nh room =
     seal-short : (b : Bool) → false ≡ not (not b || true)
     seal-short true = refl
     seal-short false = refl
+
+-- a tag in one byte, and b is what a closer look at the length says
+module _ (s : List ℕ) {t : ℕ} (et : t ≡ getD s 0 0) (z : 0 < t) (th : t < 128) (some : 0 < length s) {b : Num} (eb : LenIf b (take (length s - 1) (drop 1 s))) {n w : ℕ} (tb : b ≡ Value n w) where
+  length-said : numOf (Value n w) ≡ lenOf (take (length s - 1) (drop 1 s))
+  length-said = subst (λ b. LenIf b (take (length s - 1) (drop 1 s))) tb eb
+
+  tag-said : numOf (Value t 1) ≡ tagOf s
+  tag-said = tag-one s some t et th z
+
+  pub closer-room : Bytes s → 1 + w ≤ length s
+  closer-room = item-from-room s {a = Value t 1} tag-said refl {b = Value n w} length-said refl
+
+  pub closer-whole : (l : Level) {x : Bool} → x ≡ not (not (isSet l && eqb t 1) || eqb w 1) → x ≡ false → 1 + w ≤ length s → n ≤ length s - (1 + w) → itemHeadOf (Whole t 1 w n) ≡ headOf l s
+  closer-whole = item-head-whole s {a = Value t 1} tag-said refl {b = Value n w} length-said refl
 
 pub item-head-if : (s : List ℕ) {h : Head} {k u w n : ℕ} → h ≡ Whole k u w n → ItemHeadIf h s → ItemHeadIf (Whole k u w n) s
 item-head-if s e t = subst (λ h. ItemHeadIf h s) e t

@@ -34,6 +34,11 @@ abbrev pub ItemHeadIf : Head → List ℕ → Type 0
 ItemHeadIf (Whole k u w n) s = (l : Level) → itemHeadOf (Whole k u w n) ≡ headOf l s
 ItemHeadIf (Fault n) s = Unit {0}
 
+-- the same, of one level
+abbrev pub LevelHeadIf : Level → Head → List ℕ → Type 0
+LevelHeadIf l (Whole k u w n) s = itemHeadOf (Whole k u w n) ≡ headOf l s
+LevelHeadIf l (Fault n) s = Unit {0}
+
 -- the same, at a pack's length in one byte and its id in one or two
 abbrev pub PackHeadIf : Head → List ℕ → Type 0
 PackHeadIf (Whole k u w n) s = (packHeadOf (Whole k u w n) ≡ packHead s) × (w ≡ 1) × (n < 128) × (u ≤ 2)

@@ -5,7 +5,7 @@ ghost use lib.Dec.{eqb};
 ghost use Rattle.format.specs.Table.{isSet};
 ghost use Rattle.format.specs.Read.{headOf, packHead};
 ghost use Rattle.items.specs.Meet.{levelOf};
-ghost use Rattle.heads.specs.Meet.{faultOf, itemHeadOf, packHeadOf, ItemHeadIf, PackHeadIf, peek, Peeked};
+ghost use Rattle.heads.specs.Meet.{faultOf, itemHeadOf, packHeadOf, ItemHeadIf, LevelHeadIf, PackHeadIf, peek, Peeked};
 use coding::Num;
 
 // What heads an item or a pack: its key, how many bytes the key and the length take, and the length.
@@ -121,6 +121,45 @@ pub fn quick_item_head(s: &[u8], set: bool) -> Head
     Head::Whole {
         key,
         used,
+        width,
+        size,
+    }
+}
+
+// A closer look, at a tag in one byte and a length in one or two: in place of `item_head` where item after item is read so. It knows neither longer
+// ones nor any refusal: a fault says nothing.
+pub fn closer_item_head(s: &[u8], set: bool) -> Head
+    ensures { λ r. ⌜ LevelHeadIf (levelOf set) r (now (s .entry)) ⌝ }
+{
+    if s.len() < 3 {
+        return Head::Fault(0);
+    }
+    let key = coding::wide(s[0]);
+    if key == 0 {
+        return Head::Fault(0);
+    }
+    if 127 < key {
+        return Head::Fault(0);
+    }
+    let b = coding::closer_len(&s[1..]);
+    let Num::Value {
+        value: n,
+        used: width,
+    } = b
+    else {
+        return Head::Fault(0);
+    };
+    if long_seal(set, key, width) {
+        return Head::Fault(0);
+    }
+    let from = 1 + width;
+    let size = n as usize;
+    if s.len() - from < size {
+        return Head::Fault(0);
+    }
+    Head::Whole {
+        key,
+        used: 1,
         width,
         size,
     }

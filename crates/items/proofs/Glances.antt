@@ -21,11 +21,11 @@ use Rattle.items.proofs.Tests.{need-so, first-some, short-first, offset
 
 -- ---- for each number below k
 
-abbrev below : ℕ → (ℕ → Bool) → Bool
+abbrev pub below : ℕ → (ℕ → Bool) → Bool
 below zero p = true
 below (suc k) p = p k && below k p
 
-below-at : (k : ℕ) (p : ℕ → Bool) → below k p ≡ true → (i : ℕ) → i < k → p i ≡ true
+pub below-at : (k : ℕ) (p : ℕ → Bool) → below k p ≡ true → (i : ℕ) → i < k → p i ≡ true
 below-at zero p h i l = absurd (omega arith)
 below-at (suc k) p h i l =
     let (here, rest) = and-both (p k) (below k p) h in
@@ -37,7 +37,7 @@ below-at (suc k) p h i l =
 
 -- ---- the table's bits
 
-abbrev rowAt : Bool → ℕ → ℕ
+abbrev pub rowAt : Bool → ℕ → ℕ
 rowAt b tag = glanceRow (levelOf b) tag (ruleOf (levelOf b) tag)
 
 -- a length whose bit is set in a row that is not below the least is allowed, by a rule for bytes unless the uppermost bit is set too; and its tag may
@@ -61,12 +61,12 @@ no-pixel bytes e = refl
 no-pixel num e = absurd (no-bool (sym e))
 no-pixel pixel e = absurd (no-bool (sym e))
 
-or-true : (a : Bool) → (a || true) ≡ true
+pub or-true : (a : Bool) → (a || true) ≡ true
 or-true true = refl
 or-true false = refl
 
 module _ (r : Rule) (v : List ℕ) (long : 0 < length v) (fits : sized r (length v) ≡ true) where
-  passes : notPixel (r .kind) || ltb 0 (bytesNumber v) ≡ true → valued r v ≡ ok tt
+  pub passes : notPixel (r .kind) || ltb 0 (bytesNumber v) ≡ true → valued r v ≡ ok tt
   unfolding valued need
   passes e = need-so _ _ _ fits ∙ rw e
 
@@ -97,7 +97,7 @@ quick-as {first = first} {y = y} h q = record {
     on : (z : ℕ) → As y z → As first z
     on z g = ⊎-elim inl (λ s. ⊎-elim (λ e. absurd (omega (arith, s, e))) inr g) h
 
-implied : (a b : Bool) → not a || b ≡ true → a ≡ true → b ≡ true
+pub implied : (a b : Bool) → not a || b ≡ true → a ≡ true → b ≡ true
 implied true b e h = e
 implied false b e h = no-bool h
 
@@ -165,6 +165,9 @@ module _ (b a : Bool) (tag n first : ℕ) (small : tag ≤ mostTag b) (high : le
           plainly rule v long fits (not-true _ (rw (le-ltb 0 (row / 2 ^ 31) low) at (holds .2)))
       go false z = briefly rule v long fits (λ y. ⊎-elim (eqb-false first 0 z) (λ h. omega (arith, h, y)) f)
 
+  pub glanced-sized : sized rule n ≡ true
+  glanced-sized = holds .1
+
   pub glanced-quick : (tag < 128) × (n < 128) × Glanced (levelOf b) (formOf a) tag n first
   glanced-quick = (
     omega (arith, small, most-few b),
@@ -201,6 +204,14 @@ module _ (row n first : ℕ) where
     pub fits-so : (row / 2 ^ n % 2 ≡ 0 → ⊥) → leb (row / 2 ^ 31) first ≡ rowTells row n first
     unfolding rowTells
     fits-so have = rw (lt-ltb n 30 few, ne-eqb (row / 2 ^ n % 2) 0 have)
+
+-- a row that tells a length whatever the value begins with
+pub row-any : (row n : ℕ) → rowTells row n 1 ≡ true → row / 2 ^ 31 ≡ 0 → true ≡ rowTells row n 0
+unfolding rowTells
+row-any row n g z =
+    let (few, e) = and-both (ltb n 30) (bit row n && leb (row / 2 ^ 31) 1) g in
+    let (have, _) = and-both (bit row n) (leb (row / 2 ^ 31) 1) e in
+    rw (few, have, z)
 
 -- ---- a tag that is not listed
 

@@ -1,3 +1,4 @@
+pub mod Looks
 pub mod Glances
 pub mod Rows
 pub mod Tests

@@ -122,7 +122,7 @@ unfolding number
 number-pos acc [] h = h
 number-pos acc (b ∷ s) h = number-pos (acc * 256 + (b - 0)) s (omega arith)
 
-zeros-some : (s : List ℕ) → (zeros s ≡ length s → ⊥) → 0 < bytesNumber s
+pub zeros-some : (s : List ℕ) → (zeros s ≡ length s → ⊥) → 0 < bytesNumber s
 unfolding number zeros
 zeros-some [] h = absurd (h refl)
 zeros-some (zero ∷ s) h = zeros-some s (λ e. h (ap suc e))

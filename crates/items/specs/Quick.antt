@@ -37,3 +37,12 @@ pub record Glanced (l : Level) (f : Form) (tag n first : ℕ) : Type 0 where
   pub stands : (last : Bool) → mayStand l f tag last ≡ true
   pub allowed : (v : List ℕ) → length v ≡ n → As first (getD v 0 0) → valued (ruleOf l tag) v ≡ ok tt
   pub shortest : (v : List ℕ) → length v ≡ n → As first (getD v 0 0) → short (ruleOf l tag) v ≡ v
+
+-- an item with this tag and value meets the rules for one item wherever it may begin, and n bytes are its value's shortest form
+pub record Looked (l : Level) (f : Form) (tag : ℕ) (v : List ℕ) (n : ℕ) : Type 0 where
+  pub some : 0 < length v
+  pub no-series : isSet l && eqb tag 101 ≡ false
+  pub no-seal : isSet l && eqb tag 1 ≡ false
+  pub stands : (last : Bool) → mayStand l f tag last ≡ true
+  pub allowed : valued (ruleOf l tag) v ≡ ok tt
+  pub shortest : length (short (ruleOf l tag) v) ≡ n

@@ -5,7 +5,7 @@ ghost use mathlib.Core.Path.{_≡_};
 ghost use Prim.Native.Nat.{_<_};
 ghost use mathlib.Core.Bool.{true};
 ghost use Rattle.items.specs.Meet.{formOf, levelOf, glanceTable};
-ghost use Rattle.items.specs.Quick.{Glanced, rowTells, leastRow, beyond};
+ghost use Rattle.items.specs.Quick.{Glanced, Looked, rowTells, leastRow, beyond};
 
 // A row for each tag, of a pack, then of the set: two bits, then bit by bit the lengths below 30 that are told so, none of what no record may
 // name. The two bits: 3 a number or a pixel, which at a glance may not begin with 0; 0 an offset, which may stand in embedded only; 1 any other.
@@ -123,13 +123,51 @@ pub fn is_glanced(glances: &[u32], set: bool, alone: bool, tag: u64, n: u64, fir
     fits(row, n, first)
 }
 
-// What an item laid out alike has to begin its value with, beside one that is told so: 0 anything, 1 the same byte or any but 0.
+// What an item laid out alike has to begin its value with, beside one that is told so: 0 anything, 1 the same byte or any but 0. Asked of one that was
+// told, only the uppermost bit of its row is left to read.
 pub fn first_mask(glances: &[u32], set: bool, alone: bool, tag: u64, n: u64) -> u8
     requires { ⌜ now glances ≡ glanceTable ⌝ }
     ensures { λ r. ⌜ (r ≡ 0 → Glanced (levelOf set) (formOf alone) tag n 0) ⌝ }
 {
-    if is_glanced(glances, set, alone, tag, n, 0) {
+    if super::most_tag(set) < tag {
+        if is_other(set, tag, n) {
+            return 0;
+        }
+        return 1;
+    }
+    let row = super::row_at(glances, set, tag);
+    if row < least_row(alone) {
+        return 1;
+    }
+    if !fits(row, n, 1) {
+        return 1;
+    }
+    (row >> 31) as u8
+}
+
+// A closer look, at the value: the bytes of its shortest form, where an item with this tag and value meets the rules for one item wherever it may
+// begin. Zeros may stand before a number, if that is not 0. 0 says nothing.
+pub fn closer_size(glances: &[u32], set: bool, alone: bool, tag: u64, v: &[u8]) -> usize
+    requires { ⌜ now glances ≡ glanceTable ⌝ }
+    ensures { λ r. ⌜ (0 < r → (tag < 128) × (r < 128) × Looked (levelOf set) (formOf alone) tag (now (v .entry)) r) ⌝ }
+{
+    let size = v.len();
+    let n = size as u64;
+    if super::most_tag(set) < tag {
+        if is_other(set, tag, n) {
+            return size;
+        }
         return 0;
     }
-    1
+    let row = super::row_at(glances, set, tag);
+    if row < least_row(alone) {
+        return 0;
+    }
+    if !fits(row, n, 1) {
+        return 0;
+    }
+    if row >> 31 == 0 {
+        return size;
+    }
+    size - super::leading(v)
 }

@@ -45,7 +45,7 @@ module _ {b : Bool} {f : Form} {s : List ℕ} {p : ℕ} {sum : Sizes} {held top 
   plain-item = met-item (record {
     going = i .going;
     here = i .here;
-    meets = quick-meets (rw tail-part at (i .told)) (i .is) quick (i .plain .begins);
+    meets = quick-meets (record { it = i .it; told = rw tail-part at (i .told); is = i .is }) quick (i .plain .begins);
     new = i .plain .new;
     bytes = i .bytes;
     most = i .most;

@@ -16,6 +16,7 @@ use Rattle.items.specs.Meet.{levelOf}
 use Rattle.items.specs.Quick as items
 use Rattle.items.proofs.Tests.{standing-0}
 use Rattle.items.proofs.Glances.{as-same}
+use Rattle.items.proofs.Looks.{looked-glanced}
 use Rattle.format.specs.Lists.{has}
 use Rattle.heads.specs.declared.Head.{Head}
 use Rattle.heads.specs.Meet.{itemHeadOf, peek, Past}
@@ -34,7 +35,7 @@ use Rattle.tally.proofs.Pieces.{piece-within, piece-whole}
 use Rattle.tally.proofs.ItemTurns.{ItemAt, level-is, item-told, entry-more}
 
 -- one more such item
-quick-plus : (l : Level) (tag n count p : ℕ) → isSet l && eqb tag 1 ≡ false → tag < 128 → n < 128
+pub quick-plus : (l : Level) (tag n count p : ℕ) → isSet l && eqb tag 1 ≡ false → tag < 128 → n < 128
     → toldSizes (count + 1) (p + 2 + n) ≡ plusSizes (toldSizes count p) (itemSizes l tag n)
 unfolding itemSizes
 quick-plus l tag n count p z th nh =
@@ -71,64 +72,81 @@ glance-from b f s p top {tag = tag} {n = n} et en above here h q = (
   },
 )
 
--- an item that meets its rules by its head and its first byte, under any head
-pub record Meets (b : Bool) (f : Form) (s : List ℕ) (p tag u w n : ℕ) : Type 0 where
+-- ---- an item that meets its rules, under any head
+
+-- the value of the item at p
+abbrev pub valueAt : List ℕ → ℕ → ℕ → ℕ → ℕ → List ℕ
+valueAt s p u w n = take (u + w + n - (u + w)) (drop (u + w) (drop p s))
+
+-- its head, as the code has read it
+pub record Headed (b : Bool) (s : List ℕ) (p tag u w n : ℕ) : Type 0 where
   pub it : Head
   pub told : itemHeadOf it ≡ headOf (levelOf b) (drop p s)
   pub is : it ≡ heads.Whole tag u w n
+
+-- m bytes are its value's shortest form
+pub record Meets (b : Bool) (f : Form) (s : List ℕ) (p tag u w n m : ℕ) : Type 0 where
+  pub head : Headed b s p tag u w n
   pub some : 0 < n
   pub stands : mayStand (levelOf b) f tag (eqb (u + w + n) (length (drop p s))) ≡ true
-  pub allowed : (v : List ℕ) → length v ≡ n → getD v 0 0 ≡ getD s (p + (u + w)) 0 → valued (ruleOf (levelOf b) tag) v ≡ ok tt
-  pub shortest : (v : List ℕ) → length v ≡ n → getD v 0 0 ≡ getD s (p + (u + w)) 0 → short (ruleOf (levelOf b) tag) v ≡ v
+  pub allowed : valued (ruleOf (levelOf b) tag) (valueAt s p u w n) ≡ ok tt
+  pub shortest : length (short (ruleOf (levelOf b) tag) (valueAt s p u w n)) ≡ m
   pub begins : Begun b f p tag
 
--- one that is told at a glance
-pub quick-meets : {b : Bool} {f : Form} {s : List ℕ} {p tag u w n : ℕ} {h : Head} → itemHeadOf h ≡ headOf (levelOf b) (drop p s) → h ≡ heads.Whole tag u w n
-    → items.Glanced (levelOf b) f tag n (getD s (p + (u + w)) 0) → Begun b f p tag → Meets b f s p tag u w n
-quick-meets {h = h} told is q begins = record { it = h; told = told; is = is; some = q .some; stands = q .stands _; allowed = λ v e h. q .allowed v e (as-same _ _ h); shortest = λ v e h. q .shortest v e (as-same _ _ h); begins = begins }
-
-module _ {b : Bool} {f : Form} {s : List ℕ} {p tag u w n : ℕ} (i : Meets b f s p tag u w n) where
-  abbrev value : List ℕ
-  value = take (u + w + n - (u + w)) (drop (u + w) (drop p s))
-
-  value-is : value ≡ take n (drop (u + w) (drop p s))
+module _ {b : Bool} {s : List ℕ} {p tag u w n : ℕ} (h : Headed b s p tag u w n) where
+  value-is : valueAt s p u w n ≡ take n (drop (u + w) (drop p s))
   value-is = mid-part (u + w) n (drop p s)
 
-  value-size : length value ≡ n
-  value-size = ap length value-is ∙ length-take-le n (drop (u + w) (drop p s)) (rw length-drop (omega (arith, piece-within (drop p s) (levelOf b) (i .told) (i .is))))
+  pub value-size : length (valueAt s p u w n) ≡ n
+  value-size = ap length value-is ∙ length-take-le n (drop (u + w) (drop p s)) (rw length-drop (omega (arith, piece-within (drop p s) (levelOf b) (h .told) (h .is))))
 
-  value-head : getD value 0 0 ≡ getD s (p + (u + w)) 0
-  value-head =
+  value-head : 0 < n → getD (valueAt s p u w n) 0 0 ≡ getD s (p + (u + w)) 0
+  value-head some =
       ap (λ v. getD v 0 0) value-is
-      ∙ getD-take n _ 0 0 (i .some)
+      ∙ getD-take n _ 0 0 some
       ∙ getD-drop (u + w) (drop p s) 0 0
       ∙ getD-drop p s (u + w + 0) 0
       ∙ ap (λ i. getD s i 0) (omega arith)
 
-  pub quick-piece : {top low : ℕ} → ((seen : List ℕ) → Past (peek false false b) s p top low seen → false ≡ has tag seen)
-      → (seen : List ℕ) → Past (peek false false b) s p top low seen → piece.Whole tag (u + w) n n ≡ pieceOf (levelOf b) (item (levelOf b) f seen (drop p s))
-  quick-piece new seen past =
-      piece-whole (drop p s) (levelOf b) (i .told) (i .is) f seen
-      (λ e. omega (arith, i .some))
-      {j = 0} (standing-0 (levelOf b) f seen tag _ (new seen past) (sym (i .stands)) (eqb p 0) (sym (past .first)) (sym (i .begins)))
-      refl refl
-      {m = 0} (sym (i .allowed value value-size value-head)) refl
-      (sym (ap length (i .shortest value value-size value-head) ∙ value-size))
+  -- one that a look at its value tells
+  pub looked-meets : {f : Form} {m : ℕ} → items.Looked (levelOf b) f tag (valueAt s p u w n) m → Begun b f p tag → Meets b f s p tag u w n m
+  looked-meets q begins = record {
+    head = h;
+    some = omega (arith, q .some, value-size);
+    stands = q .stands _;
+    allowed = q .allowed;
+    shortest = q .shortest;
+    begins = begins;
+  }
+
+  -- one that is told at a glance
+  pub quick-meets : {f : Form} → items.Glanced (levelOf b) f tag n (getD s (p + (u + w)) 0) → Begun b f p tag → Meets b f s p tag u w n n
+  quick-meets q = looked-meets (looked-glanced (valueAt s p u w n) value-size (as-same _ _ (value-head (q .some))) q)
+
+pub quick-piece : {b : Bool} {f : Form} {s : List ℕ} {p tag u w n m : ℕ} → Meets b f s p tag u w n m → {top low : ℕ} → ((seen : List ℕ) → Past (peek false false b) s p top low seen → false ≡ has tag seen)
+    → (seen : List ℕ) → Past (peek false false b) s p top low seen → piece.Whole tag (u + w) n m ≡ pieceOf (levelOf b) (item (levelOf b) f seen (drop p s))
+quick-piece {b = b} {f = f} {s = s} {p = p} {tag = tag} i new seen past =
+    piece-whole (drop p s) (levelOf b) (i .head .told) (i .head .is) f seen
+    (λ e. omega (arith, i .some))
+    {j = 0} (standing-0 (levelOf b) f seen tag _ (new seen past) (sym (i .stands)) (eqb p 0) (sym (past .first)) (sym (i .begins)))
+    refl refl
+    {m = 0} (sym (i .allowed)) refl
+    (sym (i .shortest))
 
 -- such an item, where the walk goes on, if its tag is told to be new
-pub record MetAt (b : Bool) (f : Form) (s : List ℕ) (p : ℕ) (sum : Sizes) (held top low tag u w n : ℕ) : Type 0 where
+pub record MetAt (b : Bool) (f : Form) (s : List ℕ) (p : ℕ) (sum : Sizes) (held top low tag u w n m : ℕ) : Type 0 where
   pub going : LevelGoing b f s p sum held top low
   pub here : p < length s
-  pub meets : Meets b f s p tag u w n
+  pub meets : Meets b f s p tag u w n m
   pub new : New p top low tag
   pub bytes : Bytes s
   pub most : length s ≤ 8192
 
-pub met-item : {b : Bool} {f : Form} {s : List ℕ} {p : ℕ} {sum : Sizes} {held top low tag u w n : ℕ} → MetAt b f s p sum held top low tag u w n → ItemAt b f s p sum held top low tag (u + w) n n
-met-item {tag = tag} {u = u} {w = w} {n = n} i = record {
+pub met-item : {b : Bool} {f : Form} {s : List ℕ} {p : ℕ} {sum : Sizes} {held top low tag u w n m : ℕ} → MetAt b f s p sum held top low tag u w n m → ItemAt b f s p sum held top low tag (u + w) n m
+met-item {tag = tag} {u = u} {w = w} {n = n} {m = m} i = record {
   going = i .going;
   here = i .here;
-  it = piece.Whole tag (u + w) n n;
+  it = piece.Whole tag (u + w) n m;
   told = quick-piece (i .meets) (new-key (i .new));
   whole = refl;
   bytes = i .bytes;
@@ -148,7 +166,7 @@ module _ {b : Bool} {f : Form} {s : List ℕ} {p top n : ℕ} (g : ItemGlanced b
       let et : tag ≡ getD (drop p s) 0 0 = sym (getD-drop p s 0 0 ∙ ap (λ i. getD s i 0) (omega arith)) in
       let en : n ≡ getD (drop 1 (drop p s)) 0 0 = g .size-is ∙ sym (getD-drop 1 (drop p s) 0 0 ∙ getD-drop p s 1 0) in
       let room : 1 + 1 + n ≤ length (drop p s) = rw length-drop (omega (arith, g .room)) in
-      let i : Meets b f s p tag 1 1 n = quick-meets (item-head-short (levelOf b) (drop p s) tag n et en z th nh room) refl (g .quick) (g .begins) in
+      let i : Meets b f s p tag 1 1 n n = quick-meets (record { it = heads.Whole tag 1 1 n; told = item-head-short (levelOf b) (drop p s) tag n et en z th nh room; is = refl }) (g .quick) (g .begins) in
       quick-piece i λ seen q. sym (q .under tag (g .above))
 
   -- x is the tag as the code read it

@@ -1,2 +1,3 @@
 pub mod Glances
+pub mod Looks
 pub mod Beyond

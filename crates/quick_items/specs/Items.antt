@@ -1,15 +1,18 @@
--- Items told at a glance, and items that may stand where they do whatever their value.
+-- Items told at a glance, items that may stand where they do whatever their value, and items told by a closer look.
 use mathlib.Core.Path.{_≡_}
 use Prim.Native.Nat.{ℕ, _+_, _*_, _-_, _≤_, _<_}
-use mathlib.Core.Bool.{Bool, true}
+use mathlib.Core.Bool.{Bool, true, false, _&&_}
 use mathlib.Core.List.{List}
 use lib.ListN.{length, getD}
-use Rattle.format.specs.Table.{Form}
+use lib.Dec.{eqb}
+use Rattle.format.specs.Table.{Form, isSet}
 use Rattle.items.specs.Meet.{levelOf}
 use Rattle.items.specs.Quick as items
+use Rattle.tally.specs.declared.Piece.{Piece}
+use Rattle.tally.specs.declared.Piece.the-variants as piece
 use Rattle.tally.specs.declared.Sizes.{Sizes}
 use Rattle.tally.specs.Meet.{sizes}
-use Rattle.tally.specs.Going.{Begun, New}
+use Rattle.tally.specs.Going.{Begun, New, ItemRead}
 
 -- how far such an item may begin, and what begins the level may
 abbrev pub Span : Bool → Form → List ℕ → ℕ → Type 0
@@ -40,3 +43,16 @@ pub record Plain (b : Bool) (f : Form) (p top low tag n : ℕ) : Type 0 where
   pub new : New p top low tag
   pub begins : Begun b f p tag
   pub beyond : items.beyond b tag ≡ true
+
+-- an item that a closer look tells at p: its value begins at from and has size bytes, small in shortest form
+pub record Closer (b : Bool) (f : Form) (s : List ℕ) (p top low tag from size small : ℕ) : Type 0 where
+  pub read : ItemRead b f s p top low (piece.Whole tag from size small)
+  pub tag-few : tag < 128
+  pub short-few : small < 128
+  pub no-series : isSet (levelOf b) && eqb tag 101 ≡ false
+  pub no-seal : isSet (levelOf b) && eqb tag 1 ≡ false
+
+-- such an item, or nothing
+abbrev pub CloserIf : Bool → Form → List ℕ → ℕ → ℕ → ℕ → Piece → Type 0
+CloserIf b f s p top low (piece.Whole tag from size small) = Closer b f s p top low tag from size small
+CloserIf b f s p top low (piece.Fault n) = Unit {0}

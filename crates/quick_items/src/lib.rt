@@ -110,7 +110,7 @@ pub fn glance_items(glances: &[u32], s: &[u8], set: bool, alone: bool) -> Stage
 // ---- on from there
 
 // Whether a key is told to be new without a look back: no key before p is above top or below low.
-fn is_new(p: usize, top: u64, low: u64, key: u64) -> bool
+pub fn is_new(p: usize, top: u64, low: u64, key: u64) -> bool
     ensures { λ r. ⌜ (r ≡ true → New p top low key) ⌝ }
 {
     if top < key {
@@ -172,3 +172,5 @@ pub fn onward(s: &[u8], set: bool, alone: bool, q: Stage) -> Stage
     }
     tally::stages::stage_at(p, sum, q.held, top, low)
 }
+
+pub mod closer; // closer.rt: items told by a closer look

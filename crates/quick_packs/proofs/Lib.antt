@@ -1,3 +1,4 @@
 pub mod Alikes
 pub mod Models
 pub mod Fresh
+pub mod ToldPacks

@@ -311,3 +311,4 @@ pub fn lone(glances: &[u32], s: &[u8], alone: bool) -> Stage
 }
 
 pub mod bounds; // bounds.rt: the bounds of the ids, and whether one more is new
+pub mod closer; // closer.rt: packs told by a closer look

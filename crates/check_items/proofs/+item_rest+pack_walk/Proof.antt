@@ -41,6 +41,7 @@ use Rattle.tally.proofs.weights.plus.Reads as plus-reads
 use Rattle.quick_items.proofs.onward.Reads as onward-reads
 use Rattle.quick_packs.proofs.packs.Reads as packs-reads
 use Rattle.quick_packs.proofs.noted.Reads as noted-reads
+use Rattle.quick_packs.proofs.closer.packs.Reads as closer-packs-reads
 use Rattle.quick_items.proofs.glance_items.Reads as glance-items-reads
 use Rattle.tally.proofs.series_of.Reads as series-of-reads
 use Rattle.tally.proofs.smaller.Reads as smaller-reads
@@ -104,6 +105,8 @@ abbrev pack-claims : ℕ → pack-walk-lts.Claims
 pack-claims t = (
   noted-reads.Asked,
   noted-reads.Learnt,
+  closer-packs-reads.Asked,
+  closer-packs-reads.Learnt,
   quick-pack-head-reads.Asked,
   quick-pack-head-reads.Learnt,
   piece-fault-reads.Asked,
@@ -315,7 +318,7 @@ module _ (t : ℕ) where
   Pack-turn = pack-walk-lts.At-loop (pack-claims t) (pack-walk-at t) pack-walk.Post pack-walk-Inv-loop pack-walk-μ-loop
 
   abbrev pack-start : Pack-turn → pack-walk-lts.Start (pack-claims t) (pack-walk-at t) pack-walk.Post pack-walk-Inv-loop pack-walk-μ-loop
-  pack-start u = u .before .before .before .before .before .before .before
+  pack-start u = u .before .before .before .before .before .before .before .before
 
   abbrev pack-lent : Pack-turn → List ℕ
   pack-lent u = pack-start u .args .s .now
@@ -372,7 +375,7 @@ module _ (t : ℕ) where
     it = a .before .before .quick-pack-head .result;
     told = a .before .before .quick-pack-head .ensures;
     is = a .h .given .1;
-    bytes = λ i. pack-turn a .before .before .before .before .shared-slice-known3 .given i .fits;
+    bytes = λ i. pack-turn a .before .before .before .before .before .shared-slice-known3 .given i .fits;
     most = pack-start (pack-turn a) .pre .1 .0 .most;
   }
 
@@ -383,8 +386,11 @@ module _ (t : ℕ) where
   pack-walk-noted-requires : pack-walk-lts.Need-noted-requires (pack-claims t) (pack-walk-at t) pack-walk.Post pack-walk-Inv-loop pack-walk-μ-loop
   pack-walk-noted-requires c κs = let (asked, going) = c .before .before .before .before .pre .1 in (asked .rows, asked .most, going)
 
+  pack-walk-packs-requires : pack-walk-lts.Need-packs-requires (pack-claims t) (pack-walk-at t) pack-walk.Post pack-walk-Inv-loop pack-walk-μ-loop
+  pack-walk-packs-requires c κs = let asked = c .before .before .before .before .before .pre .1 .0 in (asked .rows, asked .most, c .noted .ensures)
+
   pack-walk-loop-holds : pack-walk-lts.Need-loop-holds (pack-claims t) (pack-walk-at t) pack-walk.Post pack-walk-Inv-loop pack-walk-μ-loop
-  pack-walk-loop-holds c = (c .before .noted .ensures, clear-none _ _)
+  pack-walk-loop-holds c = (c .before .packs .ensures, clear-none _ _)
 
   pack-walk-sub-quick-pack-head : pack-walk-lts.Need-sub-quick-pack-head (pack-claims t) (pack-walk-at t) pack-walk.Post pack-walk-Inv-loop pack-walk-μ-loop
   pack-walk-sub-quick-pack-head c = search needs
@@ -535,7 +541,7 @@ pub +item-rest+pack-walk-spec : {M : Type 1} → statement M
     (item-rest-later-requires t) (item-rest-returns-2 t) (item-rest-plus-requires t) (item-rest-after-requires t) (item-rest-larger-requires t)
     (item-rest-smaller-requires t) (item-rest-loop-less t) (item-rest-loop-again t) (item-rest-returns-3 t))
     (λ t. pack-walk-lts.spec (pack-claims t) (pack-walk-at t) pack-walk.Post pack-walk-Inv-loop pack-walk-μ-loop
-    (pack-walk-noted-requires t) (pack-walk-loop-holds t) (pack-walk-sub-quick-pack-head t) (pack-walk-part-quick-pack-head-start t) (pack-walk-part-quick-pack-head-end t)
+    (pack-walk-noted-requires t) (pack-walk-packs-requires t) (pack-walk-loop-holds t) (pack-walk-sub-quick-pack-head t) (pack-walk-part-quick-pack-head-start t) (pack-walk-part-quick-pack-head-end t)
     (pack-walk-quick-pack-head-requires t) (pack-walk-enum-known-h t) (pack-walk-enum-told t) (pack-walk-piece-fault-requires t) (pack-walk-stop-requires t) (pack-walk-returns t)
     (pack-walk-is-seen-requires t) (pack-walk-returns-2 t) (pack-walk-add-from t) (pack-walk-add-from-2 t) (pack-walk-add-next t) (pack-walk-add-next-2 t) (pack-walk-sub-items t)
     (pack-walk-part-items-start t) (pack-walk-part-items-end t) (pack-walk-glance-items-requires t) (pack-walk-item-rest-requires t) (pack-walk-enum-known-w t) (pack-walk-enum-told-2 t)

@@ -95,7 +95,7 @@ pub fn item_walk(
         s,
         set,
         alone,
-        quick_items::glance_items(glances, s, set, alone),
+        quick_items::closer::level(glances, s, set, alone),
         bits,
     )
 }

@@ -152,9 +152,9 @@ pub fn closer_item_head(s: &[u8], set: bool) -> Head
     if long_seal(set, key, width) {
         return Head::Fault(0);
     }
-    let from = 1 + width;
+    let at = 1 + width;
     let size = n as usize;
-    if s.len() - from < size {
+    if s.len() - at < size {
         return Head::Fault(0);
     }
     Head::Whole {

@@ -78,3 +78,19 @@ pub fn items(glances: &[u32], s: &[u8], set: bool, alone: bool) -> Stage
     }
     stages::stage_at(p, super::told_sizes(count, normal), held, top, low)
 }
+
+// A level's items as far as they are told either way: at a glance, or if that does not tell all, by a closer look. What that costs is lost if it does not
+// tell all either, so no long level is looked at.
+pub fn level(glances: &[u32], s: &[u8], set: bool, alone: bool) -> Stage
+    requires { ⌜ (now glances ≡ glanceTable) × (length (now s) ≤ 8192) ⌝ }
+    ensures { λ r. ⌜ LevelTo set (formOf alone) (now (s .entry)) r ⌝ }
+{
+    let q = super::glance_items(glances, s, set, alone);
+    if q.at == s.len() {
+        return q;
+    }
+    if 255 < s.len() {
+        return q;
+    }
+    items(glances, s, set, alone)
+}

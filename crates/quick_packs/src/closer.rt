@@ -1,14 +1,27 @@
-// Packs told by a closer look, from where the quick ways over a series ended: their lengths and ids may have any number of bytes, and ids may rise or
-// fall; their items are told as `quick_items::closer` tells them. What stops it is left to the walk.
+// A closer look at packs of up to 255 bytes, from where the quick way over a series ended: lengths and ids may have any number of bytes, ids may rise or
+// fall, and the items are told as `quick_items::closer` tells them. It does not know whatever else may stand there, nor any refusal: what stops it is
+// left to the walk.
 ghost use mathlib.Core.Path.{_≡_};
 ghost use Prim.Native.Nat.{_≤_};
+ghost use mathlib.Core.Bool.{true};
 ghost use lib.ListN.{length};
 ghost use Rattle.items.specs.Meet.{formOf, glanceTable};
-ghost use Rattle.tally.specs.Going.{SeriesTo};
+ghost use Rattle.tally.specs.Going.{SeriesTo, New};
 use heads::Head;
 use tally::stages;
 use tally::stages::Stage;
 
+// Whether a pack of so many bytes is worth the look, its id told to be new. What a look at a longer one costs is lost if it does not tell all.
+fn is_worth(size: usize, p: usize, top: u64, low: u64, key: u64) -> bool
+    ensures { λ r. ⌜ (r ≡ true → New p top low key) ⌝ }
+{
+    if 255 < size {
+        return false;
+    }
+    quick_items::is_new(p, top, low, key)
+}
+
+// These packs, one after another.
 pub fn packs(glances: &[u32], s: &[u8], alone: bool, q: Stage) -> Stage
     requires { ⌜ (now glances ≡ glanceTable) × (length (now s) ≤ 8192) × SeriesTo (formOf alone) (now s) q ⌝ }
     ensures { λ r. ⌜ SeriesTo (formOf alone) (now (s .entry)) r ⌝ }
@@ -28,7 +41,7 @@ pub fn packs(glances: &[u32], s: &[u8], alone: bool, q: Stage) -> Stage
         else {
             return stages::stage_at(p, sum, 0, top, low);
         };
-        if !quick_items::is_new(p, top, low, key) {
+        if !is_worth(size, p, top, low, key) {
             return stages::stage_at(p, sum, 0, top, low);
         }
         let from = p + width + used;

@@ -55,8 +55,8 @@ sub-if5 c =
     (omega (arith, a .before .before .before .before .if1 .left)) (b .before .before .closer-len .ensures) (b .b .given .1)
     (λ i. a .before .before .before .shared-slice-known2 .given i .fits)
 
-add-from : tie.Need-add-from
-add-from c = omega (arith, sub-if5 c)
+add-at : tie.Need-add-at
+add-at c = omega (arith, sub-if5 c)
 
 returns-6 : tie.Need-returns-6
 returns-6 c = search needs
@@ -87,7 +87,7 @@ closer-item-head-spec =
     returns-4
     long-seal-requires
     returns-5
-    add-from
+    add-at
     sub-if5
     returns-6
     returns-7)

@@ -85,7 +85,7 @@ room : (a : Head-read) → (turn a .loop .p + width a + size a ≤ length (lent 
 room a = (head-room (here a), head-stood (here a) .body, start (turn a) .pre .1)
 
 new : (e : Id-new) → New (turn (head e) .loop .p) (turn (head e) .loop .top) (turn (head e) .loop .low) (id (head e))
-new e = e .before .is-new .ensures (not-false _ (e .if1 .left))
+new e = e .before .is-worth .ensures (not-false _ (e .if1 .left))
 
 told : (o : Items-told) → let a = head (id-new o) in
     PackTold (formOf (start (turn a) .args .alone)) (lent (turn a)) (turn a .loop .p) (turn a .loop .sum) (turn a .loop .top) (turn a .loop .low) (id a) (used a) (width a) (size a) (stage o)
@@ -125,8 +125,8 @@ stage-at-requires c κs = search needs
 returns : tie.Need-returns Inv-loop μ-loop
 returns c = rw (c .stage-at .ensures) (c .before .before .before .before .before .before .loop .inv)
 
-is-new-requires : tie.Need-is-new-requires Inv-loop μ-loop
-is-new-requires c κs = search needs
+is-worth-requires : tie.Need-is-worth-requires Inv-loop μ-loop
+is-worth-requires c κs = search needs
 
 stage-at-requires-2 : tie.Need-stage-at-requires-2 Inv-loop μ-loop
 stage-at-requires-2 c κs = search needs
@@ -217,7 +217,7 @@ packs-spec =
     enum-told
     stage-at-requires
     returns
-    is-new-requires
+    is-worth-requires
     stage-at-requires-2
     returns-2
     add-from

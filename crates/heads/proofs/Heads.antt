@@ -104,17 +104,6 @@ module _ (s : List ℕ) {b : Num} (eb : numOf b ≡ lenOf s) where
 
 -- ---- heads with a byte for the length, and one for the key, or two for an id
 
-pub item-head-short : (l : Level) (s : List ℕ) (t n : ℕ) → t ≡ getD s 0 0 → n ≡ getD (drop 1 s) 0 0 → 0 < t → t < 128 → n < 128 → 1 + 1 + n ≤ length s
-    → itemHeadOf (Whole t 1 1 n) ≡ headOf l s
-item-head-short l s t n et en z th nh room =
-    let long : 0 < length (drop 1 s) = rw length-drop (omega arith) in
-    let eb : numOf (Value n 1) ≡ lenOf (take (length s - 1) (drop 1 s)) = rw tail-part (len-small (drop 1 s) n en long nh) in
-    item-head-whole s {a = Value t 1} (tag-one s (omega arith) t et th z) refl {b = Value n 1} eb refl l {x = false} (seal-short (isSet l && eqb t 1)) refl (omega arith) (omega arith)
-  where
-    seal-short : (b : Bool) → false ≡ not (not b || true)
-    seal-short true = refl
-    seal-short false = refl
-
 -- a tag in one byte, and b is what a closer look at the length says
 module _ (s : List ℕ) {t : ℕ} (et : t ≡ getD s 0 0) (z : 0 < t) (th : t < 128) (some : 0 < length s) {b : Num} (eb : LenIf b (take (length s - 1) (drop 1 s))) {n w : ℕ} (tb : b ≡ Value n w) where
   length-said : numOf (Value n w) ≡ lenOf (take (length s - 1) (drop 1 s))
@@ -128,6 +117,18 @@ module _ (s : List ℕ) {t : ℕ} (et : t ≡ getD s 0 0) (z : 0 < t) (th : t < 
 
   pub closer-whole : (l : Level) {x : Bool} → x ≡ not (not (isSet l && eqb t 1) || eqb w 1) → x ≡ false → 1 + w ≤ length s → n ≤ length s - (1 + w) → itemHeadOf (Whole t 1 w n) ≡ headOf l s
   closer-whole = item-head-whole s {a = Value t 1} tag-said refl {b = Value n w} length-said refl
+
+-- the length in one byte too
+pub item-head-short : (l : Level) (s : List ℕ) (t n : ℕ) → t ≡ getD s 0 0 → n ≡ getD (drop 1 s) 0 0 → 0 < t → t < 128 → n < 128 → 1 + 1 + n ≤ length s
+    → itemHeadOf (Whole t 1 1 n) ≡ headOf l s
+item-head-short l s t n et en z th nh room =
+    let long : 0 < length (drop 1 s) = rw length-drop (omega arith) in
+    let said : numOf (Value n 1) ≡ lenOf (take (length s - 1) (drop 1 s)) = rw tail-part (len-small (drop 1 s) n en long nh) in
+    closer-whole s et z th (omega arith) {b = Value n 1} said refl l {x = false} (seal-short (isSet l && eqb t 1)) refl (omega arith) (omega arith)
+  where
+    seal-short : (b : Bool) → false ≡ not (not b || true)
+    seal-short true = refl
+    seal-short false = refl
 
 pub item-head-if : (s : List ℕ) {h : Head} {k u w n : ℕ} → h ≡ Whole k u w n → ItemHeadIf h s → ItemHeadIf (Whole k u w n) s
 item-head-if s e t = subst (λ h. ItemHeadIf h s) e t

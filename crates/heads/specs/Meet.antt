@@ -29,15 +29,14 @@ abbrev pub packHeadOf : Head → Ans Read.PackHead
 packHeadOf (Whole k u w n) = ok (record { width = w; size = n; id = k; used = u })
 packHeadOf (Fault n) = refused n 0
 
--- a look that may say nothing, at an item's head in two bytes
-abbrev pub ItemHeadIf : Head → List ℕ → Type 0
-ItemHeadIf (Whole k u w n) s = (l : Level) → itemHeadOf (Whole k u w n) ≡ headOf l s
-ItemHeadIf (Fault n) s = Unit {0}
-
--- the same, of one level
+-- a look that may say nothing, at an item's head
 abbrev pub LevelHeadIf : Level → Head → List ℕ → Type 0
 LevelHeadIf l (Whole k u w n) s = itemHeadOf (Whole k u w n) ≡ headOf l s
 LevelHeadIf l (Fault n) s = Unit {0}
+
+-- at one of two bytes, which is the same in every level
+abbrev pub ItemHeadIf : Head → List ℕ → Type 0
+ItemHeadIf h s = (l : Level) → LevelHeadIf l h s
 
 -- the same, at a pack's length in one byte and its id in one or two
 abbrev pub PackHeadIf : Head → List ℕ → Type 0

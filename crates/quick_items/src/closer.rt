@@ -1,5 +1,5 @@
-// A closer look at the items of a level, from its start: lengths may have two bytes, zeros may stand before a number, and tags may rise or fall. For
-// who writes lengths of a fixed width, or items in another order. It does not know whatever else may stand there, nor any refusal.
+// A closer look at the items of a level, from its start, with a byte for the tag: lengths may have two bytes, zeros may stand before a number, and tags
+// may rise or fall. For who writes lengths of a fixed width, or items in another order. It does not know whatever else may stand there, nor any refusal.
 ghost use mathlib.Core.Path.{_≡_};
 ghost use Prim.Native.Nat.{_≤_};
 ghost use lib.ListN.{length};

@@ -1,6 +1,7 @@
 // The quick way over a series, from its start: packs of items told at a glance. Most packs of a series are laid out alike, with the same heads
 // at the same places, and such a one is told by one comparison with the last that was walked, its model. It does not know a pack whose length has
-// more than a byte or whose id has more than two, one with an item that is not told at a glance, nor any refusal: what stops it is left to the walks.
+// more than a byte or whose id has more than two, one with an item that is not told at a glance, nor any refusal: what stops it is left to a closer
+// look and the walks.
 ghost use mathlib.Core.Path.{_≡_};
 ghost use mathlib.Core.Bool.{true, false};
 ghost use Prim.Native.Nat.{_+_, _*_, _-_, _≤_, _<_};

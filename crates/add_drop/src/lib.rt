@@ -1,4 +1,6 @@
 // A packet is checked, then written with one target added or dropped. Each way has a module of its own; here is what they share.
+#![tactic(auto)]
+
 ghost use Rattle.std.specs.Prelude.{◌≡◌};
 ghost use Rattle.items.specs.Meet.{form_of};
 ghost use Rattle.write_packet.specs.Meet.{targets_normal};

@@ -1,4 +1,6 @@
 // What the calls answer. Each ends with an answer for every input and every room lent, and a refusal changes nothing that was lent.
+#![tactic(auto)]
+
 ghost use Rattle.std.specs.Prelude.{◌≡◌};
 ghost use Rattle.answers.specs.Meet.{answer_of, refusal_of};
 

@@ -1,4 +1,6 @@
 // The walks that check a packet: one item at a time, the item walk and the pack walk, with the sizes of what they find.
+#![tactic(auto)]
+
 ghost use Rattle.std.specs.Prelude.{◌≡◌, ◌≤◌, false, length};
 ghost use Rattle.items.specs.Meet.{form_of, level_of, item_table, glance_table};
 ghost use Rattle.heads.specs.Meet.{peek, Clear};

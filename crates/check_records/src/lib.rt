@@ -1,4 +1,6 @@
 // The walks that check a sheet: one record at a time, the records of a level and the targets of the series, with the sizes of what they find.
+#![tactic(auto)]
+
 ghost use Rattle.std.specs.Prelude.{◌≡◌, ◌^◌, ◌≤◌, ◌<◌, true, false, length, drop};
 ghost use Rattle.format.specs.Sheet.{TS, is};
 ghost use Rattle.items.specs.Meet.{form_of, level_of, item_table, glance_table};

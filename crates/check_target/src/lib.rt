@@ -1,5 +1,7 @@
 // The records of a target that is to be added: one `TG` and its `TI`s, to the end. What they hold and how many bytes their pack has, or the number of
 // the first refusal.
+#![tactic(auto)]
+
 ghost use Rattle.std.specs.Prelude.{◌≡◌, ◌≤◌, ◌<◌, false, length};
 ghost use Rattle.format.specs.Targets.{new_target};
 ghost use Rattle.items.specs.Meet.{form_of, glance_table};

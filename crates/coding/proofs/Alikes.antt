@@ -1,5 +1,5 @@
 -- Bytes laid out as others are: one more, and a block more.
-use Rattle.std.proofs.Common.{◌≡◌, ℕ, ◌+◌, ◌-◌, ◌<◌, ◌≤◌, Bool, true, false, not, ◌&&◌, ◌||◌, eqb, ltb, ◌⊎◌, List, length, get_or, drop, set, sym, refl, ap, ◌∙◌, inl, inr, ⊎_elim, arith, length-set, get_or-drop, get_or_set_other, get_or-set_same, ltb-false, ltb-true, eqb-true}
+use Rattle.std.proofs.Common.{◌≡◌, ℕ, ◌+◌, ◌-◌, ◌<◌, ◌≤◌, Bool, true, false, not, ◌&&◌, ◌||◌, eqb, ltb, ◌⊎◌, List, length, get_or, drop, set, sym, refl, ap, ◌∙◌, inl, inr, ⊎_elim, arith, length-set, get_or-drop, get_or-set_other, get_or-set_same, ltb-false, ltb-true, eqb-true}
 use borrow.Author.Tests.{eqb-false}
 use Rattle.format.proofs.Words.Answers.{no_bool}
 use Rattle.coding.specs.Alike.{Alike, AlikeTo, ItemMasked}
@@ -62,7 +62,7 @@ head_none l p = record { long = refl; kept = λ j h. refl; head = λ j h. absurd
 pub head_more : {l m : List ℕ} {p i : ℕ} → HeadMasked l m p i → p + i < length l → HeadMasked l (set m (p + i) 2) p (i + 1)
 head_more {l = l} {m = m} {p = p} {i = i} h r = record {
   long = length-set m (p + i) 2 ∙ h.long;
-  kept = λ j g. get_or_set_other m (p + i) j 2 0 (λ e. omega (arith, e, g)) ∙ h.kept j g;
+  kept = λ j g. get_or-set_other m (p + i) j 2 0 (λ e. omega (arith, e, g)) ∙ h.kept j g;
   head = λ j g. go j g (eqb j i) refl;
 }
   where
@@ -70,13 +70,13 @@ head_more {l = l} {m = m} {p = p} {i = i} h r = record {
     go j g true z = let e : j ≡ i = eqb-true j i z in rw e (get_or-set_same m (p + i) 2 0 (omega (arith, r, h.long)))
     go j g false z =
         let n : p + j ≡ p + i → ⊥ = λ e. eqb-false j i z (omega (arith, e)) in
-        get_or_set_other m (p + i) (p + j) 2 0 n ∙ h.head j (let y : j ≡ i → ⊥ = eqb-false j i z in omega (arith, g, y))
+        get_or-set_other m (p + i) (p + j) 2 0 n ∙ h.head j (let y : j ≡ i → ⊥ = eqb-false j i z in omega (arith, g, y))
 
 pub item_masked : {l m : List ℕ} {p i k : ℕ} → HeadMasked l m p i → k ≤ i → p + k < length l → (first : ℕ) → ItemMasked l (set m (p + k) first) p k first
 item_masked {m = m} {p = p} {k = k} h few r first = record {
   long = length-set m (p + k) first ∙ h.long;
-  kept = λ j g. get_or_set_other m (p + k) j first 0 (λ e. omega (arith, e, g)) ∙ h.kept j g;
-  head = λ j g. get_or_set_other m (p + k) (p + j) first 0 (λ e. omega (arith, e, g)) ∙ h.head j (omega (arith, few, g));
+  kept = λ j g. get_or-set_other m (p + k) j first 0 (λ e. omega (arith, e, g)) ∙ h.kept j g;
+  head = λ j g. get_or-set_other m (p + k) (p + j) first 0 (λ e. omega (arith, e, g)) ∙ h.head j (omega (arith, few, g));
   value = get_or-set_same m (p + k) first 0 (omega (arith, r, h.long));
 }
 

@@ -1,4 +1,6 @@
 // The codings of document 01 from the bytes' side: lengths, tags and ids, numbers, the key and the checksum.
+#![tactic(auto)]
+
 ghost use Rattle.std.specs.Prelude.{◌≡◌, ◌+◌, ◌-◌, ◌*◌, ◌%◌, ◌^◌, ◌<◌, ◌≤◌, ◌&&◌, ◌||◌, length, take};
 ghost use Rattle.format.specs.Coding.{bytes_number, len_of, oid_go, oid, tag_of, id_of};
 ghost use Rattle.format.specs.Lists.{same};

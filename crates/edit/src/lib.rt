@@ -1,5 +1,7 @@
 // Edit: a packet is checked and the edit judged, then the packet with its one change is written. Two changes have a module of their own, so that
 // each way is compiled into its caller.
+#![tactic(auto)]
+
 ghost use Rattle.std.specs.Prelude.{◌≡◌, ◌≤◌, length};
 ghost use Rattle.format.specs.Valid.{SheetValid};
 ghost use Rattle.items.specs.Meet.{form_of, level_of, glance_table};

@@ -1,5 +1,7 @@
 // The set's bytes with what the cuts put in place of what they take out: how many, and these, stored into a lent output. Here is what one change
 // and two share; each has its own way to the bytes, so that it is compiled into its caller.
+#![tactic(auto)]
+
 ghost use Rattle.std.specs.Prelude.{◌≡◌, ◌+◌, ◌≤◌, length};
 ghost use Rattle.items.specs.Meet.{level_of};
 ghost use Rattle.find.specs.Places.{Ordered};

@@ -1,5 +1,7 @@
 // One or two items of a packet put or removed: whether they may be, where, and how many bytes of their values are put. Here is what one change
 // and two share. Each is judged in a module of its own, so that it is compiled into its caller.
+#![tactic(auto)]
+
 ghost use Rattle.std.specs.Prelude.{◌≡◌, true, length, get_or};
 ghost use Rattle.items.specs.Meet.{form_of, level_of, glance_table};
 ghost use Rattle.items.specs.Quick.{Glanced};

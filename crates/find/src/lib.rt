@@ -1,4 +1,6 @@
 // The one search, in what was checked: the series, the pack with an id, the item with a tag. Each is one loop over heads, to the first hit.
+#![tactic(auto)]
+
 ghost use Rattle.std.specs.Prelude.{◌≡◌, ◌-◌, ◌≤◌, length};
 ghost use Rattle.format.specs.Table.{Form};
 ghost use Rattle.format.specs.Edit.{target};

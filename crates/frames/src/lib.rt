@@ -1,4 +1,6 @@
 // What opens and closes a packet that is written: the key, the shortest outer length, and the fresh checksum. An embedded packet has none of them.
+#![tactic(auto)]
+
 ghost use Rattle.std.specs.Prelude.{◌≡◌, [], ◌+◌, ◌≤◌, length, take};
 ghost use Rattle.std.proofs.lemmas.List.Edits.{sets};
 ghost use Rattle.items.specs.Meet.{form_of};

@@ -1,4 +1,6 @@
 // What heads an item, a pack or a record.
+#![tactic(auto)]
+
 ghost use Rattle.std.specs.Prelude.{◌≡◌, ◌&&◌, ◌||◌, not, eqb};
 ghost use Rattle.format.specs.Table.{is_set};
 ghost use Rattle.format.specs.Read.{head_of, pack_head};

@@ -1,4 +1,6 @@
 // The constant item table, and the rules for one item: of a set or a pack, in a packet, a sheet or an edit.
+#![tactic(auto)]
+
 ghost use Rattle.std.specs.Prelude.{◌≡◌, ℕ, ◌+◌, ◌≤◌, ◌<◌, ◌||◌, not, List, length, get_or, eqb};
 ghost use Rattle.format.specs.Lists.{has, none?};
 ghost use Rattle.format.specs.Table.{is_alone, is_set, rule_of, nameable, may_stand, standing, sized, is_number, valued, short};

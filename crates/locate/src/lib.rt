@@ -1,4 +1,6 @@
 // Locate: a packet is checked and its rows are counted, then they are written.
+#![tactic(auto)]
+
 ghost use Rattle.std.specs.Prelude.{◌≡◌};
 ghost use Rattle.items.specs.Meet.{form_of};
 ghost use Rattle.locate.specs.Meet.{Locates};

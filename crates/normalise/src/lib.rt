@@ -1,4 +1,6 @@
 // Normalise: a packet is checked and its sizes are added up, then its normal form is written.
+#![tactic(auto)]
+
 ghost use Rattle.std.specs.Prelude.{◌≡◌};
 ghost use Rattle.items.specs.Meet.{form_of};
 ghost use Rattle.answers.specs.Calls.{Normalises};

@@ -1,6 +1,8 @@
 // The quick way over a level, from its start: items told at a glance, with a byte each for tag and length, tags rising; then items that no
 // table lists. It does not know whatever else may stand there, above all the series and the checksum, nor any refusal: what stops it is
 // left to the walks.
+#![tactic(auto)]
+
 ghost use Rattle.std.specs.Prelude.{◌≡◌, true, false, ◌+◌, ◌*◌, ◌≤◌, ◌<◌, length, get_or};
 ghost use Rattle.items.specs.Meet.{form_of, glance_table};
 ghost use Rattle.tally.specs.Going.{LevelTo, New};

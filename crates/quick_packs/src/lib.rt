@@ -2,6 +2,8 @@
 // at the same places, and such a one is told by one comparison with the last that was walked, its model. It does not know a pack whose length has
 // more than a byte or whose id has more than two, one with an item that is not told at a glance, nor any refusal: what stops it is left to a closer
 // look and the walks.
+#![tactic(auto)]
+
 ghost use Rattle.std.specs.Prelude.{◌≡◌, true, false, ◌+◌, ◌*◌, ◌-◌, ◌≤◌, ◌<◌, length};
 ghost use Rattle.items.specs.Meet.{form_of, glance_table};
 ghost use Rattle.tally.specs.Going.{SeriesTo, stage_at};

@@ -1,4 +1,6 @@
 // Read: a packet is checked and its sizes are added up, then its sheet is written.
+#![tactic(auto)]
+
 ghost use Rattle.std.specs.Prelude.{◌≡◌, ◌+◌, ◌*◌};
 ghost use Rattle.format.specs.Sheet.{PK, mark_number, form_byte};
 ghost use Rattle.items.specs.Meet.{form_of};

@@ -6,7 +6,7 @@ use native.Mathlib.Nat.{mod-lt}
 use mathlib.Core.Bool.{Bool, true, false}
 use mathlib.Core.List.{List}
 use lib.ListN.{length, get_or, set, length-set}
-use lib.Seq.{get_or-set_same, get_or_set_other}
+use lib.Seq.{get_or-set_same, get_or-set_other}
 use lib.Dec.{eqb, lit<}
 use lib.Pow.{shl_exact, shl-shr}
 use lib.Bits.{bit_or, or_comm, or_mod, or_shr}
@@ -53,7 +53,7 @@ notes_more l key h = record {
     go k e true t =
         let z : k / 64 ≡ i = eqb-true _ _ t in
         eq-eqb (get_or (set l i w) (k / 64) 0 / 2 ^ (k % 64) % 2) 1 (rw (z, get_or-set_same l i w 0 h) (or_kept (get_or l i 0) m (k % 64) (rw z at (eqb-true (get_or l (k / 64) 0 / 2 ^ (k % 64) % 2) 1 e))))
-    go k e false t = rw (get_or_set_other l i (k / 64) w 0 (eqb-false _ _ t)) e
+    go k e false t = rw (get_or-set_other l i (k / 64) w 0 (eqb-false _ _ t)) e
 
 -- a key that has no bit
 pub notes_same : (l : List ℕ) (key : ℕ) → length l ≤ key / 64 → Noting l l key

@@ -1,4 +1,6 @@
 // Whether a tag or an id stood before: a look back over the heads, made only where one may be found.
+#![tactic(auto)]
+
 ghost use Rattle.std.specs.Prelude.{◌≡◌, ℕ, ◌≤◌, List, length, drop};
 ghost use Rattle.format.specs.Lists.{has};
 ghost use Rattle.heads.specs.Meet.{peek, Heads, Past, Clear};

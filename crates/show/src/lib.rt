@@ -1,4 +1,6 @@
 // Show: the value of an item, as a part of one of two packets that are lent.
+#![tactic(auto)]
+
 ghost use Rattle.std.specs.Prelude.{◌≡◌, true, ℕ};
 ghost use Rattle.format.specs.Show as Show;
 ghost use Rattle.items.specs.Meet.{form_of};

@@ -1,4 +1,6 @@
 // Storing what is coded: a length, a tag or an id, an item under its shortest length, and what stands in front of packs and of items.
+#![tactic(auto)]
+
 ghost use Rattle.std.specs.Prelude.{◌≡◌, ◌+◌, ◌%◌, ◌^◌, ◌≤◌, ◌<◌, length};
 ghost use Rattle.std.proofs.lemmas.List.Edits.{sets};
 ghost use Rattle.format.specs.Coding.{len_width, len_bytes, oid_bytes};

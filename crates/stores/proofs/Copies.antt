@@ -6,7 +6,7 @@ use mathlib.Core.Logic.{◌⊎◌, inl, inr, ⊎_elim}
 use mathlib.Core.List.{List, [], ◌∷◌}
 use native.Mathlib.Omega.{arith}
 use lib.ListN.{length, take, drop, set, get_or, length-drop, length-set}
-use lib.Seq.{sets, length-sets, length-take-le, drop-cons, get_or-drop, get_or-take, get_or-set_same, get_or_set_other, ext_get_or}
+use lib.Seq.{sets, length-sets, length-take-le, drop-cons, get_or-drop, get_or-take, get_or-set_same, get_or-set_other, ext_get_or}
 use lib.Dec.{ltb}
 use borrow.Author.Tests.{ltb-true, ltb-false}
 
@@ -21,7 +21,7 @@ below_or_not m n = go (ltb m n) refl
 
 pub sets_other : (l : List ℕ) (i : ℕ) (xs : List ℕ) (m : ℕ) → ((j : ℕ) → j < length xs → m ≡ i + j → ⊥) → get_or (sets l i xs) m 0 ≡ get_or l m 0
 sets_other l i [] m n = refl
-sets_other l i (x ∷ xs) m n = sets_other (set l i x) (suc i) xs m (λ j h e. n (suc j) (omega arith) (omega arith)) ∙ get_or_set_other l i m x 0 (λ e. n 0 (omega arith) (omega arith))
+sets_other l i (x ∷ xs) m n = sets_other (set l i x) (suc i) xs m (λ j h e. n (suc j) (omega arith) (omega arith)) ∙ get_or-set_other l i m x 0 (λ e. n 0 (omega arith) (omega arith))
 
 sets_in : (l : List ℕ) (i : ℕ) (xs : List ℕ) (m j : ℕ) → m ≡ i + j → j < length xs → m < length l → get_or (sets l i xs) m 0 ≡ get_or xs j 0
 sets_in l i [] m j e h room = absurd (omega arith)

@@ -1,4 +1,6 @@
 // Storing into a lent output. `sets l i vs` is l with vs stored from index i on.
+#![tactic(auto)]
+
 ghost use Rattle.std.specs.Prelude.{◌≡◌, [], ◌∷◌, ◌+◌, ◌≤◌, length, take, drop};
 ghost use Rattle.std.proofs.lemmas.List.Edits.{sets};
 ghost use Rattle.format.specs.Coding.{fixed};

@@ -1,4 +1,6 @@
 // What a walk over a level or a series says: an item that may stand there, the sizes of what was walked, or the first fault.
+#![tactic(auto)]
+
 ghost use Rattle.std.specs.Prelude.{◌≡◌, ◌≤◌, ◌<◌, true, ◌&&◌, eqb};
 ghost use Rattle.format.specs.Table.{alike};
 ghost use Rattle.items.specs.Meet.{form_of, level_of};

@@ -1,5 +1,7 @@
 // What a walk over a sheet's records says, as `tally` has it of a packet's items. Its meaning stands in specs/: one record, a level, the
 // series' targets.
+#![tactic(auto)]
+
 ghost use Rattle.std.specs.Prelude.{◌≡◌, ◌+◌, ◌≤◌, drop};
 ghost use Rattle.items.specs.Meet.{level_of};
 ghost use Rattle.tally.specs.Meet.{Small, Larger};

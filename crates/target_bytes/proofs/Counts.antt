@@ -3,7 +3,7 @@ use mathlib.Core.Path.{◌≡◌, refl, sym, ap, ◌∙◌}
 use mathlib.Core.Logic.{◌⊎◌, inl, inr}
 use Prim.Native.Nat.{ℕ, ◌+◌, ◌/◌, ◌%◌, ◌≤◌, ◌<◌}
 use native.Mathlib.Omega.{arith}
-use mathlib.Core.Bool.{Bool, true, false, and_false}
+use mathlib.Core.Bool.{Bool, true, false, and-false}
 use mathlib.Core.List.{List, [], ◌∷◌, ◌++◌}
 use lib.ListN.{length}
 use lib.Dec.{leb, ltb, eqb}
@@ -41,7 +41,7 @@ value_low n h =
     let a : n / 256 / 256 % 256 ≡ 0 = omega arith in
     let b : n / 256 % 256 ≡ 0 = omega arith in
     let c : n % 256 ≡ n = omega arith in
-    rw (three, a, b, c) (rw (and_false (eqb n 0), strip))
+    rw (three, a, b, c) (rw (and-false (eqb n 0), strip))
 
 value_high : (n : ℕ) → 256 ≤ n → n ≤ 65535 → strip (fixed 3 n) ≡ n / 256 ∷ n % 256 ∷ []
 unfolding strip
@@ -96,7 +96,7 @@ module _ (s : List ℕ) (r : Series) (n a b : ℕ) where
   pub counted_plain : (r.six < a) ⊎ (b ≤ r.six) → counted s r n a b ≡ part s a b
   unfolding counted
   counted_plain (inl h) = rw (lt-leb a r.six h, counted)
-  counted_plain (inr h) = rw (le-ltb r.six b h, and_false (leb a r.six), counted)
+  counted_plain (inr h) = rw (le-ltb r.six b h, and-false (leb a r.six), counted)
 
   pub counted_six : a ≤ r.six → r.six < b → counted s r n a b ≡ part s a r.six ++ (count_item n ++ part s r.after b)
   unfolding counted

@@ -1,4 +1,6 @@
 // The set's bytes with a target added or dropped: how many, and these, stored into a lent output.
+#![tactic(auto)]
+
 ghost use Rattle.std.specs.Prelude.{◌≡◌, ℕ, ◌+◌, ◌≤◌, ◌<◌, length};
 ghost use Rattle.format.specs.Table.{Form};
 ghost use Rattle.find.specs.Series.{InOrder};

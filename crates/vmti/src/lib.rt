@@ -1,4 +1,6 @@
 // The calls as C makes them: one number comes back.
+#![tactic(auto)]
+
 ghost use Rattle.std.specs.Prelude.{◌≡◌, ◌+◌, ◌*◌, ◌≤◌, [], ◌∷◌};
 ghost use Rattle.format.specs.Calls as Calls;
 ghost use Rattle.format.specs.Edit as Edit;

@@ -1,5 +1,7 @@
 // Answers questions on standard input, locate and show, each in a frame. docs/QUESTIONS.md has the format. Numbers go in and out as bytes, and each
 // function is short: what the check of a function costs grows with its statements times its variables.
+#![tactic(auto)]
+
 ghost use Rattle.std.specs.Prelude.{◌≤◌, false, ◌≡◌, length};
 
 use libc::{STDIN_FILENO, STDOUT_FILENO};

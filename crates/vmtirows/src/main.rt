@@ -1,4 +1,6 @@
 // Prints the rows of the packet on standard input: standalone if the key opens it, else embedded.
+#![tactic(auto)]
+
 ghost use Rattle.std.specs.Prelude.{◌*◌, ◌≤◌, length};
 
 use libc::STDOUT_FILENO;

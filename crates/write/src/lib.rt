@@ -1,4 +1,6 @@
 // Write: a sheet is checked and the sizes of its packet are added up, then the packet is written.
+#![tactic(auto)]
+
 ghost use Rattle.std.specs.Prelude.{◌≡◌};
 ghost use Rattle.answers.specs.Calls.{Writes};
 ghost use Rattle.write.specs.Meet.{sheet_refusal};

@@ -1,4 +1,6 @@
 // The entries of a packet's set in normal form, written into a lent output as the item walk and the pack walk go over a packet that was checked.
+#![tactic(auto)]
+
 ghost use Rattle.std.specs.Prelude.{◌≡◌, length};
 ghost use Rattle.items.specs.Meet.{form_of, level_of, item_table, glance_table};
 ghost use Rattle.stores.specs.Puts.{Puts, Fills};

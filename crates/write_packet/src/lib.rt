@@ -1,4 +1,6 @@
 // The entries of a packet's set in normal form, written into a lent output from a sheet that was checked, record by record.
+#![tactic(auto)]
+
 ghost use Rattle.std.specs.Prelude.{◌≡◌, ℕ, ◌+◌, ◌≤◌, ◌<◌, true, false, List, [], ◌∷◌, length, take, drop};
 ghost use Rattle.format.specs.Coding.{bytes_number};
 ghost use Rattle.format.specs.Table.{Form};

@@ -1,4 +1,6 @@
 // A packet's rows, written as numbers, four to a row, into a lent table as the item walk and the pack walk go over a packet that was checked.
+#![tactic(auto)]
+
 ghost use Rattle.std.specs.Prelude.{length};
 ghost use Rattle.format.specs.Table.{Form};
 ghost use Rattle.items.specs.Meet.{level_of};

@@ -1,4 +1,6 @@
 // A packet's sheet, written into a lent output as the item walk and the pack walk go over a packet that was checked.
+#![tactic(auto)]
+
 ghost use Rattle.std.specs.Prelude.{◌≡◌, ℕ, ◌+◌, ◌≤◌, ◌<◌, length, List, ◌∷◌};
 ghost use Rattle.std.proofs.lemmas.List.Edits.{sets};
 ghost use Rattle.format.specs.Coding.{fixed};

@@ -207,7 +207,8 @@ begins_some (e ∷ es) h = past_some tag_of_entry (tag_of_entry e ∷ []) es ref
 seal_along : (es : List Entry) (c : List ℕ) → length c ≡ 2 → Together tag_of_entry (EntryValid standalone) es → Begins standalone (map tag_of_entry es)
     → Along tag_of_entry flat_entry (ReadsAt always tag_of_entry (entry standalone) flat_entry) [] (es ++ (plain (seal_item c) ∷ [])) []
 seal_along es c l h b =
-    along_snoc tag_of_entry flat_entry _ [] es (plain (seal_item c)) [] (entries_read standalone es _ h b)
+    along_snoc tag_of_entry flat_entry (ReadsAt always tag_of_entry (entry standalone) flat_entry) [] es (plain (seal_item c)) []
+    (entries_read standalone es (flat_entry (plain (seal_item c)) ++ []) h b)
     (entry_reads standalone (past tag_of_entry [] es) (plain (seal_item c)) []
     (seal_read (past tag_of_entry [] es) c l (past_has tag_of_entry 1 [] es (unfold has in refl) (no_seals standalone es h.each)) (begins_some es b)))
 

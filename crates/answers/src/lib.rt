@@ -7,7 +7,7 @@ ghost use Rattle.answers.specs.Meet.{answer_of, refusal_of};
 use check_packet::Checked;
 
 // A refusal's number and place; or 0, and how many bytes or rows were written.
-#[derive(Drop)]
+#[derive(Clone, Copy)]
 pub struct Answer {
     pub number: u64,
     pub place: usize,

@@ -12,7 +12,7 @@ use coding::Num;
 use tally::{Sizes, Walked};
 
 // The sizes of what a packet says, and where its set begins; or the refusal.
-#[derive(Drop)]
+#[derive(Clone, Copy)]
 pub enum Checked {
     Fine { sizes: Sizes, from: usize },
     Wrong { number: u64, place: usize },

@@ -26,7 +26,7 @@ fn head_at(s: &[u8], p: usize, byte: u8) -> Head
 }
 
 // Where the packs of the series begin and end.
-#[derive(Drop)]
+#[derive(Clone, Copy)]
 struct Part {
     from: usize,
     next: usize,

@@ -19,7 +19,7 @@ use tally::stages::Stage;
 use tally::{Walked, stages};
 
 // Its form, the bytes of its packet's set but for the checksum, and those of the series' packs; or the refusal.
-#[derive(Drop)]
+#[derive(Clone, Copy)]
 pub enum Sheeted {
     Fine {
         alone: bool,

@@ -14,14 +14,14 @@ use tally::{Piece, Walked};
 
 // The bits of the tags that a target holds, and how many bytes its items have, in their shortest form; more than a packet may have, where
 // there are more. Or the number of a refusal.
-#[derive(Drop)]
+#[derive(Clone, Copy)]
 pub enum Vals {
     Fine { held: u64, normal: usize },
     Wrong(u64),
 }
 
 // The id, those bits, and the bytes of the pack, its length with them; or the number of a refusal.
-#[derive(Drop)]
+#[derive(Clone, Copy)]
 pub enum Told {
     Fine { id: u64, held: u64, size: usize },
     Wrong(u64),

@@ -8,7 +8,7 @@ ghost use Rattle.format.specs.Packet.{the_key, checksum};
 ghost use Rattle.coding.specs.Code.{num_of, LenIf};
 
 // A value and how many bytes it took; or the number of a refusal, which stands where the reading began.
-#[derive(Drop)]
+#[derive(Clone, Copy)]
 pub enum Num {
     Value { value: u64, used: usize },
     Refused(u64),

@@ -16,7 +16,7 @@ use find::Place;
 // ---- what is asked
 
 // An item put or removed.
-#[derive(Drop)]
+#[derive(Clone, Copy)]
 pub struct Change {
     pub tag: u64,
     pub removal: bool,
@@ -24,7 +24,7 @@ pub struct Change {
 
 // What an edit asks for, beside the value's bytes: what holds the item, the set or the target with an id, and the change. A second change is
 // of the same.
-#[derive(Drop)]
+#[derive(Clone, Copy)]
 pub struct Asked {
     pub set: bool,
     pub id: u64,
@@ -34,7 +34,7 @@ pub struct Asked {
 // ---- what is cut
 
 // A span of the set's bytes, and what is put in its place: an item with the last `size` bytes of a value; nothing for a removal.
-#[derive(Drop)]
+#[derive(Clone, Copy)]
 pub struct Cut {
     pub at: usize,
     pub next: usize,
@@ -44,7 +44,7 @@ pub struct Cut {
 }
 
 // Two cuts of one level in order, and what stands around them.
-#[derive(Drop)]
+#[derive(Clone, Copy)]
 pub struct Cuts {
     pub place: Place,
     pub lo: Cut,
@@ -80,7 +80,7 @@ fn no_cut(at: usize) -> Cut
 // ---- a put
 
 // How many bytes of a value are put: those of its shortest form; or 7, 13, 11, 12.
-#[derive(Drop)]
+#[derive(Clone, Copy)]
 pub enum Valued {
     Size(usize),
     Fault(u64),

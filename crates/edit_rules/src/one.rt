@@ -9,7 +9,7 @@ use super::{Asked, Valued, cut_of, ending_fault, no_cut, put_size};
 use find::{Found, Place};
 
 // The place of the item, and how many bytes of the value are put; or the number of a refusal.
-#[derive(Drop)]
+#[derive(Clone, Copy)]
 pub enum Judged {
     Fine { place: Place, size: usize },
     Wrong(u64),

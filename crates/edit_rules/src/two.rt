@@ -11,7 +11,7 @@ use super::{Change, Cut, Cuts, Valued, cut_of, ending_fault, plain_size, put_siz
 use find::{Both, Place};
 
 // The cuts of an edit, `turned` where the second change is the lower; or the number of a refusal.
-#[derive(Drop)]
+#[derive(Clone, Copy)]
 pub enum Judged {
     Fine { cuts: Cuts, turned: bool },
     Wrong(u64),

@@ -12,7 +12,7 @@ use heads::Head;
 
 // In the bytes of a series: where the pack with an id begins, what follows it, and how many packs there are. Where there is no such pack,
 // both are the end.
-#[derive(Drop)]
+#[derive(Clone, Copy)]
 pub struct Packs {
     pub at: usize,
     pub next: usize,
@@ -22,7 +22,7 @@ pub struct Packs {
 // In the bytes of a packet's set: where the series begins, its packs, the pack with an id, what follows that, where the series ends, and the
 // entries, before the checksum; tag 6's item and what follows it; and how many packs there are. Where there is no such pack, it would begin
 // and end at the series' end; no series, at the entries' end, and so tag 6.
-#[derive(Drop)]
+#[derive(Clone, Copy)]
 pub struct Series {
     pub at: usize,
     pub packs: usize,
@@ -36,7 +36,7 @@ pub struct Series {
 }
 
 // A walk that passed some packs of a series: where it stands, and how many.
-#[derive(Drop)]
+#[derive(Clone, Copy)]
 pub struct Run {
     pub at: usize,
     pub count: usize,

@@ -15,7 +15,7 @@ use heads::Head;
 
 // Where something stands: where it begins, where what its length counts begins (an item's value, a pack's id), where its value or
 // its items begin, and what follows it. Where it is not there, all four are the end.
-#[derive(Drop)]
+#[derive(Clone, Copy)]
 pub struct Spot {
     pub at: usize,
     pub body: usize,
@@ -105,7 +105,7 @@ pub fn pack_spot(s: &[u8], id: u64) -> Spot
 // Where an item stands in the bytes of a packet's set. For a target's item: where the series begins, its packs, the pack, the pack's id,
 // the item, its value, what follows it, where the pack ends, the series, and the entries, before the checksum. Where there is no such
 // item, it would begin and end at its level's end. For the set's item all before it are 0, and all that follow are the entries' end.
-#[derive(Drop)]
+#[derive(Clone, Copy)]
 pub struct Place {
     pub series: usize,
     pub packs: usize,
@@ -120,14 +120,14 @@ pub struct Place {
 }
 
 // The place; or that there is no such target.
-#[derive(Drop)]
+#[derive(Clone, Copy)]
 pub enum Found {
     There(Place),
     Nowhere,
 }
 
 // The places of two items of one target; or that there is no such target.
-#[derive(Drop)]
+#[derive(Clone, Copy)]
 pub enum Both {
     There { first: Place, second: Place },
     Nowhere,

@@ -10,7 +10,7 @@ ghost use Rattle.heads.specs.Meet.{fault_of, item_head_of, pack_head_of, ItemHea
 use coding::Num;
 
 // What heads an item or a pack: its key, how many bytes the key and the length take, and the length.
-#[derive(Drop)]
+#[derive(Clone, Copy)]
 pub enum Head {
     Whole {
         key: u64,
@@ -265,7 +265,7 @@ pub fn quick_pack_head(s: &[u8]) -> Head
 // ---- for a look back
 
 // A key and the bytes of all that it heads, none where there is no such thing.
-#[derive(Drop)]
+#[derive(Clone, Copy)]
 pub struct Next {
     pub key: u64,
     pub used: usize,

@@ -54,7 +54,7 @@ fn val_next(s: &[u8]) -> Next
 }
 
 // An item's record: its tag, and the length of its value; or 17.
-#[derive(Drop)]
+#[derive(Clone, Copy)]
 pub enum Field {
     Whole { tag: u64, size: usize },
     Fault(u64),

@@ -110,15 +110,15 @@ and_false true = refl
 and_false false = refl
 
 -- what may stand where nothing ends may stand anywhere
-may_stand : (l : Level) (f : Form) (tag : ℕ) (last : Bool) → may_stand l f tag false ≡ true → may_stand l f tag last ≡ true
+may_stand_lem : (l : Level) (f : Form) (tag : ℕ) (last : Bool) → may_stand l f tag false ≡ true → may_stand l f tag last ≡ true
 unfolding may_stand
-may_stand set f tag false h = h
-may_stand set f tag true h = go (not (eqb tag 1)) h
+may_stand_lem set f tag false h = h
+may_stand_lem set f tag true h = go (not (eqb tag 1)) h
   where
     go : (b : Bool) → b || (is_alone f && false) ≡ true → b || (is_alone f && true) ≡ true
     go true e = refl
     go false e = no_bool (sym (and_false (is_alone f)) ∙ e)
-may_stand pack f tag last h = h
+may_stand_lem pack f tag last h = h
 
 module _ (b a : Bool) (tag n first : ℕ) (small : tag ≤ most_tag b) (high : least_row a ≤ row_at b tag) (g : row_tells (row_at b tag) n first ≡ true) where
   abbrev row : ℕ
@@ -176,7 +176,7 @@ module _ (b a : Bool) (tag n first : ℕ) (small : tag ≤ most_tag b) (high : l
       some = some;
       no_series = rw (ne_eqb tag 101 λ e. omega (arith, small, most_few b)) (and_false (is_set (level_of b)));
       no_seal = not-true _ holds.4;
-      stands = λ last. may_stand (level_of b) (form_of a) tag last holds.3;
+      stands = λ last. may_stand_lem (level_of b) (form_of a) tag last holds.3;
       allowed = λ v e f. (value v e f).0;
       shortest = λ v e f. (value v e f).1;
     },

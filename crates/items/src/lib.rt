@@ -7,7 +7,7 @@ ghost use Rattle.format.specs.Table.{is_alone, is_set, rule_of, nameable, may_st
 ghost use Rattle.items.specs.Meet.{form_of, level_of, rule_from, row_from, most_tag, rows_from, item_table, answer_of, zeros, offsets};
 
 // What a tag's row says: its kind, its least and greatest length.
-#[derive(Drop)]
+#[derive(Clone, Copy)]
 pub struct Rule {
     pub kind: u32,
     pub least: u32,

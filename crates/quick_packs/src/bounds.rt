@@ -3,7 +3,7 @@ ghost use Rattle.std.specs.Prelude.{◌≡◌, true, false};
 ghost use Rattle.quick_packs.specs.Ids.{no_bounds, Bounded, Bounding};
 
 // No id before is above top or below low; whether the last was told to be new.
-#[derive(Drop)]
+#[derive(Clone, Copy)]
 pub struct Bounds {
     pub top: u64,
     pub low: u64,

@@ -14,7 +14,7 @@ use tally::stages::Stage;
 use tally::{Sizes, stages};
 
 // Where a pack's items begin, how many bytes they have, and the pack's rows.
-#[derive(Drop)]
+#[derive(Clone, Copy)]
 pub struct Model {
     pub from: usize,
     pub size: usize,
@@ -135,7 +135,7 @@ fn unmodelled(glances: &[u32], s: &[u8], from: usize, next: usize, alone: bool) 
 }
 
 // The model in use, and how many packs were not laid out as theirs.
-#[derive(Drop)]
+#[derive(Clone, Copy)]
 struct Choice {
     model: Model,
     misses: usize,

@@ -13,7 +13,7 @@ use tally::Sizes;
 use tally::stages::Stage;
 
 // A tag, and where its record ends, which is a sum and so never 0 to the compiler; 0 where no such record stands.
-#[derive(Drop)]
+#[derive(Clone, Copy)]
 pub struct Told {
     pub tag: u64,
     pub next: usize,

@@ -12,7 +12,7 @@ use check_packet::Checked;
 use find::Found;
 
 // Which part of which of the two packets is shown.
-#[derive(Drop)]
+#[derive(Clone, Copy)]
 pub struct Part {
     pub detectors: bool,
     pub offset: usize,
@@ -44,7 +44,7 @@ fn is_showable(set: bool, tag: u64) -> bool
 }
 
 // Where a value stands: whether it is there, its offset from the packet's start, and its length.
-#[derive(Drop)]
+#[derive(Clone, Copy)]
 struct Value {
     there: bool,
     offset: usize,

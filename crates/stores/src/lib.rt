@@ -6,7 +6,7 @@ ghost use Rattle.std.proofs.lemmas.List.Edits.{sets};
 ghost use Rattle.format.specs.Coding.{fixed};
 
 // How many bytes were read, and how many were stored for them.
-#[derive(Drop)]
+#[derive(Clone, Copy)]
 pub struct Passed {
     pub used: usize,
     pub wrote: usize,

@@ -7,7 +7,7 @@ ghost use Rattle.items.specs.Meet.{form_of, level_of};
 ghost use Rattle.tally.specs.Meet.{item_sizes, stop_at, later_by, series_from, bit_of, is_held, ended_by, Larger, Within};
 
 // An item that may stand where it does: its tag, where its value begins, its length, and its shortest length; or the refusal's number.
-#[derive(Drop)]
+#[derive(Clone, Copy)]
 pub enum Piece {
     Whole {
         tag: u64,
@@ -19,7 +19,7 @@ pub enum Piece {
 }
 
 // The bytes in the sheet, the rows, the bytes in normal form, and those of a series' packs.
-#[derive(Drop)]
+#[derive(Clone, Copy)]
 pub struct Sizes {
     pub sheet: usize,
     pub rows: usize,
@@ -30,7 +30,7 @@ pub struct Sizes {
 // ---- walks
 
 // What was walked, with the bits of the tags that it holds, for the rules at its end; or the first fault, from the start of what was walked.
-#[derive(Drop)]
+#[derive(Clone, Copy)]
 pub enum Walked {
     Good { sizes: Sizes, held: u64 },
     Bad { number: u64, place: usize },

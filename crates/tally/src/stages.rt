@@ -5,7 +5,7 @@ ghost use Rattle.tally.specs.Going.{stage_at};
 
 use super::{Sizes, Walked};
 
-#[derive(Drop)]
+#[derive(Clone, Copy)]
 pub struct Stage {
     pub at: usize,
     pub sizes: Sizes,

@@ -89,7 +89,7 @@ fn number_in(k: usize) -> u64
 }
 
 // What heads a frame.
-#[derive(Drop)]
+#[derive(Clone, Copy)]
 struct Head {
     kind: u64,
     alone: bool,

@@ -1,0 +1,43 @@
+-- `items::quick::closer_size` meets its contract: each 0 says nothing.
+use mathlib.Core.Path.{refl, sym, ◌∙◌}
+use mathlib.Core.Logic.{inl}
+use native.Mathlib.Omega.{arith}
+use borrow.Author.Rules.{rules}
+use borrow.Author.Tests.{not-false}
+use Rattle.items.proofs.Rows.{glances_long}
+use Rattle.items.proofs.Glances.{quick_from, quick_other, row_any}
+use Rattle.items.proofs.Looks.{looked_glanced, zeros_most, number_from}
+use Rattle.items.proofs.quick.closer_size.Goals as goal
+
+pub returns-then-is_other : goal.returns-then-is_other
+returns-then-is_other c =
+    let (few, short, q) = quick_other c.args.set _ _ _ 0 c.is_other.ensures c.if-is_other.true in
+    λ _. (few, short, looked_glanced c.args.v.now refl (inl refl) q)
+
+pub returns-then-most_tag-tag : goal.returns-then-most_tag-tag
+returns-then-most_tag-tag c = λ e. absurd (omega (arith, e))
+
+pub row_at-row-requires : goal.row_at-row-requires
+row_at-row-requires c = (glances_long c.requires, rw c.most_tag.ensures at c.if-most_tag-tag.false)
+
+pub returns-then-row-least_row : goal.returns-then-row-least_row
+returns-then-row-least_row c = λ e. absurd (omega (arith, e))
+
+pub returns-then-not-fits : goal.returns-then-not-fits
+returns-then-not-fits c = λ e. absurd (omega (arith, e))
+
+pub returns-then-row-eq0 : goal.returns-then-row-eq0
+returns-then-row-eq0 c =
+    let told = sym c.fits.ensures ∙ not-false _ c.if-not-fits.false-raw in
+    let (few, short, q) = quick_from c.args.set c.args.alone _ (rw c.most_tag.ensures at c.if-most_tag-tag.false) c.least_row.ensures c.requires c.row_at-row.ensures
+    c.if-row-least_row.false (row_any _ _ told c.if-row-eq0.true) refl in
+    λ _. (few, short, looked_glanced c.args.v.now refl (inl refl) q)
+
+pub overflow_sub-result : goal.overflow_sub-result
+overflow_sub-result c =
+    omega (arith, c.leading.ensures, zeros_most c.args.v.now)
+
+pub returns : goal.returns
+returns c =
+    number_from c.args.set c.args.alone _ (rw c.most_tag.ensures at c.if-most_tag-tag.false) c.least_row.ensures c.requires c.row_at-row.ensures
+    c.if-row-least_row.false c.fits.ensures (not-false _ c.if-not-fits.false-raw) c.if-row-eq0.false c.leading.ensures

@@ -1,0 +1,15 @@
+-- `blocks::is_among` meets its contract: after i of the block, the key is among it where it was found or is among the rest.
+use Prim.Native.Nat.{◌-◌}
+use native.Mathlib.Omega.{arith}
+use borrow.Author.Rules.{rules}
+use Rattle.repeats.proofs.Gathers.{AmongLeft, among_start, among_more, among_done}
+use Rattle.repeats.proofs.blocks.is_among.Goals as goal
+
+pub loop-i-init : goal.loop-i-init
+loop-i-init c = among_start _ _
+
+pub loop-i-preserved : goal.loop-i-preserved
+loop-i-preserved c = rw c.either-found.ensures (among_more _ _ _ _ c.loop-i.invariant (omega arith))
+
+pub returns : goal.returns
+returns c = among_done _ _ _ _ c.loop-i.invariant (omega arith)

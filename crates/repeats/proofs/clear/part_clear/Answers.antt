@@ -1,0 +1,43 @@
+-- `clear::part_clear` meets its contract: the loop passes one head after the other, and notes its key.
+use mathlib.Core.Path.{refl, sym}
+use Prim.Native.Nat.{◌-◌}
+use lib.ListN.{length}
+use native.Mathlib.Omega.{arith}
+use borrow.Author.Rules.{rules}
+use Rattle.heads.specs.Meet.{peek}
+use Rattle.heads.proofs.Before.{peek_room}
+use Rattle.repeats.proofs.Clears.{Clearing, clearing_start, clearing_more}
+use Rattle.repeats.proofs.clear.part_clear.Goals as goal
+
+pub loop-q-init : goal.loop-q-init
+loop-q-init c = clearing_start _ _ _ _ refl
+
+pub returns-then-is_other : goal.returns-then-is_other
+returns-then-is_other c = c.loop-q.invariant.clear
+
+pub returns-then-n-eq0 : goal.returns-then-n-eq0
+returns-then-n-eq0 c = c.loop-q.invariant.clear
+
+pub may_stand-requires : goal.may_stand-requires
+may_stand-requires c = c.loop-q.invariant.long
+
+pub returns-then-may_stand : goal.returns-then-may_stand
+returns-then-may_stand c = c.loop-q.invariant.clear
+
+pub note_part-requires : goal.note_part-requires
+note_part-requires c = c.loop-q.invariant.long
+
+pub loop-q-preserved : goal.loop-q-preserved
+loop-q-preserved c =
+    let so_far = c.loop-q.invariant in
+    let unseen = c.may_stand.ensures c.if-may_stand.false in
+    clearing_more _ _ _ _ _ so_far (peek_room _ _ _) _ _ c.next_of-n.ensures (omega (arith, c.if-n-eq0.false)) unseen _ c.note_part.ensures
+
+pub overflow_add-q : goal.overflow_add-q
+overflow_add-q c = omega (arith, (let so_far = c.loop-q.invariant in let unseen = c.may_stand.ensures c.if-may_stand.false in clearing_more _ _ _ _ _ so_far (peek_room _ _ _) _ _ c.next_of-n.ensures (omega (arith, c.if-n-eq0.false)) unseen _ c.note_part.ensures).within, c.well_formed)
+
+pub loop-q-smaller : goal.loop-q-smaller
+loop-q-smaller c = omega (arith, c.if-n-eq0.false, c.loop-q-test.true)
+
+pub returns : goal.returns
+returns c = c.loop-q.invariant.clear

@@ -1,0 +1,13 @@
+-- `repeats::seen_before` meets its contract: the loop passes what heads the first p bytes, one after the other.
+use Prim.Native.Nat.{◌-◌}
+use native.Mathlib.Omega.{arith}
+use borrow.Author.Rules.{rules}
+use Rattle.heads.proofs.Before.{Left, left_start, left_done, left_gone, left_found, left_passed, peek_room}
+use Rattle.heads.specs.Meet.{peek}
+use Rattle.repeats.proofs.seen_before.Given as goal
+
+abbrev pub invariant-loop-q : goal.invariant-loop-q
+invariant-loop-q l = Left (peek l.sheet l.ids l.set) l.s l.p l.key l.q
+
+abbrev pub decreases-loop-q : goal.decreases-loop-q
+decreases-loop-q l = l.p - l.q

@@ -1,0 +1,22 @@
+-- `quick_items::glance_items` meets its contract: each turn is a turn of the item walk. Tags rise, so the first is the lowest. `u` is where a turn
+-- begins, and `e` where an item was told.
+use mathlib.Core.Path.{refl}
+use Prim.Native.Nat.{ℕ, ◌-◌, ◌≤◌, ◌<◌}
+use native.Mathlib.Omega.{arith}
+use mathlib.Core.List.{List}
+use lib.ListN.{length, get_or}
+use borrow.Author.Rules.{rules}
+use Rattle.items.specs.Meet.{form_of}
+use Rattle.tally.specs.Going.{LevelGoing}
+use Rattle.tally.proofs.ItemTurns.{level_start}
+use Rattle.quick_items.specs.Items.{told_sizes, GlancedTo}
+use Rattle.quick_items.proofs.Glances.{glanced_next, glanced_low, glanced_more}
+use Rattle.quick_items.proofs.glance_items.Given as goal
+
+-- past the end nothing is said
+abbrev pub invariant-loop-set : goal.invariant-loop-set
+invariant-loop-set l = (l.p ≤ length l.s → LevelGoing l.set (form_of l.alone) l.s l.p (told_sizes l.count l.p) l.held l.top l.low)
+    × (l.p < length l.s → l.top < get_or l.s l.p 0 → get_or l.s l.p 0 < 128 → l.low ≤ get_or l.s l.p 0)
+
+abbrev pub decreases-loop-set : goal.decreases-loop-set
+decreases-loop-set l = length l.s - l.p

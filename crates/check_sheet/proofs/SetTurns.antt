@@ -24,7 +24,7 @@ use Rattle.tally.proofs.Turns.{told_as, going_between, turn_done}
 use Rattle.tally.proofs.Begins.{begun_later}
 use Rattle.tally_records.specs.Meet.{IsPart, records_walk, targets_walk}
 use Rattle.tally_records.specs.Going.{After}
-use Rattle.tally_records.proofs.Opens.{series_whole, part_series}
+use Rattle.tally_records.proofs.Opens.{series_whole_lem, part_series}
 use Rattle.tally_records.proofs.PartTurns.{ts_room, targets_at, PartAt, PartTold, series_told, part_asks, part_more}
 use Rattle.quick_records.specs.Going.{TargetsPassed}
 use Rattle.check_sheet.specs.Sets.{SetAsked, SeriesNext}
@@ -46,7 +46,7 @@ module _ {f : Form} {glances s : List ℕ} {q : Stage} (k : SetAsked f glances s
   unfolding may_stand
   series_piece_lem seen past =
       part_series f seen (drop q.at s) {b = true} refl {x = is IT (drop q.at s)} refl (ap (is IT) (mark_says TS (drop q.at s) n.marked)) {y = is TS (drop q.at s)} refl n.marked
-      (series_whole f s q.at {x = is TG (drop (q.at + 2) s)} refl seen n.opens 0
+      (series_whole_lem f s q.at {x = is TG (drop (q.at + 2) s)} refl seen n.opens 0
       (standing_0 set f seen 101 true (sym (past.under 101 n.above)) refl (eqb q.at 0) (sym past.first) (sym (begun_later true f q.at 101 n.later))) refl)
 
   pub series_part : PartAt true f s q 101 2 0 0

@@ -24,7 +24,7 @@ use Rattle.items.specs.Meet.{level_of}
 use Rattle.find.specs.declared.Place.{Place}
 use Rattle.find.specs.Spots.{spot_in, Hit, has_id, item_spot, item_lead, entry_lead}
 use Rattle.find.specs.Places.{holder_of, SetOf, kept_of, SetPlaced, TargetPlaced, Placed, Unheld}
-use Rattle.find.proofs.Splices.{ask_hit, hit_spot}
+use Rattle.find.proofs.Splices.{ask_hit_lem, hit_spot}
 use Rattle.edit_rules.specs.declared.Change as told
 use Rattle.edit_rules.specs.declared.Cut.{Cut}
 use Rattle.edit_rules.specs.declared.Cuts.{Cuts}
@@ -35,7 +35,7 @@ use Rattle.edit_rules.specs.Cuts.{item_put, with_two, no_cut, one_cut, low_of, C
 use Rattle.edit_rules.proofs.Levels.{has_spot, alone, made_bytes, one_swap, two_swapped, Two}
 use Rattle.edit_rules.proofs.Items.{put_is, cut_says, no_cut_says}
 use Rattle.edit_rules.proofs.Sets.{set_tags, SetSpot, set_spot, set_stands, set_edits, set_spans}
-use Rattle.edit_rules.proofs.Targets.{target_tags, target_edits, target_spans, none_tags}
+use Rattle.edit_rules.proofs.Targets.{target_tags_lem, target_edits, target_spans, none_tags}
 
 -- ---- what a change puts
 
@@ -62,7 +62,7 @@ item_some i = rw length_item (omega (arith, oid_some i.tag))
 
 module _ {X : Type 0} (hit : X → Bool) {xs ys : List X} (e : ys ≡ xs) (a : Hit hit xs) (b : Hit hit ys) where
   same_it : b.it ≡ a.it
-  same_it = ok_inj _ _ (sym (ask_hit hit b (λ x. ok x)) ∙ ap (ask_hit hit (λ x. ok x)) e ∙ ask_hit hit a (λ x. ok x))
+  same_it = ok_inj _ _ (sym (ask_hit_lem hit b (λ x. ok x)) ∙ ap (ask_hit hit (λ x. ok x)) e ∙ ask_hit_lem hit a (λ x. ok x))
 
   same_before : (flat : X → List ℕ) → length (flat_all flat b.before) ≡ length (flat_all flat a.before)
   same_before flat =
@@ -127,7 +127,7 @@ module _ (f : Form) (s : List ℕ) (b : Bytes s) (k : SetOf f s) where
     pub target_at : (tags_at (target id) (map part_of (kept_of f s)) ≡ ok (map tag_of_item t.items)) × (has tag (map tag_of_item t.items) ≡ ltb p.at p.next)
     target_at =
         let st = has_spot tag_of_item tag flat_item item_lead item_lead item_some t.items (p.body + length (oid_bytes id)) p.at p.next (omega (arith, t.item_at)) (omega (arith, t.next_at)) in
-        (target_tags f s b k a_place t, st)
+        (target_tags_lem f s b k a_place t, st)
 
   pub level_at : (bs : Bool) (id tag : ℕ) → nameable (level_of bs) tag ≡ true → (p : Place) → Placed f (holder_of bs id) tag s p
       → (tags : List ℕ) × (tags_at (holder_of bs id) (map part_of (kept_of f s)) ≡ ok tags) × (has tag tags ≡ ltb p.at p.next)
@@ -166,8 +166,8 @@ module _ (f : Form) (s : List ℕ) (b : Bytes s) (k : SetOf f s) where
   one_at true id c v p n t = one_of_set c v p n t
   one_at false id c v p n t = one_of_target id c v p n t
 
-  pub one_cut : (bs : Bool) (id : ℕ) (c : told.Change) (v : List ℕ) (p : Place) {m : ℕ} → TurnAt f bs id c v s p m → CutAt f bs id (one_of c v ∷ []) s (one_cut p (cut_of c p m)) v v
-  one_cut bs id c v p t = subst (λ x. CutAt f bs id (one_of c v ∷ []) s (one_cut p (cut_of c p x)) v v) (sym t.size_is) (one_at bs id c v p t.named t.placed)
+  pub one_cut_lem : (bs : Bool) (id : ℕ) (c : told.Change) (v : List ℕ) (p : Place) {m : ℕ} → TurnAt f bs id c v s p m → CutAt f bs id (one_of c v ∷ []) s (one_cut p (cut_of c p m)) v v
+  one_cut_lem bs id c v p t = subst (λ x. CutAt f bs id (one_of c v ∷ []) s (one_cut p (cut_of c p x)) v v) (sym t.size_is) (one_at bs id c v p t.named t.placed)
 
   -- ---- two of a target
 

@@ -33,7 +33,7 @@ use Rattle.edit_rules.specs.declared.two.Judged.TheVariants as two
 use Rattle.edit_rules.specs.Cuts.{no_cut}
 use Rattle.edit_rules.specs.Meet.{change_of, one_of, two_of, sheet_of, cut_of, turn_rules, TurnAt, TurnStops, left_by, EndsAs, Stops, OneAs, ended_one, LeftAs, TwoAs, in_order, SetStops, TurnedAs}
 use Rattle.edit_rules.proofs.Sets.{set_tags}
-use Rattle.edit_rules.proofs.Edits.{CutIf, as_asked, turned_round, one_cut, two_cuts}
+use Rattle.edit_rules.proofs.Edits.{CutIf, as_asked, turned_round, one_cut_lem, two_cuts}
 use Rattle.edit_rules.proofs.Rules.{number, turn_is, unnamed}
 
 pub level_is : (b : Bool) (id : ℕ) → Edit.level_of (holder_of b id) ≡ level_of b
@@ -199,7 +199,7 @@ one_left f a v s hb k sv {p = p} {m = m} t (n, en, e) = subst (OneAs f a v s) (s
   where
     go : (n : ℕ) → EndsAs f (level_of a.set) (cut_of a.change p m) (no_cut p.next) n → OneAs f a v s (ended_one n p m)
     go zero en =
-        let (q, r) = one_cut f s hb k a.set a.id a.change v p t in
+        let (q, r) = one_cut_lem f s hb k a.set a.id a.change v p t in
         record { passed = sym (one_ends f a.set a.id a.change a.change v v s t sv 0 p.next en); cutting = q; edited = r }
     go (suc n) en = sym (one_ends f a.set a.id a.change a.change v v s t sv (suc n) p.next en)
 

@@ -25,7 +25,7 @@ use Rattle.store_coded.specs.Fronts.{series_front}
 use Rattle.find.specs.Spots.{Missed, Hit, has_id}
 use Rattle.format.specs.Targets.{packs_in}
 use Rattle.find.specs.Places.{SetOf, kept_of, TargetPlaced}
-use Rattle.find.proofs.Splices.{on_hit, ask_hit, ask_absent}
+use Rattle.find.proofs.Splices.{on_hit_lem, ask_hit_lem, ask_absent}
 use Rattle.find.proofs.Sets.{the_rest, set_bytes}
 use Rattle.find.proofs.Placing as Placing
 use Rattle.edit_rules.specs.declared.Cuts.{Cuts}
@@ -41,7 +41,7 @@ no_pack e = absurd (let z : ◌≡◌ {A = ℕ} 0 1 = cc in omega arith)
 on_flat : {X : Type 0} (hit : X → Bool) (flat : X → List ℕ) (f : X → X) {xs : List X} (a : Hit hit xs)
     → flat_all flat (on_hit hit f xs) ≡ flat_all flat a.before ++ (flat (f a.it) ++ flat_all flat a.later)
 unfolding flat_all
-on_flat hit flat f a = ap (flat_all flat) (on_hit hit a f) ∙ flat_append flat a.before (f a.it ∷ a.later)
+on_flat hit flat f a = ap (flat_all flat) (on_hit_lem hit a f) ∙ flat_append flat a.before (f a.it ∷ a.later)
 
 abbrev len_of : ℕ → List ℕ
 len_of n = len_bytes (len_width n) n
@@ -99,14 +99,14 @@ module _ (f : Form) (s : List ℕ) (b : Bytes s) (k : SetOf f s) {id tag : ℕ} 
 
   -- ---- the tags
 
-  pub target_tags : tags_at (target id) (map part_of (kept_of f s)) ≡ ok (map tag_of_item t.items)
+  pub target_tags_lem : tags_at (target id) (map part_of (kept_of f s)) ≡ ok (map tag_of_item t.items)
   unfolding tags_at target_tags part_of target_of
-  target_tags =
+  target_tags_lem =
       map_ask part_of is_series is_targets part_series (target_tags id) (kept_of f s)
-      ∙ ask_hit is_series t.hit (λ e. target_tags id (part_of e))
+      ∙ ask_hit_lem is_series t.hit (λ e. target_tags id (part_of e))
       ∙ ap (λ e. target_tags id (part_of e)) t.it_is
       ∙ map_ask target_of (has_id id) (λ g. eqb g.id id) (λ q. ap (λ n. eqb n id) (target_id q)) (λ g. ok (map tag_of_val g.vals)) t.ps
-      ∙ ask_hit (has_id id) t.pack_hit (λ q. ok (map tag_of_val (target_of q).vals))
+      ∙ ask_hit_lem (has_id id) t.pack_hit (λ q. ok (map tag_of_val (target_of q).vals))
       ∙ ap (λ q. ok (map tag_of_val (target_of q).vals)) t.pack_is
       ∙ ap ok (map_keys (val_of pack) tag_of_item tag_of_val (val_tag pack) t.items)
 

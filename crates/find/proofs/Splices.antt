@@ -73,13 +73,13 @@ module _ {X : Type 0} (hit : X → Bool) where
     unfolding take_out
     out_hit = ap (take_out hit) a.list_is ∙ out_past a.before (a.it ∷ a.later) a.missed ∙ rw (a.hits, take_out)
 
-    pub on_hit : (f : X → X) → on_hit hit f xs ≡ a.before ++ f a.it ∷ a.later
+    pub on_hit_lem : (f : X → X) → on_hit hit f xs ≡ a.before ++ f a.it ∷ a.later
     unfolding on_hit
-    on_hit f = ap (on_hit hit f) a.list_is ∙ on_past f a.before (a.it ∷ a.later) a.missed ∙ rw (a.hits, on_hit)
+    on_hit_lem f = ap (on_hit hit f) a.list_is ∙ on_past f a.before (a.it ∷ a.later) a.missed ∙ rw (a.hits, on_hit)
 
-    pub ask_hit : {A : Type 0} (g : X → Ans A) → ask_hit hit g xs ≡ g a.it
+    pub ask_hit_lem : {A : Type 0} (g : X → Ans A) → ask_hit hit g xs ≡ g a.it
     unfolding ask_hit
-    ask_hit g = ap (ask_hit hit g) a.list_is ∙ ask_past g a.before (a.it ∷ a.later) a.missed ∙ rw (a.hits, ask_hit)
+    ask_hit_lem g = ap (ask_hit hit g) a.list_is ∙ ask_past g a.before (a.it ∷ a.later) a.missed ∙ rw (a.hits, ask_hit)
 
   module _ (xs : List X) (m : Missed hit xs) where
     pub put_absent : (x : X) → put_in hit x xs ≡ xs ++ (x ∷ [])
@@ -246,8 +246,8 @@ module _ {X : Type 0} (hit : X → Bool) {xs : List X} (ys rest : List X) (e : x
     narrowed a = go (place hit ys)
       where
         go : Hit hit ys ⊎ Missed hit ys → (k : Hit hit ys) × (k.it ≡ a.it) × (spot_in hit flat body from 0 ys ≡ spot_in hit flat body from 0 xs)
-        go (inl k) = (k, ok_inj _ _ (sym (ask_hit hit (grown k) (λ x. ok x)) ∙ ask_hit hit a (λ x. ok x)), sym (grown_spot flat body from k))
-        go (inr none) = never 18 0 a.it (sym (ask_absent hit xs (rw e (all_both (λ x. hit x ≡ false) ys rest none m)) (λ x. ok x)) ∙ ask_hit hit a (λ x. ok x))
+        go (inl k) = (k, ok_inj _ _ (sym (ask_hit_lem hit (grown k) (λ x. ok x)) ∙ ask_hit_lem hit a (λ x. ok x)), sym (grown_spot flat body from k))
+        go (inr none) = never 18 0 a.it (sym (ask_absent hit xs (rw e (all_both (λ x. hit x ≡ false) ys rest none m)) (λ x. ok x)) ∙ ask_hit_lem hit a (λ x. ok x))
 
 -- ---- a list that grows by one
 

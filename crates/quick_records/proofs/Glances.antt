@@ -26,7 +26,7 @@ use Rattle.tally.proofs.ItemTurns.{level_is}
 use Rattle.tally_records.specs.Meet.{piece_by, value_whole, part_piece, more_at}
 use Rattle.tally_records.specs.Going.{RecordsGoing, After}
 use Rattle.quick_records.specs.Going.{RecordGlanced, first_tag, word_of}
-use Rattle.tally_records.proofs.Values.{value_within, value_whole}
+use Rattle.tally_records.proofs.Values.{value_within, value_whole_lem}
 use Rattle.tally_records.proofs.Opens.{part_inner, part_value}
 use Rattle.tally_records.proofs.PartTurns.{item_is_lem, PartAt, item_told, part_more}
 
@@ -168,7 +168,7 @@ module _ {b : Bool} {f : Form} {s : List ℕ} {p top tag n : ℕ} (g : RecordGla
   pub glance_piece : Begun b f p tag → {low : ℕ} (seen : List ℕ) → Past (peek true false b) s p top low seen → piece.Whole tag 6 n n ≡ part_piece (level_of b) f seen (drop p s)
   glance_piece begins seen q =
       mark_piece b f seen (drop p s) g.mark
-      (value_whole (drop p s) (level_of b) g.fields refl f seen
+      (value_whole_lem (drop p s) (level_of b) g.fields refl f seen
       (λ e. omega (arith, g.quick.some))
       {j = 0} (standing_0 (level_of b) f seen tag true (sym (q.under tag g.above)) (sym (g.quick.stands true)) (eqb p 0) (sym q.first) (sym begins))
       refl {rule = rule_of (level_of b) tag} refl

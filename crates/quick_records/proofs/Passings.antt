@@ -10,7 +10,7 @@ use Rattle.tally.specs.Meet.{sizes}
 use Rattle.tally.specs.Going.{stage_at}
 use Rattle.tally.proofs.Turns.{going_wide}
 use Rattle.tally_records.specs.Going.{TargetsGoing}
-use Rattle.tally_records.proofs.Opens.{target_whole}
+use Rattle.tally_records.proofs.Opens.{target_whole_lem}
 use Rattle.tally_records.proofs.TargetTurns.{TargetAt, targets_start}
 use Rattle.quick_packs.specs.declared.Model.{Model}
 use Rattle.quick_packs.specs.declared.bounds.Bounds.{Bounds}
@@ -61,7 +61,7 @@ module _ {alone : Bool} {s bits masks : List ℕ} {p rows normal : ℕ} {b : Bou
         here = omega arith;
         more = i.begins (omega arith);
         it = piece.Whole id 10 0 0;
-        told = λ seen q. target_whole s p seen ten ei (omega arith) ((id_fresh i.noted new).new seen q) refl;
+        told = λ seen q. target_whole_lem s p seen ten ei (omega arith) ((id_fresh i.noted new).new seen q) refl;
         whole = refl;
         bytes = bytes;
         most = most;

@@ -29,7 +29,7 @@ use Rattle.find.specs.declared.Place.{Place}
 use Rattle.find.specs.Spots.{spot_in, Missed, things_of, has_item, has_tag, has_id, entries_of, item_lead, entry_lead, item_spot, entry_spot}
 use Rattle.format.specs.Targets.{packs_in}
 use Rattle.find.specs.Places.{SetOf, kept_of, SetPlaced, TargetPlaced, Placed, Unheld}
-use Rattle.find.proofs.Splices.{ask_hit, grown}
+use Rattle.find.proofs.Splices.{ask_hit_lem, grown}
 use Rattle.find.proofs.Sets.{rest_of, the_rest}
 use Rattle.show.specs.declared.Value.{Value}
 use Rattle.show.specs.Meet.{no_value, value_of}
@@ -168,7 +168,7 @@ target_value f s b k id tag at pos p t =
     let g = grown is_series (kept_of f s) (the_rest f s b k) (rest_of f s k).is t.hit in
     let list : entries_of set f s ≡ g.before ++ series t.width t.ps ∷ g.later = g.list_is ∙ ap (λ y. g.before ++ y ∷ g.later) t.it_is in
     let o : OneSeries (g.before ++ series t.width t.ps ∷ g.later) = subst OneSeries list (one_of f s b (level_run set f s) refl k.ran) in
-    let number = ask_hit is_series t.hit (series_number id) ∙ ap (series_number id) t.it_is in
+    let number = ask_hit_lem is_series t.hit (series_number id) ∙ ap (series_number id) t.it_is in
     let q = t.pack_hit in
     let j : Pack = record { width = t.pack_width; id = id; items = t.items } in
     let first : ℕ = at + length (flat_all flat_entry g.before) + 1 + t.width in

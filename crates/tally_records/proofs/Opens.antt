@@ -48,8 +48,8 @@ module _ (f : Form) (s : List ℕ) (p : ℕ) {x : Bool} (ex : x ≡ is TG (drop 
     pub series_standing : (k : ℕ) → answer_of k ≡ standing set f seen 101 true → (k ≡ 0 → ⊥) → piece.Fault k ≡ piece_by series_whole (series_opens f seen (drop p s))
     series_standing k ek z = sym (ap (piece_by series_whole) (opens ∙ answer_some k ek z))
 
-    pub series_whole : (k : ℕ) → answer_of k ≡ standing set f seen 101 true → k ≡ 0 → piece.Whole 101 2 0 0 ≡ piece_by series_whole (series_opens f seen (drop p s))
-    series_whole k ek z = sym (ap (piece_by series_whole) (opens ∙ answer_none k ek z))
+    pub series_whole_lem : (k : ℕ) → answer_of k ≡ standing set f seen 101 true → k ≡ 0 → piece.Whole 101 2 0 0 ≡ piece_by series_whole (series_opens f seen (drop p s))
+    series_whole_lem k ek z = sym (ap (piece_by series_whole) (opens ∙ answer_none k ek z))
 
 -- ---- a target
 
@@ -91,8 +91,8 @@ module _ (s : List ℕ) (p : ℕ) (seen : List ℕ) where
         pub target_again : {x : Bool} → x ≡ has i seen → x ≡ true → piece.Fault 10 ≡ piece_by target_whole (target_opens seen (drop p s))
         target_again ex tx = sym (ap (piece_by target_whole) (low_is ∙ need_not _ _ _ (ap (λ k. not (has k seen)) id_is ∙ ap not (sym ex ∙ tx))))
 
-        pub target_whole : {x : Bool} → x ≡ has i seen → x ≡ false → piece.Whole i 10 0 0 ≡ piece_by target_whole (target_opens seen (drop p s))
-        target_whole ex tx =
+        pub target_whole_lem : {x : Bool} → x ≡ has i seen → x ≡ false → piece.Whole i 10 0 0 ≡ piece_by target_whole (target_opens seen (drop p s))
+        target_whole_lem ex tx =
             ap target_whole (sym id_is)
             ∙ sym (ap (piece_by target_whole) (low_is ∙ need_so _ _ _ (ap (λ k. not (has k seen)) id_is ∙ ap not (sym ex ∙ tx))))
 

@@ -204,7 +204,7 @@ module _ (u : List ℕ) (l : Level) {h : Field} (eh : h ≡ field_answer (field 
                 pub value_long : (b ≡ n → ⊥) → piece.Fault 17 ≡ piece_by value_whole (value_at l f seen u)
                 value_long d = sym (ap (piece_by value_whole) (ruled ∙ need_not _ _ _ (not_short (rule_of l k) value (λ q. d (short_is ∙ q ∙ value_size)))))
 
-                pub value_whole : b ≡ n → piece.Whole k 6 n b ≡ piece_by value_whole (value_at l f seen u)
-                value_whole d =
+                pub value_whole_lem : b ≡ n → piece.Whole k 6 n b ≡ piece_by value_whole (value_at l f seen u)
+                value_whole_lem d =
                     let z : piece.Whole k 6 n b ≡ value_whole (got (record { tag = k; value = value }) (2 + (4 + n))) = rw (value_size, d) in
                     z ∙ sym (ap (piece_by value_whole) (ruled ∙ need_so _ _ _ (is_short (rule_of l k) value (sym short_is ∙ d ∙ sym value_size))))

@@ -21,7 +21,7 @@ use Rattle.format.proofs.Reading.Entries.{plain_flat}
 use Rattle.find.specs.declared.around.Series.{Series}
 use Rattle.find.specs.Spots.{spot_in, Missed, Hit, has_tag, entry_lead}
 use Rattle.find.specs.Series.{tag_spot}
-use Rattle.find.proofs.Splices.{place, on_hit, ask_hit, ask_absent, hit_flat, spot_past, hit_spot, has_hit, grown}
+use Rattle.find.proofs.Splices.{place, on_hit_lem, ask_hit_lem, ask_absent, hit_flat, spot_past, hit_spot, has_hit, grown}
 use Rattle.find.proofs.Entries.{entry_some}
 use Rattle.edit_rules.proofs.Levels.{piece}
 use Rattle.target_bytes.specs.Meet.{count_item, counted}
@@ -35,7 +35,7 @@ all_later P (x ∷ xs) ys h = all_later P xs ys h.1
 
 module _ {X : Type 0} (hit : X → Bool) where
   hit_not : {A : Type 0} {xs : List X} → Hit hit xs → Missed hit xs → A
-  hit_not {xs = xs} a m = never 18 0 a.it (sym (ask_absent hit xs m (λ x. ok x)) ∙ ask_hit hit a (λ x. ok x))
+  hit_not {xs = xs} a m = never 18 0 a.it (sym (ask_absent hit xs m (λ x. ok x)) ∙ ask_hit_lem hit a (λ x. ok x))
 
   module _ (f : X → X) where
     on_none : (xs : List X) → Missed hit xs → on_hit hit f xs ≡ xs
@@ -109,7 +109,7 @@ recount_none n xs m = ap flatten (on_none six _ xs m)
 recount_hit : (n : ℕ) {xs : List Entry} (k : Hit (has_tag 6) xs) → flatten (recount n xs) ≡ flatten k.before ++ (count_item n ++ flatten k.later)
 unfolding recounted flat_all
 recount_hit n k =
-    ap flatten (on_hit six k _) ∙ flat_append flat_entry k.before (plain (item_of (count_of n)) ∷ k.later) ∙ ap (λ r. flatten k.before ++ (r ++ flatten k.later)) (plain_flat (item_of (count_of n)))
+    ap flatten (on_hit_lem six k _) ∙ flat_append flat_entry k.before (plain (item_of (count_of n)) ∷ k.later) ∙ ap (λ r. flatten k.before ++ (r ++ flatten k.later)) (plain_flat (item_of (count_of n)))
 
 -- x stands from a to b in s, between u and v; r says where tag 6 stands
 pub record Stretch (s : List ℕ) (r : Series) (u x v : List Entry) (a b : ℕ) : Type 0 where

@@ -66,11 +66,11 @@ module _ {S : Type 0} {emit : S → Pack → List ℕ} {next : S → Pack → S}
         no_head_pack f g.writes.seen (drop p s) n.it n.read a (rw tail_part at e) t
 
   module _ {key used width size : ℕ} (i : PackAt f s out₀ out p k key used width size law σ₀ σ) where
-    pub one_pack : Next law _ _ _ _ _ _ i.going.writes
-    one_pack = pack_next i.going i.here
+    pub one_pack_lem : Next law _ _ _ _ _ _ i.going.writes
+    one_pack_lem = pack_next i.going i.here
 
-    pub pack_stands : PackHere f (drop p s) key used width size one_pack.it
-    pack_stands = pack_here f i.going.writes.seen (drop p s) (bytes_drop p s i.bytes) one_pack.it one_pack.read i.head (rw tail_part at i.reads) i.whole
+    pub pack_stands : PackHere f (drop p s) key used width size one_pack_lem.it
+    pack_stands = pack_here f i.going.writes.seen (drop p s) (bytes_drop p s i.bytes) one_pack_lem.it one_pack_lem.read i.head (rw tail_part at i.reads) i.whole
 
     pub pack_id : key < 2 ^ 63
     pack_id = (pack_head_says (drop p s) _ (bytes_drop p s i.bytes) (sym (rw tail_part at i.reads) ∙ ap pack_head_of i.whole)).id_range
@@ -100,14 +100,14 @@ module _ {S : Type 0} {emit : S → Pack → List ℕ} {next : S → Pack → S}
 
     -- what it writes, and the turn when that is stored
     abbrev pub packed : List ℕ
-    packed = emit σ one_pack.it.val
+    packed = emit σ one_pack_lem.it.val
 
     pub pack_fits : k + length packed ≤ length out
-    pack_fits = next_room law _ _ _ _ _ _ i.going.writes one_pack i.room
+    pack_fits = next_room law _ _ _ _ _ _ i.going.writes one_pack_lem i.room
 
-    pub pack_more : {k' : ℕ} {out' : List ℕ} → Puts out k packed k' out' → {σ' : S} → σ' ≡ next σ one_pack.it.val → SeriesWriting f s out₀ out' (p + width + size) k' law σ₀ σ'
+    pub pack_more : {k' : ℕ} {out' : List ℕ} → Puts out k packed k' out' → {σ' : S} → σ' ≡ next σ one_pack_lem.it.val → SeriesWriting f s out₀ out' (p + width + size) k' law σ₀ σ'
     pack_more e es =
         let w = pack_stands in
         record {
-          writes = writing_more law _ _ _ _ _ _ i.going.writes one_pack (omega (arith, w.used_is, w.len)) (omega (arith, w.used_is, pack_room)) e.1 es (omega (arith, w.used_is)) e.0;
+          writes = writing_more law _ _ _ _ _ _ i.going.writes one_pack_lem (omega (arith, w.used_is, w.len)) (omega (arith, w.used_is, pack_room)) e.1 es (omega (arith, w.used_is)) e.0;
         }

@@ -20,7 +20,7 @@ use Rattle.format.proofs.Sheets.Same.{items_shrink}
 use Rattle.tally.specs.Meet.{total, weight_of_item}
 use Rattle.tally.specs.Runs.{made_of}
 use Rattle.write_laws.proofs.Writing.{each}
-use Rattle.write_laws.proofs.Packs.{PackAt, one_pack, pack_stands, items_at, items_long, items_run}
+use Rattle.write_laws.proofs.Packs.{PackAt, one_pack_lem, pack_stands, items_at, items_long, items_run}
 use Rattle.write_normal.specs.Meet.{entry_normal, pack_normal, level_normal}
 use Rattle.write_normal.proofs.Forms.{same_normal, body_long}
 
@@ -30,8 +30,8 @@ unfolding flat_pack pack_body
 front_apart p t = simp append_assoc
 
 module _ {f : Form} {s out₀ out : List ℕ} {p k key used width size : ℕ} (i : PackAt f s out₀ out p k key used width size (each pack_normal) tt tt) where
-  said : Took (flat_pack (one_pack i).it.val) (drop p s) (one_pack i).it.used × PackRead f i.going.writes.seen (one_pack i).it.val
-  said = pack_says f i.going.writes.seen (drop p s) (one_pack i).it (bytes_drop p s i.bytes) (one_pack i).read
+  said : Took (flat_pack (one_pack_lem i).it.val) (drop p s) (one_pack_lem i).it.used × PackRead f i.going.writes.seen (one_pack_lem i).it.val
+  said = pack_says f i.going.writes.seen (drop p s) (one_pack_lem i).it (bytes_drop p s i.bytes) (one_pack_lem i).read
 
   items_valid : All (ItemValid pack f) (pack_stands i).items
   items_valid = subst (λ q. All (ItemValid pack f) q.items) (pack_stands i).it_is said.1.valid.items_valid.each
@@ -42,7 +42,7 @@ module _ {f : Form} {s out₀ out : List ℕ} {p k key used width size : ℕ} (i
       let q : Pack = record { width = width; id = key; items = w.items } in
       let front : List ℕ = len_bytes width (length (pack_body q)) ++ oid_bytes key in
       let items : List ℕ = flat_all flat_item w.items in
-      let rest : List ℕ = drop (one_pack i).it.used (drop p s) in
+      let rest : List ℕ = drop (one_pack_lem i).it.used (drop p s) in
       let z : drop p s ≡ front ++ (items ++ rest) = said.0.bytes ∙ ap (λ x. flat_pack x ++ rest) w.it_is ∙ front_apart q rest in
       let lf : length front ≡ width + used = length-append (len_bytes width (length (pack_body q))) (oid_bytes key) ∙ ap (λ x. x + length (oid_bytes key)) (length_len width (length (pack_body q))) ∙ ap (λ x. width + x) w.oid in
       let lb : length (pack_body q) ≡ size = ap (λ x. length (pack_body x)) (sym w.it_is) ∙ w.body_is in

@@ -14,7 +14,7 @@ use Rattle.format.specs.Rows.{item_rows}
 use Rattle.tally.specs.Runs.{Ran, series_run, made_of}
 use Rattle.stores.proofs.Puts.{Puts, Parted, head_room, rest_room, rest_put}
 use Rattle.write_laws.proofs.Packs as Packs
-use Rattle.write_laws.proofs.Packs.{PackAt, one_pack, pack_stands, items_at, items_run, packed}
+use Rattle.write_laws.proofs.Packs.{PackAt, one_pack_lem, pack_stands, items_at, items_run, packed}
 use Rattle.write_rows.specs.Meet.{numbers, level_numbers, LevelAsked, LevelLeft}
 use Rattle.write_rows.proofs.Numbers.{level_pack, entries_numbers, pack_numbers, packs_emit, same_row}
 
@@ -79,5 +79,5 @@ module _ {f : Form} {at : ℕ} {s out₀ out : List ℕ} {p k n key used width s
       pub pack_more : SeriesRows f at s out₀ (put_mid m (length o - m) o o') (p + width + size) (m + j) (n + 1)
       pack_more =
           let i = pack_stands e.is in
-          let z : at + (p + width + size) ≡ at + p + length (flat_pack (one_pack e.is).it.val) = omega (arith, i.flat_is, i.used_is) in
+          let z : at + (p + width + size) ≡ at + p + length (flat_pack (one_pack_lem e.is).it.val) = omega (arith, i.flat_is, i.used_is) in
           record { going = Packs.pack_more e.is (rest_put packed_is q (r f level_asked)) (rw (z, add-one n)); few = omega (arith, e.few, i.len) }

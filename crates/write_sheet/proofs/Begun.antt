@@ -15,10 +15,10 @@ use Rattle.stores.proofs.Stores.{sets_append, sets_swap, sets_under, sets_tail, 
 use Rattle.stores.proofs.Puts.{Puts, Parted}
 use Rattle.write_laws.proofs.Writing.{each}
 use Rattle.write_laws.proofs.Entries.{level_done}
-use Rattle.write_laws.proofs.Packs.{items_at, items_long, pack_room, one_pack, packed}
+use Rattle.write_laws.proofs.Packs.{items_at, items_long, pack_room, one_pack_lem, packed}
 use Rattle.write_sheet.specs.Meet.{entry_sheet, pack_sheet}
 use Rattle.write_sheet.specs.Quick.{LevelPassed, ItemsPassed}
-use Rattle.write_sheet.proofs.Turns.{LevelSheets, SeriesSheets, SheetPack, pack_sheet, target_put, items_behind, items_tail, level_asked, items_stored}
+use Rattle.write_sheet.proofs.Turns.{LevelSheets, SeriesSheets, SheetPack, pack_sheet_lem, target_put, items_behind, items_tail, level_asked, items_stored}
 
 -- a tail that was lent came back as e
 module _ (l : List ℕ) (m : ℕ) (e : List ℕ) (h : m ≤ length l) where
@@ -70,7 +70,7 @@ module _ {f : Form} {s out₀ out : List ℕ} {p k key used width size : ℕ} (i
     pub items_begun : SeriesSheets f s out₀ (put_mid m (length out₁ - m) out₁ o) p k
     items_begun =
         let w = i.going.writes in
-        let n = one_pack i in
+        let n = one_pack_lem i in
         let split : flat_all pack_sheet w.things.val ≡ packed i ++ flat_all pack_sheet n.after_it.val = ap (flat_all pack_sheet) n.first ∙ (each pack_sheet).more tt n.it.val n.after_it.val in
         let over : (x : List ℕ) → sets x k (flat_all pack_sheet w.things.val) ≡ sets (sets x k (packed i)) (k + length (packed i)) (flat_all pack_sheet n.after_it.val) =
         λ x. ap (sets x k) split ∙ sets_append x k (packed i) (flat_all pack_sheet n.after_it.val) in
@@ -83,7 +83,7 @@ module _ {f : Form} {s out₀ out : List ℕ} {p k key used width size : ℕ} (i
             same = same_len_mid m (length out₁ - m) out₁ o g.same ∙ ap length em.1 ∙ length-sets out k (TG.0 ∷ TG.1 ∷ fixed 8 key) ∙ w.same;
             sum = w.sum;
             rest = w.rest ∙ over out
-                ∙ ap (λ x. sets x (k + length (packed i)) (flat_all pack_sheet n.after_it.val)) (sym (part_again (pack_sheet i) (target_put i em) (items_behind i em) o r (flat_all (entry_sheet pack) g.things.val) g.sum g.rest))
+                ∙ ap (λ x. sets x (k + length (packed i)) (flat_all pack_sheet n.after_it.val)) (sym (part_again (pack_sheet_lem i) (target_put i em) (items_behind i em) o r (flat_all (entry_sheet pack) g.things.val) g.sum g.rest))
                 ∙ sym (over (put_mid m (length out₁ - m) out₁ o));
           };
         }

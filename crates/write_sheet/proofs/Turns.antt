@@ -98,8 +98,8 @@ module _ {f : Form} {s out₀ out : List ℕ} {p k key used width size : ℕ} (i
   abbrev pub target_mark : List ℕ
   target_mark = TG.0 ∷ TG.1 ∷ fixed 8 key
 
-  pub pack_sheet : Parted out k (packed i) target_mark (level_sheet pack f (items_at i))
-  pack_sheet =
+  pub pack_sheet_lem : Parted out k (packed i) target_mark (level_sheet pack f (items_at i))
+  pack_sheet_lem =
       let w = pack_stands i in
       record {
         is = ap pack_sheet w.it_is ∙ pack_parts width key w.items ∙ ap (λ x. target_mark ++ flat_all (entry_sheet pack) x) (sym w.entries_are)
@@ -111,7 +111,7 @@ module _ {f : Form} {s out₀ out : List ℕ} {p k key used width size : ℕ} (i
   mark_long = omega (arith, length_fixed 8 key)
 
   pub target_room : k + 10 ≤ length out
-  target_room = omega (arith, head_room pack_sheet, mark_long)
+  target_room = omega (arith, head_room pack_sheet_lem, mark_long)
 
   -- its mark and its id are stored, and the tail behind them lent
   module _ {m : ℕ} {out₁ : List ℕ} (em : (m ≡ k + 10) × (out₁ ≡ sets out k target_mark)) where
@@ -119,16 +119,16 @@ module _ {f : Form} {s out₀ out : List ℕ} {p k key used width size : ℕ} (i
     target_put = puts_sized out k target_mark mark_long em
 
     pub items_behind : m ≤ length out₁
-    items_behind = head_behind pack_sheet target_put
+    items_behind = head_behind pack_sheet_lem target_put
 
     abbrev pub items_tail : List ℕ
     items_tail = take (length out₁ - m) (drop m out₁)
 
     pub level_asked : LevelAsked pack (items_at i) (length items_tail) f
-    level_asked = record { few = (items_asked i).0; ran = (items_asked i).1; fits = rest_room pack_sheet target_put }
+    level_asked = record { few = (items_asked i).0; ran = (items_asked i).1; fits = rest_room pack_sheet_lem target_put }
 
     pub items_stored : {r : ℕ} {o : List ℕ} → Fills items_tail (level_sheet pack f (items_at i)) r o → SeriesSheets f s out₀ (put_mid m (length out₁ - m) out₁ o) (p + width + size) (m + r)
-    items_stored q = pack_more i (rest_put pack_sheet target_put q) refl
+    items_stored q = pack_more i (rest_put pack_sheet_lem target_put q) refl
 
     pub items_more : {r : ℕ} {o : List ℕ} → LevelLeft pack (items_at i) items_tail r o → SeriesSheets f s out₀ (put_mid m (length out₁ - m) out₁ o) (p + width + size) (m + r)
     items_more q = items_stored (q f level_asked)

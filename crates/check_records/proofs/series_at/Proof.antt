@@ -1,7 +1,7 @@
 -- `check_records::series_at` meets its contract: each way out is a case of `series_opens`.
 use mathlib.Core.Path.{sym}
 use borrow.Author.Rules.{rules}
-use Rattle.tally_records.proofs.Opens.{series_key, series_alone, series_standing, series_whole}
+use Rattle.tally_records.proofs.Opens.{series_key, series_alone, series_standing, series_whole_lem}
 use Rattle.check_records.proofs.series_at.Statement.{statement}
 use Rattle.check_records.proofs.series_at.Tie as tie
 
@@ -27,7 +27,7 @@ returns c =
 returns-2 : tie.Need-returns-2
 returns-2 c =
     let a = c.before.before.before.before.before.before.args in
-    λ seen q. series_whole _ a.s.now a.p c.before.before.before.before.is-mark.ensures seen c.before.before.before.if1.true _ (c.before.standing-of.ensures seen (c.before.before.is_seen.ensures seen q) (sym q.first)) c.if2.false
+    λ seen q. series_whole_lem _ a.s.now a.p c.before.before.before.before.is-mark.ensures seen c.before.before.before.if1.true _ (c.before.standing-of.ensures seen (c.before.before.is_seen.ensures seen q) (sym q.first)) c.if2.false
 
 returns-3 : tie.Need-returns-3
 returns-3 c =

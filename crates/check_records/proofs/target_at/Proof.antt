@@ -2,7 +2,7 @@
 use mathlib.Core.List.{[]}
 use native.Mathlib.Omega.{arith}
 use borrow.Author.Rules.{rules}
-use Rattle.tally_records.proofs.Opens.{target_key, target_cut, target_high, target_again, target_whole}
+use Rattle.tally_records.proofs.Opens.{target_key, target_cut, target_high, target_again, target_whole_lem}
 use Rattle.check_records.proofs.target_at.Statement.{statement}
 use Rattle.check_records.proofs.target_at.Tie as tie
 
@@ -51,7 +51,7 @@ returns-3 c =
 returns-4 : tie.Need-returns-4
 returns-4 c =
     let a = c.before.before.before.before.before.before.before.before.args in
-    λ seen q. target_whole a.s.now a.p seen c.before.before.before.before.before.before.if1.false c.before.before.before.before.eight-of.ensures (omega
+    λ seen q. target_whole_lem a.s.now a.p seen c.before.before.before.before.before.before.if1.false c.before.before.before.before.eight-of.ensures (omega
     (arith, c.before.before.before.larger.ensures.over.1, c.before.before.if2.false)) (c.before.is_seen.ensures seen q) c.if3.false
 
 pub target-at-spec : {M : Type 1} → statement M

@@ -6,7 +6,7 @@ use native.Mathlib.Omega.{arith}
 use lib.ListN.{length, take, drop}
 use borrow.Author.Rules.{rules}
 use Rattle.tally_records.proofs.Opens.{value_key}
-use Rattle.tally_records.proofs.Values.{value_tail, value_cut, value_within, value_empty, value_standing, value_valued, value_long, value_whole}
+use Rattle.tally_records.proofs.Values.{value_tail, value_cut, value_within, value_empty, value_standing, value_valued, value_long, value_whole_lem}
 use Rattle.check_records.proofs.value_at.Statement.{statement}
 use Rattle.check_records.proofs.value_at.Tie as tie
 
@@ -97,7 +97,7 @@ returns-6 : tie.Need-returns-6
 returns-6 c =
     let k = c.before.before.before.before.before.before in
     let h = k.before.before.before.before.before in
-    λ seen q. value_tail q _ _ (value_whole _ _ h.before.before.field_of.ensures h.h.given.1 _ seen k.before.before.before.if1.false
+    λ seen q. value_tail q _ _ (value_whole_lem _ _ h.before.before.field_of.ensures h.h.given.1 _ seen k.before.before.before.if1.false
     (k.before.standing-of.ensures seen (k.before.before.is_seen.ensures seen q) (sym q.first)) k.if2.false c.before.before.before.before.before.rule-of.ensures
     c.before.before.before.valued-of.ensures c.before.before.if3.false c.before.short_size.ensures c.if4.false)
 

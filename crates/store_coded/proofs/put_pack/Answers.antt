@@ -10,37 +10,32 @@ use Rattle.coding.proofs.Counts.{len_one}
 use Rattle.store_coded.proofs.Codings.{short_length, short_oid, two_long, two_oid}
 use Rattle.store_coded.proofs.Fronts.{pack_long, pack_stored}
 use Rattle.store_coded.proofs.put_pack.Goals as goal
-use Rattle.store_coded.proofs.put_pack.Lts as lts
-use Rattle.store_coded.proofs.put_pack.Tie as tie
-use Rattle.store_coded.proofs.put_pack.Reads as reads
-
--- where the length has one byte
-abbrev start : (lts.Then2 tie.the-claims reads.Pre reads.Post) → (lts.Start tie.the-claims reads.Pre reads.Post)
-start a = a.before.before.before
-
-room : (a : (lts.Then2 tie.the-claims reads.Pre reads.Post)) → (start a).args.at + (1 + length (oid_bytes (start a).args.id)) ≤ length (start a).args.out.now
-room a = let i = start a in omega (arith, i.pre.2, pack_long i.args.n i.args.id, len_one i.args.n (omega arith))
-
-one_byte : (a : (lts.Then3 tie.the-claims reads.Pre reads.Post)) → (start a.before).args.at + 2 ≤ length (start a.before).args.out.now
-one_byte a = let i = start a.before in omega (arith, room a.before, (short_oid i.args.id i.args.out.now 0 (omega arith)).0)
-
-two_bytes : (a : (lts.Else3 tie.the-claims reads.Pre reads.Post)) → (start a.before).args.at + 3 ≤ length (start a.before).args.out.now
-two_bytes a = omega (arith, room a.before, two_long (start a.before).args.id (omega arith) (omega arith))
 
 pub bounds-out-at : goal.bounds-out-at
-bounds-out-at c = omega (arith, room c.before)
+bounds-out-at c =
+    let room : c.args.at + (1 + length (oid_bytes c.args.id)) ≤ length c.args.out.now = omega (arith, c.requires.2, pack_long c.args.n c.args.id, len_one c.args.n (omega arith)) in
+    omega (arith, room)
 
 pub bounds-out-a : goal.bounds-out-a
-bounds-out-a c = simp length-set (omega (arith, one_byte c.before))
+bounds-out-a c =
+    let room : c.args.at + (1 + length (oid_bytes c.args.id)) ≤ length c.args.out.now = omega (arith, c.requires.2, pack_long c.args.n c.args.id, len_one c.args.n (omega arith)) in
+    let one_byte : c.args.at + 2 ≤ length c.args.out.now = omega (arith, room, (short_oid c.args.id c.args.out.now 0 (omega arith)).0) in
+    simp length-set (omega (arith, one_byte))
 
 pub returns-then-id-lt128 : goal.returns-then-id-lt128
 returns-then-id-lt128 c = pack_stored _ _ _ _ (short_length _ _ _ (omega arith)) (short_oid _ _ _ (omega arith))
 
 pub bounds-out-a-then-id-lt16384 : goal.bounds-out-a-then-id-lt16384
-bounds-out-a-then-id-lt16384 c = simp length-set (omega (arith, two_bytes c.before.before.before))
+bounds-out-a-then-id-lt16384 c =
+    let room : c.args.at + (1 + length (oid_bytes c.args.id)) ≤ length c.args.out.now = omega (arith, c.requires.2, pack_long c.args.n c.args.id, len_one c.args.n (omega arith)) in
+    let two_bytes : c.args.at + 3 ≤ length c.args.out.now = omega (arith, room, two_long c.args.id (omega arith) (omega arith)) in
+    simp length-set (omega (arith, two_bytes))
 
 pub bounds-out-a-then-id-lt16384-2 : goal.bounds-out-a-then-id-lt16384-2
-bounds-out-a-then-id-lt16384-2 c = simp length-set (omega (arith, two_bytes c.before.before.before.before))
+bounds-out-a-then-id-lt16384-2 c =
+    let room : c.args.at + (1 + length (oid_bytes c.args.id)) ≤ length c.args.out.now = omega (arith, c.requires.2, pack_long c.args.n c.args.id, len_one c.args.n (omega arith)) in
+    let two_bytes : c.args.at + 3 ≤ length c.args.out.now = omega (arith, room, two_long c.args.id (omega arith) (omega arith)) in
+    simp length-set (omega (arith, two_bytes))
 
 pub returns-then-id-lt16384 : goal.returns-then-id-lt16384
 returns-then-id-lt16384 c =

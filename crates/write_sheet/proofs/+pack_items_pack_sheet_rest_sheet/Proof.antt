@@ -22,7 +22,7 @@ use Rattle.write_sheet.proofs.+pack_items_pack_sheet_rest_sheet.Lts-rest_sheet a
 use Rattle.write_sheet.proofs.pack_items.Reads as pack-items
 use Rattle.write_sheet.proofs.pack_items.Kinds as pack-items-kinds
 use Rattle.write_sheet.proofs.+pack_items_pack_sheet_rest_sheet.Lts-pack_items as pack-items-lts
-use Rattle.write_sheet.proofs.pack_sheet.Reads as pack_sheet
+use Rattle.write_sheet.proofs.pack_sheet.Reads as pack_sheet_lem
 use Rattle.write_sheet.proofs.pack_sheet.Kinds as pack-sheet-kinds
 use Rattle.write_sheet.proofs.+pack_items_pack_sheet_rest_sheet.Lts-pack_sheet as pack-sheet-lts
 use Rattle.heads.proofs.item_head.Reads as item-head-reads
@@ -53,10 +53,10 @@ abbrev rest_sheet_below : ℕ → In 3 rest-sheet-kinds.ps
 rest_sheet_below t = and 3 rest-sheet-kinds.ps (falls 3 rest-sheet-kinds.ps ◌<◌ μ-rest-sheet t) rest-sheet.Pre
 
 abbrev pack_sheet_at : ℕ → In 3 pack-sheet-kinds.ps
-pack_sheet_at t = and 3 pack-sheet-kinds.ps (is 3 pack-sheet-kinds.ps μ-pack-sheet t) pack_sheet.Pre
+pack_sheet_at t = and 3 pack-sheet-kinds.ps (is 3 pack-sheet-kinds.ps μ-pack-sheet t) pack_sheet_lem.Pre
 
 abbrev pack_sheet_below : ℕ → In 3 pack-sheet-kinds.ps
-pack_sheet_below t = and 3 pack-sheet-kinds.ps (falls 3 pack-sheet-kinds.ps ◌<◌ μ-pack-sheet t) pack_sheet.Pre
+pack_sheet_below t = and 3 pack-sheet-kinds.ps (falls 3 pack-sheet-kinds.ps ◌<◌ μ-pack-sheet t) pack_sheet_lem.Pre
 
 abbrev pack_items_at : ℕ → In 3 pack-items-kinds.ps
 pack_items_at t = and 3 pack-items-kinds.ps (is 3 pack-items-kinds.ps μ-pack-items t) pack-items.Pre
@@ -66,7 +66,7 @@ pack_items_below t = and 3 pack-items-kinds.ps (falls 3 pack-items-kinds.ps ◌<
 
 -- what is known of the callees, those of the cycle at a smaller measure
 abbrev rest_claims : ℕ → rest-sheet-lts.Claims
-rest_claims t = (item-head-reads.Asked, item-head-reads.Learnt, is-series-reads.Asked, is-series-reads.Learnt, put-number-reads.Asked, put-number-reads.Learnt, pack_sheet_below t, pack_sheet.Post, put-plain-reads.Asked, put-plain-reads.Learnt)
+rest_claims t = (item-head-reads.Asked, item-head-reads.Learnt, is-series-reads.Asked, is-series-reads.Learnt, put-number-reads.Asked, put-number-reads.Learnt, pack_sheet_below t, pack_sheet_lem.Post, put-plain-reads.Asked, put-plain-reads.Learnt)
 
 abbrev items_claims : ℕ → pack-items-lts.Claims
 items_claims t = (small-items-reads.Asked, small-items-reads.Learnt, rest_sheet_below t, rest-sheet.Post)
@@ -211,7 +211,7 @@ module _ (t : ℕ) where
       let a = series_then m in
       let i = item_head a.before in
       let z = item_start (item_loop i) in
-      omega (arith, (series_more (item_at i) a.before.is_series_is.ensures a.if1.taken m.put-number.ensures c.before.before.pack_sheet.ensures).writes.sum, z.pre.1.1.2.asked.fits, z.pre.1.1.2.passed.same, z.good)
+      omega (arith, (series_more (item_at i) a.before.is_series_is.ensures a.if1.taken m.put-number.ensures c.before.before.pack_sheet_lem.ensures).writes.sum, z.pre.1.1.2.asked.fits, z.pre.1.1.2.passed.same, z.good)
 
   rest_sheet_sub_put_plain : rest-sheet-lts.Need-overflow-sub-put-plain (rest_claims t) (rest_sheet_at t) rest-sheet.Post rest_sheet_Inv_loop rest_sheet_μ_loop
   rest_sheet_sub_put_plain c = omega (arith, entry_room (item_at (item_head c.before.before)))
@@ -232,7 +232,7 @@ module _ (t : ℕ) where
   rest_sheet_loop_again c = λ f o g.
       let m = c.before.before.before.before.before.before.before in
       let a = series_then m in
-      series_more (item_in (item_head a.before) f o g) a.before.is_series_is.ensures a.if1.taken m.put-number.ensures c.before.before.pack_sheet.ensures
+      series_more (item_in (item_head a.before) f o g) a.before.is_series_is.ensures a.if1.taken m.put-number.ensures c.before.before.pack_sheet_lem.ensures
 
   rest_sheet_loop_less_2 : rest-sheet-lts.Need-loop-smaller-2 (rest_claims t) (rest_sheet_at t) rest-sheet.Post rest_sheet_Inv_loop rest_sheet_μ_loop
   rest_sheet_loop_less_2 c = omega (arith, entry_room (item_at (item_head c.before.before.before.before.before.before)))
@@ -310,28 +310,28 @@ pack_sheet_μ_loop table s out₀ p₀ k₀ out p k = length s - p
 module _ (t : ℕ) where
   -- the places: where the quick way stopped, the loop, a pack's head, and its mark stored
   abbrev PacksGone : Type 0
-  PacksGone = pack-sheet-lts.After-packs (pack_claims t) (pack_sheet_at t) pack_sheet.Post pack_sheet_Inv_loop pack_sheet_μ_loop
+  PacksGone = pack-sheet-lts.After-packs (pack_claims t) (pack_sheet_at t) pack_sheet_lem.Post pack_sheet_Inv_loop pack_sheet_μ_loop
 
-  abbrev packs_start : PacksGone → pack-sheet-lts.Start (pack_claims t) (pack_sheet_at t) pack_sheet.Post pack_sheet_Inv_loop pack_sheet_μ_loop
+  abbrev packs_start : PacksGone → pack-sheet-lts.Start (pack_claims t) (pack_sheet_at t) pack_sheet_lem.Post pack_sheet_Inv_loop pack_sheet_μ_loop
   packs_start a = a.before.before.before.before.before
 
   abbrev PackLoop : Type 0
-  PackLoop = pack-sheet-lts.At-loop (pack_claims t) (pack_sheet_at t) pack_sheet.Post pack_sheet_Inv_loop pack_sheet_μ_loop
+  PackLoop = pack-sheet-lts.At-loop (pack_claims t) (pack_sheet_at t) pack_sheet_lem.Post pack_sheet_Inv_loop pack_sheet_μ_loop
 
   abbrev packs_gone : PackLoop → PacksGone
   packs_gone a = a.before.before.before
 
-  abbrev pack_start : PackLoop → pack-sheet-lts.Start (pack_claims t) (pack_sheet_at t) pack_sheet.Post pack_sheet_Inv_loop pack_sheet_μ_loop
+  abbrev pack_start : PackLoop → pack-sheet-lts.Start (pack_claims t) (pack_sheet_at t) pack_sheet_lem.Post pack_sheet_Inv_loop pack_sheet_μ_loop
   pack_start a = packs_start (packs_gone a)
 
   abbrev PackHead : Type 0
-  PackHead = pack-sheet-lts.After-h (pack_claims t) (pack_sheet_at t) pack_sheet.Post pack_sheet_Inv_loop pack_sheet_μ_loop
+  PackHead = pack-sheet-lts.After-h (pack_claims t) (pack_sheet_at t) pack_sheet_lem.Post pack_sheet_Inv_loop pack_sheet_μ_loop
 
   abbrev pack_loop : PackHead → PackLoop
   pack_loop a = a.before.before.before.before.before
 
   abbrev PackMark : Type 0
-  PackMark = pack-sheet-lts.After-put-target (pack_claims t) (pack_sheet_at t) pack_sheet.Post pack_sheet_Inv_loop pack_sheet_μ_loop
+  PackMark = pack-sheet-lts.After-put-target (pack_claims t) (pack_sheet_at t) pack_sheet_lem.Post pack_sheet_Inv_loop pack_sheet_μ_loop
 
   abbrev pack_head : PackMark → PackHead
   pack_head a = a.before.before.before
@@ -366,91 +366,91 @@ module _ (t : ℕ) where
       a.h.given.0.0 a.h.given.0.1.0 a.h.given.0.1.1.0 a.h.given.0.1.1.1.0
   pack_at a = pack_in a _ _ (packs_known (pack_loop a))
 
-  pack_sheet_packs_requires : pack-sheet-lts.Need-packs-requires (pack_claims t) (pack_sheet_at t) pack_sheet.Post pack_sheet_Inv_loop pack_sheet_μ_loop
+  pack_sheet_packs_requires : pack-sheet-lts.Need-packs-requires (pack_claims t) (pack_sheet_at t) pack_sheet_lem.Post pack_sheet_Inv_loop pack_sheet_μ_loop
   pack_sheet_packs_requires c κs = c.before.before.before.before.requires.1.1
 
-  pack_sheet_loop_holds : pack-sheet-lts.Need-loop-init (pack_claims t) (pack_sheet_at t) pack_sheet.Post pack_sheet_Inv_loop pack_sheet_μ_loop
+  pack_sheet_loop_holds : pack-sheet-lts.Need-loop-init (pack_claims t) (pack_sheet_at t) pack_sheet_lem.Post pack_sheet_Inv_loop pack_sheet_μ_loop
   pack_sheet_loop_holds c = λ f o g. record { writes = g.passed }
 
-  pack_sheet_sub_quick_pack_head : pack-sheet-lts.Need-overflow-sub-quick-pack-head (pack_claims t) (pack_sheet_at t) pack_sheet.Post pack_sheet_Inv_loop pack_sheet_μ_loop
+  pack_sheet_sub_quick_pack_head : pack-sheet-lts.Need-overflow-sub-quick-pack-head (pack_claims t) (pack_sheet_at t) pack_sheet_lem.Post pack_sheet_Inv_loop pack_sheet_μ_loop
   pack_sheet_sub_quick_pack_head c = search rules
 
-  pack_sheet_part_quick_pack_head_start : pack-sheet-lts.Need-slice-bounds-quick-pack-head-start (pack_claims t) (pack_sheet_at t) pack_sheet.Post pack_sheet_Inv_loop pack_sheet_μ_loop
+  pack_sheet_part_quick_pack_head_start : pack-sheet-lts.Need-slice-bounds-quick-pack-head-start (pack_claims t) (pack_sheet_at t) pack_sheet_lem.Post pack_sheet_Inv_loop pack_sheet_μ_loop
   pack_sheet_part_quick_pack_head_start c = search rules
 
-  pack_sheet_part_quick_pack_head_end : pack-sheet-lts.Need-slice-bounds-quick-pack-head-end (pack_claims t) (pack_sheet_at t) pack_sheet.Post pack_sheet_Inv_loop pack_sheet_μ_loop
+  pack_sheet_part_quick_pack_head_end : pack-sheet-lts.Need-slice-bounds-quick-pack-head-end (pack_claims t) (pack_sheet_at t) pack_sheet_lem.Post pack_sheet_Inv_loop pack_sheet_μ_loop
   pack_sheet_part_quick_pack_head_end c = search rules
 
-  pack_sheet_quick_pack_head_requires : pack-sheet-lts.Need-quick-pack-head-requires (pack_claims t) (pack_sheet_at t) pack_sheet.Post pack_sheet_Inv_loop pack_sheet_μ_loop
+  pack_sheet_quick_pack_head_requires : pack-sheet-lts.Need-quick-pack-head-requires (pack_claims t) (pack_sheet_at t) pack_sheet_lem.Post pack_sheet_Inv_loop pack_sheet_μ_loop
   pack_sheet_quick_pack_head_requires c κs = search rules
 
-  pack_sheet_enum_known_h : pack-sheet-lts.Need-enum-known-h (pack_claims t) (pack_sheet_at t) pack_sheet.Post pack_sheet_Inv_loop pack_sheet_μ_loop
+  pack_sheet_enum_known_h : pack-sheet-lts.Need-enum-known-h (pack_claims t) (pack_sheet_at t) pack_sheet_lem.Post pack_sheet_Inv_loop pack_sheet_μ_loop
   pack_sheet_enum_known_h c = search rules
 
-  pack_sheet_enum_told : pack-sheet-lts.Need-enum-told (pack_claims t) (pack_sheet_at t) pack_sheet.Post pack_sheet_Inv_loop pack_sheet_μ_loop
+  pack_sheet_enum_told : pack-sheet-lts.Need-enum-told (pack_claims t) (pack_sheet_at t) pack_sheet_lem.Post pack_sheet_Inv_loop pack_sheet_μ_loop
   pack_sheet_enum_told c = search rules
 
-  pack_sheet_same_length : pack-sheet-lts.Need-same-length (pack_claims t) (pack_sheet_at t) pack_sheet.Post pack_sheet_Inv_loop pack_sheet_μ_loop
+  pack_sheet_same_length : pack-sheet-lts.Need-same-length (pack_claims t) (pack_sheet_at t) pack_sheet_lem.Post pack_sheet_Inv_loop pack_sheet_μ_loop
   pack_sheet_same_length c = (c.before.before.before.before.before.loop.invariant _ _ (packs_known c.before.before.before.before.before)).writes.same
 
-  pack_sheet_returns : pack-sheet-lts.Need-returns (pack_claims t) (pack_sheet_at t) pack_sheet.Post pack_sheet_Inv_loop pack_sheet_μ_loop
+  pack_sheet_returns : pack-sheet-lts.Need-returns (pack_claims t) (pack_sheet_at t) pack_sheet_lem.Post pack_sheet_Inv_loop pack_sheet_μ_loop
   pack_sheet_returns c = let a = c.before.before.before.before.before in pack_fault (a.loop.invariant _ _ (packs_known a)) c.before.before.before.before.loop-test.true c.before.before.quick-pack-head.ensures c.enum_told.given.1
 
-  pack_sheet_add_from : pack-sheet-lts.Need-overflow-add-from (pack_claims t) (pack_sheet_at t) pack_sheet.Post pack_sheet_Inv_loop pack_sheet_μ_loop
+  pack_sheet_add_from : pack-sheet-lts.Need-overflow-add-from (pack_claims t) (pack_sheet_at t) pack_sheet_lem.Post pack_sheet_Inv_loop pack_sheet_μ_loop
   pack_sheet_add_from c = omega (arith, pack_room (pack_at c.before))
 
-  pack_sheet_add_from_2 : pack-sheet-lts.Need-overflow-add-from-2 (pack_claims t) (pack_sheet_at t) pack_sheet.Post pack_sheet_Inv_loop pack_sheet_μ_loop
+  pack_sheet_add_from_2 : pack-sheet-lts.Need-overflow-add-from-2 (pack_claims t) (pack_sheet_at t) pack_sheet_lem.Post pack_sheet_Inv_loop pack_sheet_μ_loop
   pack_sheet_add_from_2 c = omega (arith, pack_room (pack_at c.before))
 
-  pack_sheet_add_next : pack-sheet-lts.Need-overflow-add-next (pack_claims t) (pack_sheet_at t) pack_sheet.Post pack_sheet_Inv_loop pack_sheet_μ_loop
+  pack_sheet_add_next : pack-sheet-lts.Need-overflow-add-next (pack_claims t) (pack_sheet_at t) pack_sheet_lem.Post pack_sheet_Inv_loop pack_sheet_μ_loop
   pack_sheet_add_next c = omega (arith, pack_room (pack_at c.before))
 
-  pack_sheet_add_next_2 : pack-sheet-lts.Need-overflow-add-next-2 (pack_claims t) (pack_sheet_at t) pack_sheet.Post pack_sheet_Inv_loop pack_sheet_μ_loop
+  pack_sheet_add_next_2 : pack-sheet-lts.Need-overflow-add-next-2 (pack_claims t) (pack_sheet_at t) pack_sheet_lem.Post pack_sheet_Inv_loop pack_sheet_μ_loop
   pack_sheet_add_next_2 c = omega (arith, pack_room (pack_at c.before))
 
-  pack_sheet_put_target_requires : pack-sheet-lts.Need-put-target-requires (pack_claims t) (pack_sheet_at t) pack_sheet.Post pack_sheet_Inv_loop pack_sheet_μ_loop
+  pack_sheet_put_target_requires : pack-sheet-lts.Need-put-target-requires (pack_claims t) (pack_sheet_at t) pack_sheet_lem.Post pack_sheet_Inv_loop pack_sheet_μ_loop
   pack_sheet_put_target_requires c κs = target_room (pack_at c.before.before)
 
-  pack_sheet_sub_pack_items : pack-sheet-lts.Need-overflow-sub-pack-items (pack_claims t) (pack_sheet_at t) pack_sheet.Post pack_sheet_Inv_loop pack_sheet_μ_loop
+  pack_sheet_sub_pack_items : pack-sheet-lts.Need-overflow-sub-pack-items (pack_claims t) (pack_sheet_at t) pack_sheet_lem.Post pack_sheet_Inv_loop pack_sheet_μ_loop
   pack_sheet_sub_pack_items c = omega (arith, pack_room (pack_at (pack_head c.before.before)))
 
-  pack_sheet_part_pack_items_start : pack-sheet-lts.Need-slice-bounds-pack-items-start (pack_claims t) (pack_sheet_at t) pack_sheet.Post pack_sheet_Inv_loop pack_sheet_μ_loop
+  pack_sheet_part_pack_items_start : pack-sheet-lts.Need-slice-bounds-pack-items-start (pack_claims t) (pack_sheet_at t) pack_sheet_lem.Post pack_sheet_Inv_loop pack_sheet_μ_loop
   pack_sheet_part_pack_items_start c = omega (arith, pack_room (pack_at (pack_head c.before.before)))
 
-  pack_sheet_part_pack_items_end : pack-sheet-lts.Need-slice-bounds-pack-items-end (pack_claims t) (pack_sheet_at t) pack_sheet.Post pack_sheet_Inv_loop pack_sheet_μ_loop
+  pack_sheet_part_pack_items_end : pack-sheet-lts.Need-slice-bounds-pack-items-end (pack_claims t) (pack_sheet_at t) pack_sheet_lem.Post pack_sheet_Inv_loop pack_sheet_μ_loop
   pack_sheet_part_pack_items_end c = omega (arith, pack_room (pack_at (pack_head c.before.before)))
 
-  pack_sheet_sub_pack_items_2 : pack-sheet-lts.Need-overflow-sub-pack-items-2 (pack_claims t) (pack_sheet_at t) pack_sheet.Post pack_sheet_Inv_loop pack_sheet_μ_loop
+  pack_sheet_sub_pack_items_2 : pack-sheet-lts.Need-overflow-sub-pack-items-2 (pack_claims t) (pack_sheet_at t) pack_sheet_lem.Post pack_sheet_Inv_loop pack_sheet_μ_loop
   pack_sheet_sub_pack_items_2 c = let m = c.before.before.before in items_behind (pack_at (pack_head m)) m.put-target.ensures
 
-  pack_sheet_part_pack_items_start_2 : pack-sheet-lts.Need-slice-bounds-pack-items-start-2 (pack_claims t) (pack_sheet_at t) pack_sheet.Post pack_sheet_Inv_loop pack_sheet_μ_loop
+  pack_sheet_part_pack_items_start_2 : pack-sheet-lts.Need-slice-bounds-pack-items-start-2 (pack_claims t) (pack_sheet_at t) pack_sheet_lem.Post pack_sheet_Inv_loop pack_sheet_μ_loop
   pack_sheet_part_pack_items_start_2 c = pack_sheet_sub_pack_items_2 c
 
-  pack_sheet_part_pack_items_end_2 : pack-sheet-lts.Need-slice-bounds-pack-items-end-2 (pack_claims t) (pack_sheet_at t) pack_sheet.Post pack_sheet_Inv_loop pack_sheet_μ_loop
+  pack_sheet_part_pack_items_end_2 : pack-sheet-lts.Need-slice-bounds-pack-items-end-2 (pack_claims t) (pack_sheet_at t) pack_sheet_lem.Post pack_sheet_Inv_loop pack_sheet_μ_loop
   pack_sheet_part_pack_items_end_2 c = search rules
 
-  pack_sheet_pack_items_requires : pack-sheet-lts.Need-pack-items-requires (pack_claims t) (pack_sheet_at t) pack_sheet.Post pack_sheet_Inv_loop pack_sheet_μ_loop
+  pack_sheet_pack_items_requires : pack-sheet-lts.Need-pack-items-requires (pack_claims t) (pack_sheet_at t) pack_sheet_lem.Post pack_sheet_Inv_loop pack_sheet_μ_loop
   pack_sheet_pack_items_requires c κs =
       let m = c.before.before.before.before in
       let z = pack_start (pack_loop (pack_head m)) in
       (omega (arith, z.pre.0), (z.pre.1.0, (_, level_asked (pack_at (pack_head m)) m.put-target.ensures)))
 
-  pack_sheet_add_k : pack-sheet-lts.Need-overflow-add-k (pack_claims t) (pack_sheet_at t) pack_sheet.Post pack_sheet_Inv_loop pack_sheet_μ_loop
+  pack_sheet_add_k : pack-sheet-lts.Need-overflow-add-k (pack_claims t) (pack_sheet_at t) pack_sheet_lem.Post pack_sheet_Inv_loop pack_sheet_μ_loop
   pack_sheet_add_k c =
       let m = c.before.before.before.before.before.before.before in
       let z = pack_start (pack_loop (pack_head m)) in
       omega (arith, (items_more (pack_at (pack_head m)) m.put-target.ensures c.before.before.pack-items.ensures).writes.sum, z.pre.1.1.1.fits, z.good)
 
-  pack_sheet_loop_less : pack-sheet-lts.Need-loop-smaller (pack_claims t) (pack_sheet_at t) pack_sheet.Post pack_sheet_Inv_loop pack_sheet_μ_loop
+  pack_sheet_loop_less : pack-sheet-lts.Need-loop-smaller (pack_claims t) (pack_sheet_at t) pack_sheet_lem.Post pack_sheet_Inv_loop pack_sheet_μ_loop
   pack_sheet_loop_less c = omega (arith, pack_room (pack_at (pack_head c.before.before.before.before.before.before.before)))
 
-  pack_sheet_loop_again : pack-sheet-lts.Need-loop-preserved (pack_claims t) (pack_sheet_at t) pack_sheet.Post pack_sheet_Inv_loop pack_sheet_μ_loop
+  pack_sheet_loop_again : pack-sheet-lts.Need-loop-preserved (pack_claims t) (pack_sheet_at t) pack_sheet_lem.Post pack_sheet_Inv_loop pack_sheet_μ_loop
   pack_sheet_loop_again c = λ f o g. let m = c.before.before.before.before.before.before.before in items_more (pack_in (pack_head m) f o g) m.put-target.ensures c.before.before.pack-items.ensures
 
-  pack_sheet_same_length_2 : pack-sheet-lts.Need-same-length-2 (pack_claims t) (pack_sheet_at t) pack_sheet.Post pack_sheet_Inv_loop pack_sheet_μ_loop
+  pack_sheet_same_length_2 : pack-sheet-lts.Need-same-length-2 (pack_claims t) (pack_sheet_at t) pack_sheet_lem.Post pack_sheet_Inv_loop pack_sheet_μ_loop
   pack_sheet_same_length_2 c = (c.before.loop.invariant _ _ (packs_known c.before)).writes.same
 
-  pack_sheet_returns_2 : pack-sheet-lts.Need-returns-2 (pack_claims t) (pack_sheet_at t) pack_sheet.Post pack_sheet_Inv_loop pack_sheet_μ_loop
+  pack_sheet_returns_2 : pack-sheet-lts.Need-returns-2 (pack_claims t) (pack_sheet_at t) pack_sheet_lem.Post pack_sheet_Inv_loop pack_sheet_μ_loop
   pack_sheet_returns_2 c = λ f h. series_done (c.before.loop.invariant f _ (packs_asked c.before f h)) c.loop-test.false
 
 pub +pack-items-pack-sheet-rest-sheet-spec : {M : Type 1} → statement M
@@ -458,7 +458,7 @@ pub +pack-items-pack-sheet-rest-sheet-spec : {M : Type 1} → statement M
     close μ-pack-items μ-pack-sheet μ-rest-sheet
     (λ t. pack-items-lts.spec (items_claims t) (pack_items_at t) pack-items.Post
     (pack_items_small_items_requires t) (pack_items_same_length t) (pack_items_returns t) (pack_items_rest_sheet_requires t) (pack_items_same_length_2 t) (pack_items_returns_2 t))
-    (λ t. pack-sheet-lts.spec (pack_claims t) (pack_sheet_at t) pack_sheet.Post pack_sheet_Inv_loop pack_sheet_μ_loop
+    (λ t. pack-sheet-lts.spec (pack_claims t) (pack_sheet_at t) pack_sheet_lem.Post pack_sheet_Inv_loop pack_sheet_μ_loop
     (pack_sheet_packs_requires t) (pack_sheet_loop_holds t) (pack_sheet_sub_quick_pack_head t) (pack_sheet_part_quick_pack_head_start t) (pack_sheet_part_quick_pack_head_end t) (pack_sheet_quick_pack_head_requires t) (pack_sheet_enum_known_h t)
     (pack_sheet_enum_told t) (pack_sheet_same_length t) (pack_sheet_returns t) (pack_sheet_add_from t) (pack_sheet_add_from_2 t) (pack_sheet_add_next t)
     (pack_sheet_add_next_2 t) (pack_sheet_put_target_requires t) (pack_sheet_sub_pack_items t) (pack_sheet_part_pack_items_start t) (pack_sheet_part_pack_items_end t) (pack_sheet_sub_pack_items_2 t)

@@ -14,8 +14,7 @@ use Rattle.tally.specs.Going.{Reached}
 use Rattle.tally.proofs.Turns.{reach_first, reach_over, reach_under}
 use Rattle.quick_packs.specs.declared.bounds.Bounds.{Bounds}
 use Rattle.quick_packs.specs.Ids.{Bounding}
-use Rattle.quick_packs.proofs.bounds.reach.Statement.{statement}
-use Rattle.quick_packs.proofs.bounds.reach.Tie as tie
+use Rattle.quick_packs.proofs.bounds.reach.Goals as goal
 
 -- an id that the bounds tell to be new, and how far the higher of them moved
 moved : {before after : List ℕ} {p : ℕ} {b : Bounds} {id top low : ℕ} → Reached p b.top b.low id top low → ((m : ℕ) → b.top ≤ m → id ≤ m → top ≤ m) → Noting before after id
@@ -37,35 +36,19 @@ unmoved et el h l u n = record {
   long = n.long;
 }
 
-is-unnoted-requires : tie.Need-is-unnoted-requires
-is-unnoted-requires c κs = search rules
+pub returns-then-not-is_unnoted : goal.returns-then-not-is_unnoted
+returns-then-not-is_unnoted c = record { told = λ e. no_bool e; wide = (omega arith, omega arith); most = λ m h _. h; long = refl }
 
-same_length : tie.Need-same-length
-same_length c = search rules
-
-returns : tie.Need-returns
-returns c = record { told = λ e. no_bool e; wide = (omega arith, omega arith); most = λ m h _. h; long = refl }
-
-note-requires : tie.Need-note-requires
-note-requires c κs = search rules
-
-same-length-2 : tie.Need-same-length-2
-same-length-2 c = search rules
-
-returns-2 : tie.Need-returns-2
-returns-2 c =
-    let n = c.before.before.note.ensures in
-    let start = c.before.before.before.before.before.before in
+pub returns : goal.returns
+returns c =
+    let n = c.note.ensures in
     ⊎_elim
-    (λ x. moved (reach_first _ _ _ _ x.0.taken (omega (arith, start.requires.first x.1.taken, start.ranges.id)) x.2 x.3) (λ m _ h. omega (arith, x.2, h)) n)
+    (λ x. moved (reach_first _ _ _ _ x.0.taken (omega (arith, c.requires.first x.1.taken, c.ranges.id)) x.2 x.3) (λ m _ h. omega (arith, x.2, h)) n)
     (λ y. ⊎_elim
-    (λ x. moved (reach_over _ _ _ _ x.0.taken (start.requires.later (omega (arith, x.1.left))) x.2 x.3) (λ m _ h. omega (arith, x.2, h)) n)
+    (λ x. moved (reach_over _ _ _ _ x.0.taken (c.requires.later (omega (arith, x.1.left))) x.2 x.3) (λ m _ h. omega (arith, x.2, h)) n)
     (λ z. ⊎_elim
     (λ x. moved (reach_under _ _ _ _ (omega (arith, x.0.left)) x.1.taken x.2 x.3) (λ m h _. omega (arith, x.2, h)) n)
     (λ x. unmoved x.5 x.6 (omega (arith, x.0.left)) (omega (arith, x.1.left)) (x.3.ensures (not-false _ x.4.left)) n)
     z)
     y)
-    c.before.before.before.before.if1.branch
-
-pub reach-spec : {M : Type 1} → statement M
-reach-spec = tie.close (tie.spec is-unnoted-requires same_length returns note-requires same-length-2 returns-2)
+    c.if-top-id.branch

@@ -1,8 +1,7 @@
 -- `quick_packs::choose` meets its contract.
-use mathlib.Core.Logic.{⊎_elim}
 use native.Mathlib.Omega.{arith}
 use borrow.Author.Rules.{rules}
-use Rattle.quick_packs.proofs.Models.{as_model, none_chosen}
+use Rattle.quick_packs.proofs.Models.{as_model}
 use Rattle.quick_packs.proofs.choose.Goals as goal
 
 pub returns-then-is_pack_as : goal.returns-then-is_pack_as
@@ -14,10 +13,3 @@ overflow_mul-misses c = omega (arith, c.requires.3)
 
 pub overflow_add-result : goal.overflow_add-result
 overflow_add-result c = omega (arith, c.requires.3)
-
-pub returns : goal.returns
-returns c =
-    ⊎_elim
-    (λ x. rw (x.3, x.4) (x.2.ensures, omega arith))
-    (λ x. rw (x.2, x.3) (none_chosen x.1.ensures c.requires.1.long, omega arith))
-    c.if-misses-from.branch

@@ -25,16 +25,6 @@ use Rattle.quick_packs.proofs.Models.{no_items, items_asked, told_more}
 use Rattle.quick_packs.proofs.Fresh.{bounded_none, id_fresh, id_bounded, id_noted}
 use Rattle.quick_packs.proofs.many.Goals as goal
 
--- the packs up to p were walked; their bounds, the bits in which their ids are noted, and the model in use
-pub record Passed (alone : Bool) (s bits₀ bits : List ℕ) (p rows more : ℕ) (b : Bounds) (masks : List ℕ) (c : Choice) : Type 0 where
-  pub going : SeriesGoing (form_of alone) s p (packed_sizes p rows more) b.top b.low
-  pub bounded : Bounded p b
-  pub noted : Noted (peek false true false) s bits p
-  pub long : length bits ≡ length bits₀
-  pub modelled : Modelled alone masks s c.model
-  pub earlier : c.model.from ≤ p
-  pub few : c.misses ≤ p
-
 pub loop-p-init : goal.loop-p-init
 loop-p-init c =
     let n = c.no_model.ensures in

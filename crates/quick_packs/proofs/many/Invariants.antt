@@ -25,6 +25,16 @@ use Rattle.quick_packs.proofs.Models.{no_items, items_asked, told_more}
 use Rattle.quick_packs.proofs.Fresh.{bounded_none, id_fresh, id_bounded, id_noted}
 use Rattle.quick_packs.proofs.many.Given as goal
 
+-- the packs up to p were walked; their bounds, the bits in which their ids are noted, and the model in use
+pub record Passed (alone : Bool) (s bits₀ bits : List ℕ) (p rows more : ℕ) (b : Bounds) (masks : List ℕ) (c : Choice) : Type 0 where
+  pub going : SeriesGoing (form_of alone) s p (packed_sizes p rows more) b.top b.low
+  pub bounded : Bounded p b
+  pub noted : Noted (peek false true false) s bits p
+  pub long : length bits ≡ length bits₀
+  pub modelled : Modelled alone masks s c.model
+  pub earlier : c.model.from ≤ p
+  pub few : c.misses ≤ p
+
 abbrev pub invariant-loop-p : goal.invariant-loop-p
 invariant-loop-p l = Passed l.alone l.s l.initial.bits l.bits l.p l.rows l.more l.b l.masks l.c
 

@@ -188,14 +188,14 @@ loop-p-preserved c =
     let room : (c.loop-p.p + width + size ≤ length lent) × (used ≤ size) × (length lent ≤ 8192) = (head_room here, (head_stood here).body, c.requires.1) in
     let bounds : Bounds = c.reach-b.result in
     let fresh : Fresh (peek false true false) lent c.loop-p.p c.loop-p.b.top c.loop-p.b.low id bounds.top bounds.low = id_fresh c.loop-p.invariant.noted (c.reach-b.ensures.told (not-false _ c.if-not-b.false)) in
-    let noted_next : {after : List ℕ} {r : Bounds} → IdNew c.loop-p.bits after c.loop-p.p c.loop-p.b id r → Noted (peek false true false) lent after (c.loop-p.p + width + size) = λ h. let e : c.loop-p.p + width + size ≡ c.loop-p.p + (width + size) = omega arith in let i = c.loop-p.invariant in let peeked = pack_peek false (drop c.loop-p.p lent) _ (sym (whole here)) in rw e (id_noted i.noted h i.going.past.keys i.going.past.heads (width + size) peeked (omega (arith, (head_stood here).len))) in
+    let noted_next : (after : List ℕ) (r : Bounds) → IdNew c.loop-p.bits after c.loop-p.p c.loop-p.b id r → Noted (peek false true false) lent after (c.loop-p.p + width + size) = λ after r h. let e : c.loop-p.p + width + size ≡ c.loop-p.p + (width + size) = omega arith in let i = c.loop-p.invariant in let peeked = pack_peek false (drop c.loop-p.p lent) _ (sym (whole here)) in rw e (id_noted i.noted h i.going.past.keys i.going.past.heads (width + size) peeked (omega (arith, (head_stood here).len))) in
     let i = c.loop-p.invariant in
     let n = c.reach-b.ensures.told (not-false _ c.if-not-b.false) in
     let m = c.choose-c.ensures in
     record {
       going = told_more c.loop-p.more here short fresh (m.0.told (omega (arith, c.if-c-eq0.false)));
       bounded = id_bounded i.noted n _ (omega (arith, (head_stood here).len));
-      noted = noted_next n;
+      noted = noted_next _ _ n;
       long = omega (arith, i.long, n.noting.long);
       modelled = m.0.modelled;
       earlier = omega (arith, m.0.earlier, room);

@@ -7,6 +7,7 @@ use Rattle.tally_records.proofs.PartTurns.{records_start}
 use Rattle.quick_records.proofs.Glances.{glance_next}
 use Rattle.quick_records.proofs.Alikes.{Laying, Remasked, laying_more}
 use Rattle.quick_records.proofs.targets.lay.Goals as goal
+use Rattle.quick_records.proofs.targets.lay.Goals.{then-p-lt128, else-p-lt128}
 
 pub loop-g-init : goal.loop-g-init
 loop-g-init c = record { long = c.requires.2; own = records_start _ _ _; few = omega arith; walked = λ _ b _ _ _ _. records_start _ _ _ }
@@ -57,6 +58,6 @@ loop-g-preserved c =
     let tag_of : ℕ = c.glance_record-g.result.tag in
     let size_of : ℕ = c.glance_record-g.result.next - (c.loop-g.p + 6) in
     let told : RecordGlanced false form records c.loop-g.p c.loop-g.top tag_of size_of = c.glance_record-g.ensures (omega (arith, c.if-g-eq0.false)) in
-    let masked : (length c.if-p-lt128.masks ≡ 160) × (c.loop-g.p < 128 → Remasked form c.loop-g.masks c.if-p-lt128.masks c.loop-g.p tag_of size_of) = ⊎_elim (λ x. rw x.5 (x.4.ensures.long ∙ c.loop-g.invariant.long, λ _. record { first = _; item = x.4.ensures; any = x.2.ensures })) (λ y. rw y.1 (c.loop-g.invariant.long, λ h. absurd (omega (arith, h, y.0.left)))) c.if-p-lt128.branch in
+    let masked : (length c.if-p-lt128.masks ≡ 160) × (c.loop-g.p < 128 → Remasked form c.loop-g.masks c.if-p-lt128.masks c.loop-g.p tag_of size_of) = elim c.if-p-lt128.branch [ then-p-lt128 x ↦ rw x.masks-is (x.mask_item.ensures.long ∙ c.loop-g.invariant.long, λ _. record { first = _; item = x.mask_item.ensures; any = x.first_mask-first.ensures }) | else-p-lt128 y ↦ rw y.masks-is (c.loop-g.invariant.long, λ h. absurd (omega (arith, h, y.if-p-lt128.false))) ] in
     laying_more c.loop-g.invariant told (λ i. (c.type_inv.s i).fits) c.requires.1 masked.0 masked.1
     c.bit_of-held.ensures refl

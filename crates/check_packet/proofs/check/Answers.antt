@@ -28,7 +28,7 @@ set_walk-w-requires c = (c.requires, omega arith)
 pub wrong_set-requires : goal.wrong_set-requires
 wrong_set-requires c =
     let l = c.if-s-gt8192.false in
-    (set_within c.args.s.now c.start_of-from.result l c.set_walk-w.result c.set_walk-w.ensures.1, omega (arith, l, (omega (arith, c.start_of-from.ensures, (check_room _ _ c.if-s-gt8192.false c.opening_of-a.ensures c.in-Value.is).1))))
+    (set_within c.args.s.now c.start_of-from.result l c.set_walk-w.result c.set_walk-w.ensures.1, omega (arith, l, c.start_of-from.ensures, (check_room _ _ c.if-s-gt8192.false c.opening_of-a.ensures c.in-Value.is).1))
 
 pub returns-in_default-w : goal.returns-in_default-w
 returns-in_default-w c =

@@ -6,6 +6,7 @@ use borrow.Author.Rules.{rules}
 use borrow.Author.Tests.{not-true, not-false}
 use Rattle.check_packet.proofs.Closings.{alone_room, closed_embedded, closed_14, closed_15, closed_fine}
 use Rattle.check_packet.proofs.closing_of.Goals as goal
+use Rattle.check_packet.proofs.closing_of.Goals.{then-alone+else-not-is_held+else-not-is_sealed, else-alone}
 
 pub returns-then-not-is_held : goal.returns-then-not-is_held
 returns-then-not-is_held c = closed_14 _ _ _ c.if-alone.true (sym c.is_held.ensures ∙ not-true _ c.if-not-is_held.true-raw)
@@ -22,7 +23,8 @@ returns-then-not-is_sealed c =
 
 pub returns : goal.returns
 returns c =
-    ⊎_elim
-    (λ x. closed_fine _ _ _ x.0.taken (sym x.1.ensures ∙ not-false _ x.2.left) x.3.ensures (not-false _ x.4.left) c.fine.ensures)
-    (λ x. closed_embedded _ _ _ _ x.left c.fine.ensures)
-    c.if-alone.branch
+    elim c.if-alone.branch [
+      | then-alone+else-not-is_held+else-not-is_sealed x ↦
+          closed_fine _ _ _ x.if-alone.true (sym x.is_held.ensures ∙ not-false _ x.if-not-is_held.false-raw) x.is_sealed.ensures (not-false _ x.if-not-is_sealed.false-raw) c.fine.ensures
+      | else-alone x ↦ closed_embedded _ _ _ _ x.if-alone.false c.fine.ensures
+    ]

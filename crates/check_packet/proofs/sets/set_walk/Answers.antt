@@ -14,6 +14,7 @@ use Rattle.tally.specs.Going.{LevelTo}
 use Rattle.tally.proofs.Turns.{turn_done, told_as}
 use Rattle.check_packet.proofs.SetTurns.{SeriesAt, series_room, packs_long, refusal_asks, series_refused, series_asks, series_goes}
 use Rattle.check_packet.proofs.sets.set_walk.Goals as goal
+use Rattle.check_packet.proofs.sets.set_walk.Goals.{then-from-eq0, else-from-eq0+then-one-packs+then-d-packs+in-Good, else-from-eq0+then-one-packs+else-d-packs, else-from-eq0+else-one-packs}
 
 pub slice_bounds-packs-count : goal.slice_bounds-packs-count
 slice_bounds-packs-count c =
@@ -99,14 +100,32 @@ pub returns-then-r-s : goal.returns-then-r-s
 returns-then-r-s c =
     let lent : List ℕ = c.args.s.now in
     let found : 0 < c.series_at-part.result.from → SeriesAt (form_of c.args.alone) lent c.glance_items-q.result c.series_at-part.result.from c.series_at-part.result.next = λ h. record { going = c.glance_items-q.ensures.0; series = c.series_at-part.ensures h; bytes = λ i. (c.type_inv.s i).fits; most = c.requires.1 } in
-    let going : LevelTo true (form_of c.args.alone) lent c.if-from-eq0.r = ⊎_elim (λ x. rw x.1 c.glance_items-q.ensures.0) (⊎_elim (λ x. rw x.13 (series_goes (found (omega (arith, x.0.left))) x.8.ensures x.10.given.1 x.12.ensures)) (⊎_elim (λ x. rw x.9 (series_goes (found (omega (arith, x.0.left))) (turn_done x.5.ensures (omega (arith, x.7.left))) refl x.8.ensures)) (λ x. rw x.6 (series_goes (found (omega (arith, x.0.left))) (turn_done x.2.ensures (omega (arith, x.4.left))) refl x.5.ensures)))) c.if-from-eq0.branch in
+    let going : LevelTo true (form_of c.args.alone) lent c.if-from-eq0.r =
+    elim c.if-from-eq0.branch [
+      | then-from-eq0 x ↦ rw x.r-is c.glance_items-q.ensures.0
+      | else-from-eq0+then-one-packs+then-d-packs+in-Good x ↦
+          rw x.r-is (series_goes (found (omega (arith, x.if-from-eq0.false))) x.packs_rest-w.ensures x.in-Good.is x.after_series.ensures)
+      | else-from-eq0+then-one-packs+else-d-packs x ↦
+          rw x.r-is (series_goes (found (omega (arith, x.if-from-eq0.false))) (turn_done x.packs-d.ensures (omega (arith, x.if-d-packs.false))) refl x.after_series-else-d-packs.ensures)
+      | else-from-eq0+else-one-packs x ↦
+          rw x.r-is (series_goes (found (omega (arith, x.if-from-eq0.false))) (turn_done x.lone-one.ensures (omega (arith, x.if-one-packs.false))) refl x.after_series-else-one-packs.ensures)
+    ] in
     told_as (length lent) c.walked.ensures (turn_done going (omega (arith, c.if-r-s.true)))
 
 pub set_rest-requires : goal.set_rest-requires
 set_rest-requires c =
     let lent : List ℕ = c.args.s.now in
     let found : 0 < c.series_at-part.result.from → SeriesAt (form_of c.args.alone) lent c.glance_items-q.result c.series_at-part.result.from c.series_at-part.result.next = λ h. record { going = c.glance_items-q.ensures.0; series = c.series_at-part.ensures h; bytes = λ i. (c.type_inv.s i).fits; most = c.requires.1 } in
-    let going : LevelTo true (form_of c.args.alone) lent c.if-from-eq0.r = ⊎_elim (λ x. rw x.1 c.glance_items-q.ensures.0) (⊎_elim (λ x. rw x.13 (series_goes (found (omega (arith, x.0.left))) x.8.ensures x.10.given.1 x.12.ensures)) (⊎_elim (λ x. rw x.9 (series_goes (found (omega (arith, x.0.left))) (turn_done x.5.ensures (omega (arith, x.7.left))) refl x.8.ensures)) (λ x. rw x.6 (series_goes (found (omega (arith, x.0.left))) (turn_done x.2.ensures (omega (arith, x.4.left))) refl x.5.ensures)))) c.if-from-eq0.branch in
+    let going : LevelTo true (form_of c.args.alone) lent c.if-from-eq0.r =
+    elim c.if-from-eq0.branch [
+      | then-from-eq0 x ↦ rw x.r-is c.glance_items-q.ensures.0
+      | else-from-eq0+then-one-packs+then-d-packs+in-Good x ↦
+          rw x.r-is (series_goes (found (omega (arith, x.if-from-eq0.false))) x.packs_rest-w.ensures x.in-Good.is x.after_series.ensures)
+      | else-from-eq0+then-one-packs+else-d-packs x ↦
+          rw x.r-is (series_goes (found (omega (arith, x.if-from-eq0.false))) (turn_done x.packs-d.ensures (omega (arith, x.if-d-packs.false))) refl x.after_series-else-d-packs.ensures)
+      | else-from-eq0+else-one-packs x ↦
+          rw x.r-is (series_goes (found (omega (arith, x.if-from-eq0.false))) (turn_done x.lone-one.ensures (omega (arith, x.if-one-packs.false))) refl x.after_series-else-one-packs.ensures)
+    ] in
     let (g, l) = c.requires in
     (g, rw tail_part l, rw tail_part going)
 

@@ -42,7 +42,6 @@ use denote.Index.{row, place_is, elem_out, elem_put, opens_slice, closes_slice}
 use denote.Signature.{plain}
 use denote.Steps.{owned, peeks, heard, nothing}
 use denote.Struct.Laws as LL
-use denote.Triple.Statement.{Contract, Triple}
 use denote.Triple.Call.{calls_at}
 use denote.Triple.Clauses.{ensured, lasts}
 use denote.Triple.Entry.{Vals, on_entry}
@@ -61,9 +60,9 @@ use Rattle.write_rows.proofs.table.row_at.Symbol.{name as #row-at}
 use Rattle.write_rows.proofs.table.row_at.Met as g-thm
 use Rattle.write_rows.specs.contracts.table.fill_rows.Key.{name as #fill-rows}
 use Rattle.write_rows.specs.contracts.table.fill_rows as f
-use Rattle.write_rows.proofs.table.fill_rows.Statement as stated
 use Rattle.write_rows.proofs.table.fill_rows.Code as code
 use Rattle.write_rows.proofs.table.fill_rows.Code.Mir as mir'
+use Rattle.write_rows.proofs.table.fill_rows.Goals as goal
 
 abbrev stayed : Stays (f.ended).signature.params (f.ended).kept
 stayed = (stay_none_slice (0 ∷ []) tt (plain (λ _. u64)) yes, (stay_none (λ _. usize) yes, (stay_slice (1 ∷ []) tt (plain (λ _. T.the_row)), tt)))
@@ -266,11 +265,3 @@ module _ {M : Type 1} {𝓤 : Ura M} (𝓛 : Logic 𝓤) (mem : Memory → SProp
   fill_rows_meets known =
       walk_Meets 𝓛 f.ended stayed (Goes-none_slice 𝓛 2 (0 ∷ []) tt (plain (λ _. u64)) yes, (Goes-none 𝓛 2 (λ _. usize) yes (λ κs x f. refl), (Goes-slice 𝓛 2 1 tt (plain (λ _. T.the_row)), tt))) (f.clauses 𝓛 mem run)
       (WpFn 𝓤 H 𝓣.C 𝓣.Λ code.function) (WpFn-mono 𝓤 H 𝓛.laws 𝓣 code.function) (fill_rows_walks known)
-
-pub fill-rows-spec : {M : Type 1} → stated.statement M
-unfolding code.routine tables_of
-fill-rows-spec 𝓤 𝓛 𝓜 𝓡 =
-    entered 𝓤 𝓛.H (triple_of 𝓛 f.signature (f.spec 𝓛 𝓜.mem 𝓡.run))
-    (tables 𝓤 𝓛.H 𝓜 𝓡 code.env).C (tables 𝓤 𝓛.H 𝓜 𝓡 code.env).Λ #fill-rows code.function (code.unfolded 𝓤 𝓛.H 𝓜 𝓡)
-    (fill_rows_meets 𝓛 𝓜.mem 𝓡.run (tables_of 𝓤 𝓛.H 𝓜 (tables 𝓤 𝓛.H 𝓜 𝓡 code.env))
-    (cited 𝓤 𝓛.H (RowAt 𝓛 𝓜.mem 𝓡.run) 𝓜 𝓡 code.env #row-at g-def.routine code.calls-write-rows::table::row-at (g-thm.met 𝓤 𝓛 𝓜 𝓡)))

@@ -1,0 +1,38 @@
+-- `write_sheet::rest_sheet`, `write_sheet::pack_items` and `write_sheet::pack_sheet` meet their contracts: each turn stores what one entry or pack writes.
+use mathlib.Core.Path.{sym, ap, ◌∙◌}
+use Prim.Native.Nat.{ℕ, ◌-◌, ◌*◌, ◌<◌}
+use native.Mathlib.Omega.{arith}
+use mathlib.Core.Bool.{false}
+use mathlib.Core.List.{List}
+use lib.ListN.{length}
+use lib.Seq.{length-sets}
+use borrow.Author.Rules.{rules}
+use Rattle.format.specs.Table.{Form, pack}
+use Rattle.tally.proofs.ItemTurns.{depth, series_deep}
+use Rattle.write_laws.proofs.Entries.{level_done, entry_fault, entry_room}
+use Rattle.write_laws.proofs.Packs.{series_done, pack_fault, pack_room}
+use Rattle.write_sheet.specs.Meet.{LevelAsked, SeriesAsked}
+use Rattle.write_sheet.specs.Quick.{RestAsked, SeriesPassed}
+use Rattle.write_sheet.proofs.Turns.{LevelSheets, SheetEntry, one_room, one_more, mark_room, series_behind, series_asked, series_more, SeriesSheets, SheetPack, target_room, items_behind, level_asked, items_more}
+use Rattle.write_sheet.proofs.+pack_items_pack_sheet_rest_sheet.Given as goal
+
+-- ---- the pack walk
+-- the quick way passed p bytes, and stored k
+pub record PacksAsked (s out : List ℕ) (p k : ℕ) (f : Form) (o : List ℕ) : Type 0 where
+  asked : SeriesAsked s (length o) f
+  passed : SeriesPassed f s o out p k
+
+-- whatever the form, and whatever the output was where the series began
+abbrev pub invariant-pack_sheet-loop-p : goal.invariant-pack_sheet-loop-p
+invariant-pack_sheet-loop-p l = (f : Form) (o : List ℕ) → PacksAsked l.s l.initial.out l.initial.p l.initial.k f o → SeriesSheets f l.s o l.out l.p l.k
+
+abbrev pub decreases-pack_sheet-loop-p : goal.decreases-pack_sheet-loop-p
+decreases-pack_sheet-loop-p l = length l.s - l.p
+
+-- ---- the item walk, from a place on
+-- whatever the form, and whatever the output was where the level began
+abbrev pub invariant-rest_sheet-loop-p : goal.invariant-rest_sheet-loop-p
+invariant-rest_sheet-loop-p l = (f : Form) (o : List ℕ) → RestAsked l.set l.s l.initial.out l.from l.at f o → LevelSheets l.set f l.s o l.out l.p l.k
+
+abbrev pub decreases-rest_sheet-loop-p : goal.decreases-rest_sheet-loop-p
+decreases-rest_sheet-loop-p l = length l.s - l.p

@@ -25,17 +25,12 @@ use Rattle.tally_records.proofs.TargetTurns as targets
 use Rattle.tally_records.proofs.TargetTurns.{TargetAt, same_good, records_over, head_fault, target_room, lent, vals_within, vals_fault, vals_small, not_ended, target_asks, target_less, target_more}
 use Rattle.check_records.proofs.+item_records_target_records.Given as goal
 
-abbrev pub In-series : Type 0
-In-series = target-records-lts.At-loop target_claims (target_records_at) target-records.Post target_Inv target_μ
+-- the item walk of the set calls the pack walk, and that the item walk of a pack
+abbrev pub decreases-item_records : goal.decreases-item_records
+decreases-item_records l = depth l.set
 
-abbrev pub In-level : Type 0
-In-level = item-records-lts.At-loop item_claims (item_records_at) item-records.Post item_Inv item_μ
-
-abbrev pub series : In-series → List ℕ
-series l = l.before.before.before.before.before.before.args.s.now
-
-abbrev pub level : In-level → List ℕ
-level l = l.before.before.before.before.args.s.now
+abbrev pub decreases-target_records : goal.decreases-target_records
+decreases-target_records l = 1
 
 -- ---- the records of a level
 abbrev pub invariant-item_records-loop-q : goal.invariant-item_records-loop-q

@@ -14,6 +14,13 @@ use Rattle.write_rows.proofs.LevelTurns.{LevelRows, level_rows_lem, RowsEntry, r
 use Rattle.write_rows.proofs.SeriesTurns.{SeriesRows, series_rows, RowsPack, pack_fits, pack_end, level_asked, items_end, pack_more}
 use Rattle.write_rows.proofs.+item_rows_pack_rows.Given as goal
 
+-- the item walk of the set calls the pack walk, and that the item walk of a pack
+abbrev pub decreases-item_rows : goal.decreases-item_rows
+decreases-item_rows l = depth l.set
+
+abbrev pub decreases-pack_rows : goal.decreases-pack_rows
+decreases-pack_rows l = 1
+
 -- ---- the items of a level
 -- whatever the form
 abbrev pub invariant-item_rows-loop-p : goal.invariant-item_rows-loop-p

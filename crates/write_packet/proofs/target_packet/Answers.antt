@@ -10,6 +10,7 @@ use Rattle.format.specs.Table.{Form}
 use Rattle.write_packet.specs.Writing.{TargetsAsked}
 use Rattle.write_packet.proofs.TargetTurns.{TargetsWriting, targets_start, targets_over, TargetAt, target_room, id_asked, id_low, behind, vals_asked, target_next, body_few, Placed, vals_stay, wide_some, move_asked, vals_move, pack_asked, ends_few, target_more}
 use Rattle.write_packet.proofs.target_packet.Goals as goal
+use Rattle.write_packet.proofs.target_packet.Goals.{then-body-gt127, else-body-gt127}
 
 -- ---- the needs
 pub loop-p-init : goal.loop-p-init
@@ -159,7 +160,7 @@ put_pack-m-requires c =
     let AskedIn : Form → Type 0 = λ f. TargetsAsked f c.args.s.now (length c.args.out.now) in
     let target_in : (f : Form) → AskedIn f → TargetAt f c.args.s.now c.args.out.now c.loop-p.out c.loop-p.p c.loop-p.k = λ f h. record { going = c.loop-p.invariant f h; more = sym c.is_mark.ensures ∙ not-false _ c.if-not-is_mark.false-raw; bytes = λ i. (c.type_inv.s i).fits; asked = h } in
     let target_at : TargetAt c.requires.0 c.args.s.now c.args.out.now c.loop-p.out c.loop-p.p c.loop-p.k = target_in c.requires.0 c.requires.1 in
-    let placed_in : (f : Form) (h : AskedIn f) → Placed (target_in f h) c.number_of-id.ensures c.oid_width-w.ensures c.put_vals-d.ensures c.if-body-gt127.out = λ f h. ⊎_elim (λ m. rw m.6 (vals_move (target_in f h) c.number_of-id.ensures c.oid_width-w.ensures c.put_vals-d.ensures m.1.ensures m.3.ensures)) (λ z. rw z.1 (vals_stay (target_in f h) c.number_of-id.ensures c.oid_width-w.ensures c.put_vals-d.ensures (omega (arith, z.0.left)))) c.if-body-gt127.came in
+    let placed_in : (f : Form) (h : AskedIn f) → Placed (target_in f h) c.number_of-id.ensures c.oid_width-w.ensures c.put_vals-d.ensures c.if-body-gt127.out = λ f h. elim c.if-body-gt127.branch [ then-body-gt127 m ↦ rw m.out-is (vals_move (target_in f h) c.number_of-id.ensures c.oid_width-w.ensures c.put_vals-d.ensures m.len_width-by.ensures m.shift.ensures) | else-body-gt127 z ↦ rw z.out-is (vals_stay (target_in f h) c.number_of-id.ensures c.oid_width-w.ensures c.put_vals-d.ensures (omega (arith, z.if-body-gt127.false))) ] in
     let placed : Placed target_at c.number_of-id.ensures c.oid_width-w.ensures c.put_vals-d.ensures c.if-body-gt127.out = placed_in c.requires.0 c.requires.1 in
     pack_asked target_at c.number_of-id.ensures c.oid_width-w.ensures c.put_vals-d.ensures placed
 
@@ -168,7 +169,7 @@ overflow_add-k c =
     let AskedIn : Form → Type 0 = λ f. TargetsAsked f c.args.s.now (length c.args.out.now) in
     let target_in : (f : Form) → AskedIn f → TargetAt f c.args.s.now c.args.out.now c.loop-p.out c.loop-p.p c.loop-p.k = λ f h. record { going = c.loop-p.invariant f h; more = sym c.is_mark.ensures ∙ not-false _ c.if-not-is_mark.false-raw; bytes = λ i. (c.type_inv.s i).fits; asked = h } in
     let target_at : TargetAt c.requires.0 c.args.s.now c.args.out.now c.loop-p.out c.loop-p.p c.loop-p.k = target_in c.requires.0 c.requires.1 in
-    let placed_in : (f : Form) (h : AskedIn f) → Placed (target_in f h) c.number_of-id.ensures c.oid_width-w.ensures c.put_vals-d.ensures c.if-body-gt127.out = λ f h. ⊎_elim (λ m. rw m.6 (vals_move (target_in f h) c.number_of-id.ensures c.oid_width-w.ensures c.put_vals-d.ensures m.1.ensures m.3.ensures)) (λ z. rw z.1 (vals_stay (target_in f h) c.number_of-id.ensures c.oid_width-w.ensures c.put_vals-d.ensures (omega (arith, z.0.left)))) c.if-body-gt127.came in
+    let placed_in : (f : Form) (h : AskedIn f) → Placed (target_in f h) c.number_of-id.ensures c.oid_width-w.ensures c.put_vals-d.ensures c.if-body-gt127.out = λ f h. elim c.if-body-gt127.branch [ then-body-gt127 m ↦ rw m.out-is (vals_move (target_in f h) c.number_of-id.ensures c.oid_width-w.ensures c.put_vals-d.ensures m.len_width-by.ensures m.shift.ensures) | else-body-gt127 z ↦ rw z.out-is (vals_stay (target_in f h) c.number_of-id.ensures c.oid_width-w.ensures c.put_vals-d.ensures (omega (arith, z.if-body-gt127.false))) ] in
     let placed : Placed target_at c.number_of-id.ensures c.oid_width-w.ensures c.put_vals-d.ensures c.if-body-gt127.out = placed_in c.requires.0 c.requires.1 in
     omega (arith, ends_few target_at c.number_of-id.ensures c.oid_width-w.ensures c.put_vals-d.ensures placed c.put_pack-m.ensures)
 
@@ -183,6 +184,6 @@ pub loop-p-preserved : goal.loop-p-preserved
 loop-p-preserved c =
     let AskedIn : Form → Type 0 = λ f. TargetsAsked f c.args.s.now (length c.args.out.now) in
     let target_in : (f : Form) → AskedIn f → TargetAt f c.args.s.now c.args.out.now c.loop-p.out c.loop-p.p c.loop-p.k = λ f h. record { going = c.loop-p.invariant f h; more = sym c.is_mark.ensures ∙ not-false _ c.if-not-is_mark.false-raw; bytes = λ i. (c.type_inv.s i).fits; asked = h } in
-    let placed_in : (f : Form) (h : AskedIn f) → Placed (target_in f h) c.number_of-id.ensures c.oid_width-w.ensures c.put_vals-d.ensures c.if-body-gt127.out = λ f h. ⊎_elim (λ m. rw m.6 (vals_move (target_in f h) c.number_of-id.ensures c.oid_width-w.ensures c.put_vals-d.ensures m.1.ensures m.3.ensures)) (λ z. rw z.1 (vals_stay (target_in f h) c.number_of-id.ensures c.oid_width-w.ensures c.put_vals-d.ensures (omega (arith, z.0.left)))) c.if-body-gt127.came in
+    let placed_in : (f : Form) (h : AskedIn f) → Placed (target_in f h) c.number_of-id.ensures c.oid_width-w.ensures c.put_vals-d.ensures c.if-body-gt127.out = λ f h. elim c.if-body-gt127.branch [ then-body-gt127 m ↦ rw m.out-is (vals_move (target_in f h) c.number_of-id.ensures c.oid_width-w.ensures c.put_vals-d.ensures m.len_width-by.ensures m.shift.ensures) | else-body-gt127 z ↦ rw z.out-is (vals_stay (target_in f h) c.number_of-id.ensures c.oid_width-w.ensures c.put_vals-d.ensures (omega (arith, z.if-body-gt127.false))) ] in
     λ f h.
     target_more (target_in f h) c.number_of-id.ensures c.oid_width-w.ensures c.put_vals-d.ensures (placed_in f h) c.put_pack-m.ensures

@@ -93,28 +93,28 @@ pub item_rows-offset_bounds-out-m : goal.item_rows-offset_bounds-out-m
 item_rows-offset_bounds-out-m t c =
     let item_in : (f : Form) → LevelAsked (level_of c.args.set) c.args.target c.args.at c.args.s.now (length c.args.out.now) f → RowsEntry c.args.set f c.args.target c.args.at c.args.s.now c.args.out.now c.loop-p.out c.loop-p.p c.loop-p.k c.in-Whole.key c.in-Whole.used c.in-Whole.width c.in-Whole.size = λ f h. record { is = record { going = c.loop-p.invariant f h; here = c.loop-p-test.true; head = _; reads = c.item_head-h.ensures; whole = c.in-Whole.is; bytes = λ i. (c.type_inv.s i).fits; most = omega (arith, h.few); room = h.fits }; within = h.few } in
     let item_here : RowsEntry c.args.set c.requires.0 c.args.target c.args.at c.args.s.now c.args.out.now c.loop-p.out c.loop-p.p c.loop-p.k c.in-Whole.key c.in-Whole.used c.in-Whole.width c.in-Whole.size = item_in c.requires.0 c.requires.1 in
-    let item_end : (c.put_row-m.result ≤ length c.put_row-m.last.0) × (length c.put_row-m.last.0 ≡ length c.args.out.now) = entry_end item_here c.put_row-m.ensures in
-    omega (arith, item_end, c.good)
+    let item_end : (c.put_row-m.result ≤ length c.put_row-m.new.out) × (length c.put_row-m.new.out ≡ length c.args.out.now) = entry_end item_here c.put_row-m.ensures in
+    omega (arith, item_end, c.well_formed)
 
 pub item_rows-slice_bounds-pack_rows-count-then-is_series : goal.item_rows-slice_bounds-pack_rows-count-then-is_series
 item_rows-slice_bounds-pack_rows-count-then-is_series t c =
     let item_in : (f : Form) → LevelAsked (level_of c.args.set) c.args.target c.args.at c.args.s.now (length c.args.out.now) f → RowsEntry c.args.set f c.args.target c.args.at c.args.s.now c.args.out.now c.loop-p.out c.loop-p.p c.loop-p.k c.in-Whole.key c.in-Whole.used c.in-Whole.width c.in-Whole.size = λ f h. record { is = record { going = c.loop-p.invariant f h; here = c.loop-p-test.true; head = _; reads = c.item_head-h.ensures; whole = c.in-Whole.is; bytes = λ i. (c.type_inv.s i).fits; most = omega (arith, h.few); room = h.fits }; within = h.few } in
     let item_here : RowsEntry c.args.set c.requires.0 c.args.target c.args.at c.args.s.now c.args.out.now c.loop-p.out c.loop-p.p c.loop-p.k c.in-Whole.key c.in-Whole.used c.in-Whole.width c.in-Whole.size = item_in c.requires.0 c.requires.1 in
-    let item_end : (c.put_row-m.result ≤ length c.put_row-m.last.0) × (length c.put_row-m.last.0 ≡ length c.args.out.now) = entry_end item_here c.put_row-m.ensures in
+    let item_end : (c.put_row-m.result ≤ length c.put_row-m.new.out) × (length c.put_row-m.new.out ≡ length c.args.out.now) = entry_end item_here c.put_row-m.ensures in
     omega (arith, item_end)
 
 pub item_rows-slice_bounds-pack_rows-start-then-is_series : goal.item_rows-slice_bounds-pack_rows-start-then-is_series
 item_rows-slice_bounds-pack_rows-start-then-is_series t c =
     let item_in : (f : Form) → LevelAsked (level_of c.args.set) c.args.target c.args.at c.args.s.now (length c.args.out.now) f → RowsEntry c.args.set f c.args.target c.args.at c.args.s.now c.args.out.now c.loop-p.out c.loop-p.p c.loop-p.k c.in-Whole.key c.in-Whole.used c.in-Whole.width c.in-Whole.size = λ f h. record { is = record { going = c.loop-p.invariant f h; here = c.loop-p-test.true; head = _; reads = c.item_head-h.ensures; whole = c.in-Whole.is; bytes = λ i. (c.type_inv.s i).fits; most = omega (arith, h.few); room = h.fits }; within = h.few } in
     let item_here : RowsEntry c.args.set c.requires.0 c.args.target c.args.at c.args.s.now c.args.out.now c.loop-p.out c.loop-p.p c.loop-p.k c.in-Whole.key c.in-Whole.used c.in-Whole.width c.in-Whole.size = item_in c.requires.0 c.requires.1 in
-    let item_end : (c.put_row-m.result ≤ length c.put_row-m.last.0) × (length c.put_row-m.last.0 ≡ length c.args.out.now) = entry_end item_here c.put_row-m.ensures in
+    let item_end : (c.put_row-m.result ≤ length c.put_row-m.new.out) × (length c.put_row-m.new.out ≡ length c.args.out.now) = entry_end item_here c.put_row-m.ensures in
     omega (arith, item_end)
 
 pub item_rows-slice_bounds-pack_rows-end-then-is_series : goal.item_rows-slice_bounds-pack_rows-end-then-is_series
 item_rows-slice_bounds-pack_rows-end-then-is_series t c =
     let item_in : (f : Form) → LevelAsked (level_of c.args.set) c.args.target c.args.at c.args.s.now (length c.args.out.now) f → RowsEntry c.args.set f c.args.target c.args.at c.args.s.now c.args.out.now c.loop-p.out c.loop-p.p c.loop-p.k c.in-Whole.key c.in-Whole.used c.in-Whole.width c.in-Whole.size = λ f h. record { is = record { going = c.loop-p.invariant f h; here = c.loop-p-test.true; head = _; reads = c.item_head-h.ensures; whole = c.in-Whole.is; bytes = λ i. (c.type_inv.s i).fits; most = omega (arith, h.few); room = h.fits }; within = h.few } in
     let item_here : RowsEntry c.args.set c.requires.0 c.args.target c.args.at c.args.s.now c.args.out.now c.loop-p.out c.loop-p.p c.loop-p.k c.in-Whole.key c.in-Whole.used c.in-Whole.width c.in-Whole.size = item_in c.requires.0 c.requires.1 in
-    let item_end : (c.put_row-m.result ≤ length c.put_row-m.last.0) × (length c.put_row-m.last.0 ≡ length c.args.out.now) = entry_end item_here c.put_row-m.ensures in
+    let item_end : (c.put_row-m.result ≤ length c.put_row-m.new.out) × (length c.put_row-m.new.out ≡ length c.args.out.now) = entry_end item_here c.put_row-m.ensures in
     omega (arith, item_end)
 
 pub item_rows-pack_rows-requires : goal.item_rows-pack_rows-requires
@@ -129,7 +129,7 @@ pub item_rows-overflow_add-k : goal.item_rows-overflow_add-k
 item_rows-overflow_add-k t c =
     let item_in : (f : Form) → LevelAsked (level_of c.args.set) c.args.target c.args.at c.args.s.now (length c.args.out.now) f → RowsEntry c.args.set f c.args.target c.args.at c.args.s.now c.args.out.now c.loop-p.out c.loop-p.p c.loop-p.k c.in-Whole.key c.in-Whole.used c.in-Whole.width c.in-Whole.size = λ f h. record { is = record { going = c.loop-p.invariant f h; here = c.loop-p-test.true; head = _; reads = c.item_head-h.ensures; whole = c.in-Whole.is; bytes = λ i. (c.type_inv.s i).fits; most = omega (arith, h.few); room = h.fits }; within = h.few } in
     let item_here : RowsEntry c.args.set c.requires.0 c.args.target c.args.at c.args.s.now c.args.out.now c.loop-p.out c.loop-p.p c.loop-p.k c.in-Whole.key c.in-Whole.used c.in-Whole.width c.in-Whole.size = item_in c.requires.0 c.requires.1 in
-    omega (arith, series_end item_here c.is_series.ensures c.if-is_series.true c.put_row-m.ensures c.pack_rows.ensures, c.good)
+    omega (arith, series_end item_here c.is_series.ensures c.if-is_series.true c.put_row-m.ensures c.pack_rows.ensures, c.well_formed)
 
 pub item_rows-loop-p-smaller-then-is_series : goal.item_rows-loop-p-smaller-then-is_series
 item_rows-loop-p-smaller-then-is_series t c =
@@ -257,28 +257,28 @@ pub pack_rows-offset_bounds-out-m : goal.pack_rows-offset_bounds-out-m
 pack_rows-offset_bounds-out-m t c =
     let pack_in : (f : Form) → SeriesAsked c.args.at c.args.s.now (length c.args.out.now) f → RowsPack f c.args.at c.args.s.now c.args.out.now c.loop-p.out c.loop-p.p c.loop-p.k c.loop-p.n c.in-Whole.key c.in-Whole.used c.in-Whole.width c.in-Whole.size = λ f h. record { is = record { going = (c.loop-p.invariant f h).going; here = c.loop-p-test.true; head = _; reads = c.quick_pack_head-h.ensures; whole = c.in-Whole.is; bytes = λ i. (c.type_inv.s i).fits; most = omega (arith, h.few); room = h.fits }; few = (c.loop-p.invariant f h).few; within = h.few } in
     let pack_here : RowsPack c.requires.0 c.args.at c.args.s.now c.args.out.now c.loop-p.out c.loop-p.p c.loop-p.k c.loop-p.n c.in-Whole.key c.in-Whole.used c.in-Whole.width c.in-Whole.size = pack_in c.requires.0 c.requires.1 in
-    let row_end : (c.put_row-m.result ≤ length c.put_row-m.last.0) × (length c.put_row-m.last.0 ≡ length c.args.out.now) = pack_end pack_here c.put_row-m.ensures in
-    omega (arith, row_end, c.good)
+    let row_end : (c.put_row-m.result ≤ length c.put_row-m.new.out) × (length c.put_row-m.new.out ≡ length c.args.out.now) = pack_end pack_here c.put_row-m.ensures in
+    omega (arith, row_end, c.well_formed)
 
 pub pack_rows-slice_bounds-item_rows-count-in-loop-p : goal.pack_rows-slice_bounds-item_rows-count-in-loop-p
 pack_rows-slice_bounds-item_rows-count-in-loop-p t c =
     let pack_in : (f : Form) → SeriesAsked c.args.at c.args.s.now (length c.args.out.now) f → RowsPack f c.args.at c.args.s.now c.args.out.now c.loop-p.out c.loop-p.p c.loop-p.k c.loop-p.n c.in-Whole.key c.in-Whole.used c.in-Whole.width c.in-Whole.size = λ f h. record { is = record { going = (c.loop-p.invariant f h).going; here = c.loop-p-test.true; head = _; reads = c.quick_pack_head-h.ensures; whole = c.in-Whole.is; bytes = λ i. (c.type_inv.s i).fits; most = omega (arith, h.few); room = h.fits }; few = (c.loop-p.invariant f h).few; within = h.few } in
     let pack_here : RowsPack c.requires.0 c.args.at c.args.s.now c.args.out.now c.loop-p.out c.loop-p.p c.loop-p.k c.loop-p.n c.in-Whole.key c.in-Whole.used c.in-Whole.width c.in-Whole.size = pack_in c.requires.0 c.requires.1 in
-    let row_end : (c.put_row-m.result ≤ length c.put_row-m.last.0) × (length c.put_row-m.last.0 ≡ length c.args.out.now) = pack_end pack_here c.put_row-m.ensures in
+    let row_end : (c.put_row-m.result ≤ length c.put_row-m.new.out) × (length c.put_row-m.new.out ≡ length c.args.out.now) = pack_end pack_here c.put_row-m.ensures in
     omega (arith, row_end)
 
 pub pack_rows-slice_bounds-item_rows-start-in-loop-p : goal.pack_rows-slice_bounds-item_rows-start-in-loop-p
 pack_rows-slice_bounds-item_rows-start-in-loop-p t c =
     let pack_in : (f : Form) → SeriesAsked c.args.at c.args.s.now (length c.args.out.now) f → RowsPack f c.args.at c.args.s.now c.args.out.now c.loop-p.out c.loop-p.p c.loop-p.k c.loop-p.n c.in-Whole.key c.in-Whole.used c.in-Whole.width c.in-Whole.size = λ f h. record { is = record { going = (c.loop-p.invariant f h).going; here = c.loop-p-test.true; head = _; reads = c.quick_pack_head-h.ensures; whole = c.in-Whole.is; bytes = λ i. (c.type_inv.s i).fits; most = omega (arith, h.few); room = h.fits }; few = (c.loop-p.invariant f h).few; within = h.few } in
     let pack_here : RowsPack c.requires.0 c.args.at c.args.s.now c.args.out.now c.loop-p.out c.loop-p.p c.loop-p.k c.loop-p.n c.in-Whole.key c.in-Whole.used c.in-Whole.width c.in-Whole.size = pack_in c.requires.0 c.requires.1 in
-    let row_end : (c.put_row-m.result ≤ length c.put_row-m.last.0) × (length c.put_row-m.last.0 ≡ length c.args.out.now) = pack_end pack_here c.put_row-m.ensures in
+    let row_end : (c.put_row-m.result ≤ length c.put_row-m.new.out) × (length c.put_row-m.new.out ≡ length c.args.out.now) = pack_end pack_here c.put_row-m.ensures in
     omega (arith, row_end)
 
 pub pack_rows-slice_bounds-item_rows-end-in-loop-p : goal.pack_rows-slice_bounds-item_rows-end-in-loop-p
 pack_rows-slice_bounds-item_rows-end-in-loop-p t c =
     let pack_in : (f : Form) → SeriesAsked c.args.at c.args.s.now (length c.args.out.now) f → RowsPack f c.args.at c.args.s.now c.args.out.now c.loop-p.out c.loop-p.p c.loop-p.k c.loop-p.n c.in-Whole.key c.in-Whole.used c.in-Whole.width c.in-Whole.size = λ f h. record { is = record { going = (c.loop-p.invariant f h).going; here = c.loop-p-test.true; head = _; reads = c.quick_pack_head-h.ensures; whole = c.in-Whole.is; bytes = λ i. (c.type_inv.s i).fits; most = omega (arith, h.few); room = h.fits }; few = (c.loop-p.invariant f h).few; within = h.few } in
     let pack_here : RowsPack c.requires.0 c.args.at c.args.s.now c.args.out.now c.loop-p.out c.loop-p.p c.loop-p.k c.loop-p.n c.in-Whole.key c.in-Whole.used c.in-Whole.width c.in-Whole.size = pack_in c.requires.0 c.requires.1 in
-    let row_end : (c.put_row-m.result ≤ length c.put_row-m.last.0) × (length c.put_row-m.last.0 ≡ length c.args.out.now) = pack_end pack_here c.put_row-m.ensures in
+    let row_end : (c.put_row-m.result ≤ length c.put_row-m.new.out) × (length c.put_row-m.new.out ≡ length c.args.out.now) = pack_end pack_here c.put_row-m.ensures in
     omega (arith, row_end)
 
 pub pack_rows-item_rows-requires : goal.pack_rows-item_rows-requires
@@ -291,7 +291,7 @@ pub pack_rows-overflow_add-k : goal.pack_rows-overflow_add-k
 pack_rows-overflow_add-k t c =
     let pack_in : (f : Form) → SeriesAsked c.args.at c.args.s.now (length c.args.out.now) f → RowsPack f c.args.at c.args.s.now c.args.out.now c.loop-p.out c.loop-p.p c.loop-p.k c.loop-p.n c.in-Whole.key c.in-Whole.used c.in-Whole.width c.in-Whole.size = λ f h. record { is = record { going = (c.loop-p.invariant f h).going; here = c.loop-p-test.true; head = _; reads = c.quick_pack_head-h.ensures; whole = c.in-Whole.is; bytes = λ i. (c.type_inv.s i).fits; most = omega (arith, h.few); room = h.fits }; few = (c.loop-p.invariant f h).few; within = h.few } in
     let pack_here : RowsPack c.requires.0 c.args.at c.args.s.now c.args.out.now c.loop-p.out c.loop-p.p c.loop-p.k c.loop-p.n c.in-Whole.key c.in-Whole.used c.in-Whole.width c.in-Whole.size = pack_in c.requires.0 c.requires.1 in
-    omega (arith, items_end pack_here c.put_row-m.ensures c.item_rows.ensures, c.good)
+    omega (arith, items_end pack_here c.put_row-m.ensures c.item_rows.ensures, c.well_formed)
 
 pub pack_rows-overflow_add-n : goal.pack_rows-overflow_add-n
 pack_rows-overflow_add-n t c =

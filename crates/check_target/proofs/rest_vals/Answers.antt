@@ -1,0 +1,8 @@
+-- `check_target::rest_vals` meets its contract.
+use borrow.Author.Rules.{rules}
+use Rattle.check_target.proofs.Sums.{walk_says}
+use Rattle.check_target.proofs.rest_vals.Goals as goal
+
+pub returns : goal.returns
+returns c =
+    walk_says _ c.args.s.now (λ i. (c.type_inv.s i).fits) c.requires.1 _ c.item_records-w.ensures.0 c.walked_vals.ensures

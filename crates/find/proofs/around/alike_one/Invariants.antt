@@ -1,0 +1,17 @@
+-- `find::around::alike_one` meets its contract: each turn passes one pack.
+use mathlib.Core.Path.{◌≡◌}
+use Prim.Native.Nat.{◌+◌, ◌-◌, ◌≤◌, ◌<◌}
+use native.Mathlib.Omega.{arith}
+use lib.ListN.{length, drop}
+use borrow.Author.Rules.{rules}
+use Rattle.format.specs.Answer.{ok, got}
+use Rattle.format.specs.Coding.{Bytes, len_of}
+use Rattle.find.specs.Series.{AlikePassed}
+use Rattle.find.proofs.Alikes.{len_one, passed_none, passed_few, passed_room, passed_more}
+use Rattle.find.proofs.around.alike_one.Given as goal
+
+abbrev pub invariant-loop-p : goal.invariant-loop-p
+invariant-loop-p l = (l.p ≤ length l.s) × AlikePassed l.s l.from l.lead (record { at = l.p; l.count = l.count })
+
+abbrev pub decreases-loop-p : goal.decreases-loop-p
+decreases-loop-p l = length l.s - l.p

@@ -64,7 +64,7 @@ after-after-requires c =
     part_asks part told c.in-Good.is
 
 pub slice_bounds-item_records-end : goal.slice_bounds-item_records-end
-slice_bounds-item_records-end c = search (rules, c.table-table.type-inv)
+slice_bounds-item_records-end c = search (rules, c.table-table.type_inv)
 
 pub item_records-requires : goal.item_records-requires
 item_records-requires c =

@@ -9,50 +9,48 @@ use Rattle.tally.specs.Runs.{Ran, series_run}
 use Rattle.find.specs.Spots.{has_id}
 use Rattle.find.proofs.Packs.{PackTurn, pack_start, PackAt, pack_done, pack_fault, pack_room, pack_found, pack_more}
 use Rattle.find.proofs.pack_spot.Goals as goal
-use Rattle.find.proofs.pack_spot.Lts as lts
-use Rattle.find.proofs.pack_spot.Reads as reads
-
--- where a head was read, and the call
-abbrev Read : Type 0
-Read = lts.After-quick-pack-head (quick-pack-head-reads.Asked, quick-pack-head-reads.Learnt, no-spot-reads.Asked, no-spot-reads.Learnt) reads.Pre reads.Post invariant-loop decreases-loop
-
-abbrev Call : Type 0
-Call = lts.Start (quick-pack-head-reads.Asked, quick-pack-head-reads.Learnt, no-spot-reads.Asked, no-spot-reads.Learnt) reads.Pre reads.Post invariant-loop decreases-loop
-
-abbrev start : Read → Call
-start a = a.before.before.before.before.before
-
--- the loop at the head that was read, for each form, and for one
-here : (a : Read) (f : Form) → Ran (series_run f (start a).args.s.now)
-    → PackAt f (has_id (start a).args.id) (start a).args.s.now a.before.before.before.loop.p a.quick-pack-head.result
-here a f r = record { turn = a.before.before.before.loop.inv f r; here = a.before.before.loop-test.taken; reads = a.quick-pack-head.ensures }
-
-one : (a : Read) → PackAt (start a).pre.1.0 (has_id (start a).args.id) (start a).args.s.now a.before.before.before.loop.p a.quick-pack-head.result
-one a = here a (start a).pre.1.0 (start a).pre.1.1
 
 pub loop-p-init : goal.loop-p-init
 loop-p-init c = λ f r. pack_start f (has_id c.args.id) _ (λ i. (c.type_inv.s i).fits) (c.requires.0, r)
 
 pub returns-in_default : goal.returns-in_default
-returns-in_default c = λ f r. pack_fault (here c.before.before.before.before f r) c.in_default.is
+returns-in_default c =
+    let here : (f : Form) → Ran (series_run f c.args.s.now) → PackAt f (has_id c.args.id) c.args.s.now c.loop-p.p c.quick_pack_head-h.result = λ f r. record { turn = c.loop-p.invariant f r; here = c.loop-p-test.true; reads = c.quick_pack_head-h.ensures } in
+    λ f r. pack_fault (here f r) c.in_default.is
 
 pub overflow_add-body : goal.overflow_add-body
-overflow_add-body c = omega (arith, pack_room (one c.before.before.before.before) c.in-Whole.is)
+overflow_add-body c =
+    let here : (f : Form) → Ran (series_run f c.args.s.now) → PackAt f (has_id c.args.id) c.args.s.now c.loop-p.p c.quick_pack_head-h.result = λ f r. record { turn = c.loop-p.invariant f r; here = c.loop-p-test.true; reads = c.quick_pack_head-h.ensures } in
+    let one : PackAt c.requires.1.0 (has_id c.args.id) c.args.s.now c.loop-p.p c.quick_pack_head-h.result = here c.requires.1.0 c.requires.1.1 in
+    omega (arith, pack_room one c.in-Whole.is)
 
 pub overflow_add-next : goal.overflow_add-next
-overflow_add-next c = omega (arith, pack_room (one c.before.before.before.before) c.in-Whole.is)
+overflow_add-next c =
+    let here : (f : Form) → Ran (series_run f c.args.s.now) → PackAt f (has_id c.args.id) c.args.s.now c.loop-p.p c.quick_pack_head-h.result = λ f r. record { turn = c.loop-p.invariant f r; here = c.loop-p-test.true; reads = c.quick_pack_head-h.ensures } in
+    let one : PackAt c.requires.1.0 (has_id c.args.id) c.args.s.now c.loop-p.p c.quick_pack_head-h.result = here c.requires.1.0 c.requires.1.1 in
+    omega (arith, pack_room one c.in-Whole.is)
 
 pub overflow_add-from : goal.overflow_add-from
-overflow_add-from c = omega (arith, pack_room (one c.before.before.before.before.before) c.in-Whole.is)
+overflow_add-from c =
+    let here : (f : Form) → Ran (series_run f c.args.s.now) → PackAt f (has_id c.args.id) c.args.s.now c.loop-p.p c.quick_pack_head-h.result = λ f r. record { turn = c.loop-p.invariant f r; here = c.loop-p-test.true; reads = c.quick_pack_head-h.ensures } in
+    let one : PackAt c.requires.1.0 (has_id c.args.id) c.args.s.now c.loop-p.p c.quick_pack_head-h.result = here c.requires.1.0 c.requires.1.1 in
+    omega (arith, pack_room one c.in-Whole.is)
 
 pub returns-then-key-id : goal.returns-then-key-id
-returns-then-key-id c = λ f r. pack_found _ (here c.before.before.before.before.before f r) c.in-Whole.is c.if-key-id.true
+returns-then-key-id c =
+    let here : (f : Form) → Ran (series_run f c.args.s.now) → PackAt f (has_id c.args.id) c.args.s.now c.loop-p.p c.quick_pack_head-h.result = λ f r. record { turn = c.loop-p.invariant f r; here = c.loop-p-test.true; reads = c.quick_pack_head-h.ensures } in
+    λ f r. pack_found _ (here f r) c.in-Whole.is c.if-key-id.true
 
 pub loop-p-smaller : goal.loop-p-smaller
-loop-p-smaller c = omega (arith, pack_room (one c.before.before.before.before.before) c.in-Whole.is)
+loop-p-smaller c =
+    let here : (f : Form) → Ran (series_run f c.args.s.now) → PackAt f (has_id c.args.id) c.args.s.now c.loop-p.p c.quick_pack_head-h.result = λ f r. record { turn = c.loop-p.invariant f r; here = c.loop-p-test.true; reads = c.quick_pack_head-h.ensures } in
+    let one : PackAt c.requires.1.0 (has_id c.args.id) c.args.s.now c.loop-p.p c.quick_pack_head-h.result = here c.requires.1.0 c.requires.1.1 in
+    omega (arith, pack_room one c.in-Whole.is)
 
 pub loop-p-preserved : goal.loop-p-preserved
-loop-p-preserved c = λ f r. pack_more _ (here c.before.before.before.before.before f r) c.in-Whole.is c.if-key-id.false
+loop-p-preserved c =
+    let here : (f : Form) → Ran (series_run f c.args.s.now) → PackAt f (has_id c.args.id) c.args.s.now c.loop-p.p c.quick_pack_head-h.result = λ f r. record { turn = c.loop-p.invariant f r; here = c.loop-p-test.true; reads = c.quick_pack_head-h.ensures } in
+    λ f r. pack_more _ (here f r) c.in-Whole.is c.if-key-id.false
 
 pub returns : goal.returns
 returns c = λ f r. c.no_spot-2.ensures ∙ pack_done _ (c.loop-p.invariant f r) c.loop-p-test.false

@@ -16,7 +16,7 @@ item_spot-a-requires c = (c.requires.short, (form_of c.args.alone, c.requires.ra
 pub returns-then-a : goal.returns-then-a
 returns-then-a c =
     set_there (form_of c.args.alone) c.args.tag c.args.s.now (c.item_spot-a.ensures (form_of c.args.alone) c.requires.ran)
-    (set_stop (form_of c.args.alone) _ (λ n. (c.type_inv.s n).fits) c.requires c.stop_of-stop.ensures) c.if-a.true c.IsPlace-in.ensures
+    (set_stop (form_of c.args.alone) _ (λ n. (c.type_inv.s n).fits) c.requires c.stop_of-stop.ensures) c.if-a.true c.place_in.ensures
 
 pub returns : goal.returns
 returns c =

@@ -16,6 +16,16 @@ use Rattle.write_sheet.specs.Quick.{RestAsked, SeriesPassed}
 use Rattle.write_sheet.proofs.Turns.{LevelSheets, SheetEntry, one_room, one_more, mark_room, series_behind, series_asked, series_more, SeriesSheets, SheetPack, target_room, items_behind, level_asked, items_more}
 use Rattle.write_sheet.proofs.+pack_items_pack_sheet_rest_sheet.Given as goal
 
+-- the item walk of the set calls the pack walk, and that the item walk of a pack
+abbrev pub decreases-rest_sheet : goal.decreases-rest_sheet
+decreases-rest_sheet l = 2 * depth l.set
+
+abbrev pub decreases-pack_sheet : goal.decreases-pack_sheet
+decreases-pack_sheet l = 2
+
+abbrev pub decreases-pack_items : goal.decreases-pack_items
+decreases-pack_items l = 1
+
 -- ---- the pack walk
 -- the quick way passed p bytes, and stored k
 pub record PacksAsked (s out : List ℕ) (p k : ℕ) (f : Form) (o : List ℕ) : Type 0 where

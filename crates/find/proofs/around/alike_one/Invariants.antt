@@ -11,7 +11,7 @@ use Rattle.find.proofs.Alikes.{len_one, passed_none, passed_few, passed_room, pa
 use Rattle.find.proofs.around.alike_one.Given as goal
 
 abbrev pub invariant-loop-p : goal.invariant-loop-p
-invariant-loop-p l = (l.p ≤ length l.s) × AlikePassed l.s l.from l.lead (record { at = l.p; l.count = l.count })
+invariant-loop-p l = (l.p ≤ length l.s) × AlikePassed l.s l.from l.lead (record { at = l.p; count = l.count })
 
 abbrev pub decreases-loop-p : goal.decreases-loop-p
 decreases-loop-p l = length l.s - l.p

@@ -141,7 +141,7 @@ overflow_add-k c =
     let told : PackHeadIf (heads.Whole c.in-Whole.key c.in-Whole.used c.in-Whole.width c.in-Whole.size) (take (length c.args.s.now - c.loop-key.p) (drop c.loop-key.p c.args.s.now)) = pack_head_if _ c.in-Whole.is c.short_pack_head-h.ensures in
     let pack_in : (f : Form) → SeriesAsked c.args.s.now (length c.args.out.now) f → SheetPack f c.args.s.now c.args.out.now c.loop-key.out c.loop-key.p c.loop-key.k c.in-Whole.key c.in-Whole.used c.in-Whole.width c.in-Whole.size = λ f h. record { going = c.loop-key.invariant f h; here = omega (arith, pack_within _ refl told.0, told.1, tail_length c.args.s.now c.loop-key.p); head = heads.Whole _ _ _ _; reads = told.0; whole = refl; bytes = λ i. (c.type_inv.s i).fits; most = h.few; room = h.fits } in
     let here : SheetPack c.requires.0 c.args.s.now c.args.out.now c.loop-key.out c.loop-key.p c.loop-key.k c.in-Whole.key c.in-Whole.used c.in-Whole.width c.in-Whole.size = pack_in c.requires.0 c.requires.1 in
-    omega (arith, (items_passed here c.put_target-m.ensures c.small_items-q.ensures c.if-q-next.false).writes.sum, c.requires.1.fits, c.good)
+    omega (arith, (items_passed here c.put_target-m.ensures c.small_items-q.ensures c.if-q-next.false).writes.sum, c.requires.1.fits, c.well_formed)
 
 pub loop-key-smaller : goal.loop-key-smaller
 loop-key-smaller c =

@@ -13,6 +13,13 @@ use Rattle.write_normal.proofs.Turns.{LevelNormals, level_begins, level_room, le
 use Rattle.write_normal.proofs.Turns.{SeriesNormals, NormalPack, no_fault, body_few, pack_asked, items_behind, level_asked, items_more, copy_asked, copied_more}
 use Rattle.write_normal.proofs.+item_normal_pack_normal.Given as goal
 
+-- the item walk of the set calls the pack walk, and that the item walk of a pack
+abbrev pub decreases-item_normal : goal.decreases-item_normal
+decreases-item_normal l = depth l.set
+
+abbrev pub decreases-pack_normal : goal.decreases-pack_normal
+decreases-pack_normal l = 1
+
 -- ---- the item walk
 abbrev pub invariant-item_normal-loop-p : goal.invariant-item_normal-loop-p
 invariant-item_normal-loop-p l = LevelNormals l.inner l.set (form_of l.alone) l.s l.initial.out l.out l.p l.k

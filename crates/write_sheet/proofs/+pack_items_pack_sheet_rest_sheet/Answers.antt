@@ -22,27 +22,27 @@ pack_items-small_items-q-requires t c = c.requires.1
 
 pub pack_items-shape_of-out-then-s-p : goal.pack_items-shape_of-out-then-s-p
 pack_items-shape_of-out-then-s-p t c =
-    let gone : (f : Form) → LevelAsked pack c.args.s.now (length c.args.out.now) f → LevelSheets false f c.args.s.now c.args.out.now c.small_items-q.new.out.0 c.small_items-q.result.used c.small_items-q.result.wrote = λ f h. record { writes = c.small_items-q.ensures f h } in
+    let gone : (f : Form) → LevelAsked pack c.args.s.now (length c.args.out.now) f → LevelSheets false f c.args.s.now c.args.out.now c.small_items-q.new.out c.small_items-q.result.used c.small_items-q.result.wrote = λ f h. record { writes = c.small_items-q.ensures f h } in
     (gone c.requires.1.0 c.requires.1.1).writes.same
 
 pub pack_items-returns-then-s-p : goal.pack_items-returns-then-s-p
 pack_items-returns-then-s-p t c =
-    let gone : (f : Form) → LevelAsked pack c.args.s.now (length c.args.out.now) f → LevelSheets false f c.args.s.now c.args.out.now c.small_items-q.new.out.0 c.small_items-q.result.used c.small_items-q.result.wrote = λ f h. record { writes = c.small_items-q.ensures f h } in
+    let gone : (f : Form) → LevelAsked pack c.args.s.now (length c.args.out.now) f → LevelSheets false f c.args.s.now c.args.out.now c.small_items-q.new.out c.small_items-q.result.used c.small_items-q.result.wrote = λ f h. record { writes = c.small_items-q.ensures f h } in
     λ f h. level_done (gone f h) c.if-s-p.true
 
 pub pack_items-rest_sheet-requires : goal.pack_items-rest_sheet-requires
 pack_items-rest_sheet-requires t c =
-    let rest_asked : (f : Form) → LevelAsked pack c.args.s.now (length c.args.out.now) f → RestAsked false c.args.s.now c.small_items-q.new.out.0 c.small_items-q.result.used c.small_items-q.result.wrote f c.args.out.now = λ f h. record { asked = h; passed = c.small_items-q.ensures f h } in
+    let rest_asked : (f : Form) → LevelAsked pack c.args.s.now (length c.args.out.now) f → RestAsked false c.args.s.now c.small_items-q.new.out c.small_items-q.result.used c.small_items-q.result.wrote f c.args.out.now = λ f h. record { asked = h; passed = c.small_items-q.ensures f h } in
     (omega (arith, c.decreases), (c.requires.0, (_, _, rest_asked c.requires.1.0 c.requires.1.1)))
 
 pub pack_items-shape_of-out : goal.pack_items-shape_of-out
 pack_items-shape_of-out t c =
-    let rest_asked : (f : Form) → LevelAsked pack c.args.s.now (length c.args.out.now) f → RestAsked false c.args.s.now c.small_items-q.new.out.0 c.small_items-q.result.used c.small_items-q.result.wrote f c.args.out.now = λ f h. record { asked = h; passed = c.small_items-q.ensures f h } in
+    let rest_asked : (f : Form) → LevelAsked pack c.args.s.now (length c.args.out.now) f → RestAsked false c.args.s.now c.small_items-q.new.out c.small_items-q.result.used c.small_items-q.result.wrote f c.args.out.now = λ f h. record { asked = h; passed = c.small_items-q.ensures f h } in
     ap length (c.rest_sheet.ensures c.requires.1.0 c.args.out.now (rest_asked c.requires.1.0 c.requires.1.1)).1 ∙ simp length-sets
 
 pub pack_items-returns : goal.pack_items-returns
 pack_items-returns t c =
-    let rest_asked : (f : Form) → LevelAsked pack c.args.s.now (length c.args.out.now) f → RestAsked false c.args.s.now c.small_items-q.new.out.0 c.small_items-q.result.used c.small_items-q.result.wrote f c.args.out.now = λ f h. record { asked = h; passed = c.small_items-q.ensures f h } in
+    let rest_asked : (f : Form) → LevelAsked pack c.args.s.now (length c.args.out.now) f → RestAsked false c.args.s.now c.small_items-q.new.out c.small_items-q.result.used c.small_items-q.result.wrote f c.args.out.now = λ f h. record { asked = h; passed = c.small_items-q.ensures f h } in
     λ f h.
     c.rest_sheet.ensures f c.args.out.now (rest_asked f h)
 
@@ -54,134 +54,134 @@ pack_sheet-loop-p-init t c = λ f o g. record { writes = g.passed }
 
 pub pack_sheet-shape_of-out-in_default : goal.pack_sheet-shape_of-out-in_default
 pack_sheet-shape_of-out-in_default t c =
-    let packs_asked : (f : Form) → SeriesAsked c.args.s.now (length c.args.out.now) f → PacksAsked c.args.s.now c.packs-q.new.out.0 c.packs-q.result.used c.packs-q.result.wrote f c.args.out.now = λ f h. record { asked = h; passed = c.packs-q.ensures f h } in
-    let packs_known : PacksAsked c.args.s.now c.packs-q.new.out.0 c.packs-q.result.used c.packs-q.result.wrote c.requires.1.0 c.args.out.now = packs_asked c.requires.1.0 c.requires.1.1 in
+    let packs_asked : (f : Form) → SeriesAsked c.args.s.now (length c.args.out.now) f → PacksAsked c.args.s.now c.packs-q.new.out c.packs-q.result.used c.packs-q.result.wrote f c.args.out.now = λ f h. record { asked = h; passed = c.packs-q.ensures f h } in
+    let packs_known : PacksAsked c.args.s.now c.packs-q.new.out c.packs-q.result.used c.packs-q.result.wrote c.requires.1.0 c.args.out.now = packs_asked c.requires.1.0 c.requires.1.1 in
     (c.loop-p.invariant _ _ packs_known).writes.same
 
 pub pack_sheet-returns-in_default : goal.pack_sheet-returns-in_default
 pack_sheet-returns-in_default t c =
-    let packs_asked : (f : Form) → SeriesAsked c.args.s.now (length c.args.out.now) f → PacksAsked c.args.s.now c.packs-q.new.out.0 c.packs-q.result.used c.packs-q.result.wrote f c.args.out.now = λ f h. record { asked = h; passed = c.packs-q.ensures f h } in
-    let packs_known : PacksAsked c.args.s.now c.packs-q.new.out.0 c.packs-q.result.used c.packs-q.result.wrote c.requires.1.0 c.args.out.now = packs_asked c.requires.1.0 c.requires.1.1 in
+    let packs_asked : (f : Form) → SeriesAsked c.args.s.now (length c.args.out.now) f → PacksAsked c.args.s.now c.packs-q.new.out c.packs-q.result.used c.packs-q.result.wrote f c.args.out.now = λ f h. record { asked = h; passed = c.packs-q.ensures f h } in
+    let packs_known : PacksAsked c.args.s.now c.packs-q.new.out c.packs-q.result.used c.packs-q.result.wrote c.requires.1.0 c.args.out.now = packs_asked c.requires.1.0 c.requires.1.1 in
     pack_fault (c.loop-p.invariant _ _ packs_known) c.loop-p-test.true c.quick_pack_head-h.ensures c.in_default.is
 
 pub pack_sheet-overflow_add-from : goal.pack_sheet-overflow_add-from
 pack_sheet-overflow_add-from t c =
-    let packs_asked : (f : Form) → SeriesAsked c.args.s.now (length c.args.out.now) f → PacksAsked c.args.s.now c.packs-q.new.out.0 c.packs-q.result.used c.packs-q.result.wrote f c.args.out.now = λ f h. record { asked = h; passed = c.packs-q.ensures f h } in
-    let packs_known : PacksAsked c.args.s.now c.packs-q.new.out.0 c.packs-q.result.used c.packs-q.result.wrote c.requires.1.0 c.args.out.now = packs_asked c.requires.1.0 c.requires.1.1 in
-    let pack_in : (f : Form) (o : List ℕ) → PacksAsked c.args.s.now c.packs-q.new.out.0 c.packs-q.result.used c.packs-q.result.wrote f o → SheetPack f c.args.s.now o c.loop-p.out c.loop-p.p c.loop-p.k c.in-Whole.key c.in-Whole.used c.in-Whole.width c.in-Whole.size = λ f o g. record { going = c.loop-p.invariant f o g; here = c.loop-p-test.true; head = _; reads = c.quick_pack_head-h.ensures; whole = c.in-Whole.is; bytes = λ i. (c.type_inv.s i).fits; most = g.asked.few; room = g.asked.fits } in
+    let packs_asked : (f : Form) → SeriesAsked c.args.s.now (length c.args.out.now) f → PacksAsked c.args.s.now c.packs-q.new.out c.packs-q.result.used c.packs-q.result.wrote f c.args.out.now = λ f h. record { asked = h; passed = c.packs-q.ensures f h } in
+    let packs_known : PacksAsked c.args.s.now c.packs-q.new.out c.packs-q.result.used c.packs-q.result.wrote c.requires.1.0 c.args.out.now = packs_asked c.requires.1.0 c.requires.1.1 in
+    let pack_in : (f : Form) (o : List ℕ) → PacksAsked c.args.s.now c.packs-q.new.out c.packs-q.result.used c.packs-q.result.wrote f o → SheetPack f c.args.s.now o c.loop-p.out c.loop-p.p c.loop-p.k c.in-Whole.key c.in-Whole.used c.in-Whole.width c.in-Whole.size = λ f o g. record { going = c.loop-p.invariant f o g; here = c.loop-p-test.true; head = _; reads = c.quick_pack_head-h.ensures; whole = c.in-Whole.is; bytes = λ i. (c.type_inv.s i).fits; most = g.asked.few; room = g.asked.fits } in
     let pack_at : SheetPack c.requires.1.0 c.args.s.now c.args.out.now c.loop-p.out c.loop-p.p c.loop-p.k c.in-Whole.key c.in-Whole.used c.in-Whole.width c.in-Whole.size = pack_in _ _ packs_known in
     omega (arith, pack_room pack_at)
 
 pub pack_sheet-overflow_add-from-in-loop-p : goal.pack_sheet-overflow_add-from-in-loop-p
 pack_sheet-overflow_add-from-in-loop-p t c =
-    let packs_asked : (f : Form) → SeriesAsked c.args.s.now (length c.args.out.now) f → PacksAsked c.args.s.now c.packs-q.new.out.0 c.packs-q.result.used c.packs-q.result.wrote f c.args.out.now = λ f h. record { asked = h; passed = c.packs-q.ensures f h } in
-    let packs_known : PacksAsked c.args.s.now c.packs-q.new.out.0 c.packs-q.result.used c.packs-q.result.wrote c.requires.1.0 c.args.out.now = packs_asked c.requires.1.0 c.requires.1.1 in
-    let pack_in : (f : Form) (o : List ℕ) → PacksAsked c.args.s.now c.packs-q.new.out.0 c.packs-q.result.used c.packs-q.result.wrote f o → SheetPack f c.args.s.now o c.loop-p.out c.loop-p.p c.loop-p.k c.in-Whole.key c.in-Whole.used c.in-Whole.width c.in-Whole.size = λ f o g. record { going = c.loop-p.invariant f o g; here = c.loop-p-test.true; head = _; reads = c.quick_pack_head-h.ensures; whole = c.in-Whole.is; bytes = λ i. (c.type_inv.s i).fits; most = g.asked.few; room = g.asked.fits } in
+    let packs_asked : (f : Form) → SeriesAsked c.args.s.now (length c.args.out.now) f → PacksAsked c.args.s.now c.packs-q.new.out c.packs-q.result.used c.packs-q.result.wrote f c.args.out.now = λ f h. record { asked = h; passed = c.packs-q.ensures f h } in
+    let packs_known : PacksAsked c.args.s.now c.packs-q.new.out c.packs-q.result.used c.packs-q.result.wrote c.requires.1.0 c.args.out.now = packs_asked c.requires.1.0 c.requires.1.1 in
+    let pack_in : (f : Form) (o : List ℕ) → PacksAsked c.args.s.now c.packs-q.new.out c.packs-q.result.used c.packs-q.result.wrote f o → SheetPack f c.args.s.now o c.loop-p.out c.loop-p.p c.loop-p.k c.in-Whole.key c.in-Whole.used c.in-Whole.width c.in-Whole.size = λ f o g. record { going = c.loop-p.invariant f o g; here = c.loop-p-test.true; head = _; reads = c.quick_pack_head-h.ensures; whole = c.in-Whole.is; bytes = λ i. (c.type_inv.s i).fits; most = g.asked.few; room = g.asked.fits } in
     let pack_at : SheetPack c.requires.1.0 c.args.s.now c.args.out.now c.loop-p.out c.loop-p.p c.loop-p.k c.in-Whole.key c.in-Whole.used c.in-Whole.width c.in-Whole.size = pack_in _ _ packs_known in
     omega (arith, pack_room pack_at)
 
 pub pack_sheet-overflow_add-next : goal.pack_sheet-overflow_add-next
 pack_sheet-overflow_add-next t c =
-    let packs_asked : (f : Form) → SeriesAsked c.args.s.now (length c.args.out.now) f → PacksAsked c.args.s.now c.packs-q.new.out.0 c.packs-q.result.used c.packs-q.result.wrote f c.args.out.now = λ f h. record { asked = h; passed = c.packs-q.ensures f h } in
-    let packs_known : PacksAsked c.args.s.now c.packs-q.new.out.0 c.packs-q.result.used c.packs-q.result.wrote c.requires.1.0 c.args.out.now = packs_asked c.requires.1.0 c.requires.1.1 in
-    let pack_in : (f : Form) (o : List ℕ) → PacksAsked c.args.s.now c.packs-q.new.out.0 c.packs-q.result.used c.packs-q.result.wrote f o → SheetPack f c.args.s.now o c.loop-p.out c.loop-p.p c.loop-p.k c.in-Whole.key c.in-Whole.used c.in-Whole.width c.in-Whole.size = λ f o g. record { going = c.loop-p.invariant f o g; here = c.loop-p-test.true; head = _; reads = c.quick_pack_head-h.ensures; whole = c.in-Whole.is; bytes = λ i. (c.type_inv.s i).fits; most = g.asked.few; room = g.asked.fits } in
+    let packs_asked : (f : Form) → SeriesAsked c.args.s.now (length c.args.out.now) f → PacksAsked c.args.s.now c.packs-q.new.out c.packs-q.result.used c.packs-q.result.wrote f c.args.out.now = λ f h. record { asked = h; passed = c.packs-q.ensures f h } in
+    let packs_known : PacksAsked c.args.s.now c.packs-q.new.out c.packs-q.result.used c.packs-q.result.wrote c.requires.1.0 c.args.out.now = packs_asked c.requires.1.0 c.requires.1.1 in
+    let pack_in : (f : Form) (o : List ℕ) → PacksAsked c.args.s.now c.packs-q.new.out c.packs-q.result.used c.packs-q.result.wrote f o → SheetPack f c.args.s.now o c.loop-p.out c.loop-p.p c.loop-p.k c.in-Whole.key c.in-Whole.used c.in-Whole.width c.in-Whole.size = λ f o g. record { going = c.loop-p.invariant f o g; here = c.loop-p-test.true; head = _; reads = c.quick_pack_head-h.ensures; whole = c.in-Whole.is; bytes = λ i. (c.type_inv.s i).fits; most = g.asked.few; room = g.asked.fits } in
     let pack_at : SheetPack c.requires.1.0 c.args.s.now c.args.out.now c.loop-p.out c.loop-p.p c.loop-p.k c.in-Whole.key c.in-Whole.used c.in-Whole.width c.in-Whole.size = pack_in _ _ packs_known in
     omega (arith, pack_room pack_at)
 
 pub pack_sheet-overflow_add-next-in-loop-p : goal.pack_sheet-overflow_add-next-in-loop-p
 pack_sheet-overflow_add-next-in-loop-p t c =
-    let packs_asked : (f : Form) → SeriesAsked c.args.s.now (length c.args.out.now) f → PacksAsked c.args.s.now c.packs-q.new.out.0 c.packs-q.result.used c.packs-q.result.wrote f c.args.out.now = λ f h. record { asked = h; passed = c.packs-q.ensures f h } in
-    let packs_known : PacksAsked c.args.s.now c.packs-q.new.out.0 c.packs-q.result.used c.packs-q.result.wrote c.requires.1.0 c.args.out.now = packs_asked c.requires.1.0 c.requires.1.1 in
-    let pack_in : (f : Form) (o : List ℕ) → PacksAsked c.args.s.now c.packs-q.new.out.0 c.packs-q.result.used c.packs-q.result.wrote f o → SheetPack f c.args.s.now o c.loop-p.out c.loop-p.p c.loop-p.k c.in-Whole.key c.in-Whole.used c.in-Whole.width c.in-Whole.size = λ f o g. record { going = c.loop-p.invariant f o g; here = c.loop-p-test.true; head = _; reads = c.quick_pack_head-h.ensures; whole = c.in-Whole.is; bytes = λ i. (c.type_inv.s i).fits; most = g.asked.few; room = g.asked.fits } in
+    let packs_asked : (f : Form) → SeriesAsked c.args.s.now (length c.args.out.now) f → PacksAsked c.args.s.now c.packs-q.new.out c.packs-q.result.used c.packs-q.result.wrote f c.args.out.now = λ f h. record { asked = h; passed = c.packs-q.ensures f h } in
+    let packs_known : PacksAsked c.args.s.now c.packs-q.new.out c.packs-q.result.used c.packs-q.result.wrote c.requires.1.0 c.args.out.now = packs_asked c.requires.1.0 c.requires.1.1 in
+    let pack_in : (f : Form) (o : List ℕ) → PacksAsked c.args.s.now c.packs-q.new.out c.packs-q.result.used c.packs-q.result.wrote f o → SheetPack f c.args.s.now o c.loop-p.out c.loop-p.p c.loop-p.k c.in-Whole.key c.in-Whole.used c.in-Whole.width c.in-Whole.size = λ f o g. record { going = c.loop-p.invariant f o g; here = c.loop-p-test.true; head = _; reads = c.quick_pack_head-h.ensures; whole = c.in-Whole.is; bytes = λ i. (c.type_inv.s i).fits; most = g.asked.few; room = g.asked.fits } in
     let pack_at : SheetPack c.requires.1.0 c.args.s.now c.args.out.now c.loop-p.out c.loop-p.p c.loop-p.k c.in-Whole.key c.in-Whole.used c.in-Whole.width c.in-Whole.size = pack_in _ _ packs_known in
     omega (arith, pack_room pack_at)
 
 pub pack_sheet-put_target-m-requires : goal.pack_sheet-put_target-m-requires
 pack_sheet-put_target-m-requires t c =
-    let packs_asked : (f : Form) → SeriesAsked c.args.s.now (length c.args.out.now) f → PacksAsked c.args.s.now c.packs-q.new.out.0 c.packs-q.result.used c.packs-q.result.wrote f c.args.out.now = λ f h. record { asked = h; passed = c.packs-q.ensures f h } in
-    let packs_known : PacksAsked c.args.s.now c.packs-q.new.out.0 c.packs-q.result.used c.packs-q.result.wrote c.requires.1.0 c.args.out.now = packs_asked c.requires.1.0 c.requires.1.1 in
-    let pack_in : (f : Form) (o : List ℕ) → PacksAsked c.args.s.now c.packs-q.new.out.0 c.packs-q.result.used c.packs-q.result.wrote f o → SheetPack f c.args.s.now o c.loop-p.out c.loop-p.p c.loop-p.k c.in-Whole.key c.in-Whole.used c.in-Whole.width c.in-Whole.size = λ f o g. record { going = c.loop-p.invariant f o g; here = c.loop-p-test.true; head = _; reads = c.quick_pack_head-h.ensures; whole = c.in-Whole.is; bytes = λ i. (c.type_inv.s i).fits; most = g.asked.few; room = g.asked.fits } in
+    let packs_asked : (f : Form) → SeriesAsked c.args.s.now (length c.args.out.now) f → PacksAsked c.args.s.now c.packs-q.new.out c.packs-q.result.used c.packs-q.result.wrote f c.args.out.now = λ f h. record { asked = h; passed = c.packs-q.ensures f h } in
+    let packs_known : PacksAsked c.args.s.now c.packs-q.new.out c.packs-q.result.used c.packs-q.result.wrote c.requires.1.0 c.args.out.now = packs_asked c.requires.1.0 c.requires.1.1 in
+    let pack_in : (f : Form) (o : List ℕ) → PacksAsked c.args.s.now c.packs-q.new.out c.packs-q.result.used c.packs-q.result.wrote f o → SheetPack f c.args.s.now o c.loop-p.out c.loop-p.p c.loop-p.k c.in-Whole.key c.in-Whole.used c.in-Whole.width c.in-Whole.size = λ f o g. record { going = c.loop-p.invariant f o g; here = c.loop-p-test.true; head = _; reads = c.quick_pack_head-h.ensures; whole = c.in-Whole.is; bytes = λ i. (c.type_inv.s i).fits; most = g.asked.few; room = g.asked.fits } in
     let pack_at : SheetPack c.requires.1.0 c.args.s.now c.args.out.now c.loop-p.out c.loop-p.p c.loop-p.k c.in-Whole.key c.in-Whole.used c.in-Whole.width c.in-Whole.size = pack_in _ _ packs_known in
     target_room pack_at
 
 pub pack_sheet-slice_bounds-pack_items-count : goal.pack_sheet-slice_bounds-pack_items-count
 pack_sheet-slice_bounds-pack_items-count t c =
-    let packs_asked : (f : Form) → SeriesAsked c.args.s.now (length c.args.out.now) f → PacksAsked c.args.s.now c.packs-q.new.out.0 c.packs-q.result.used c.packs-q.result.wrote f c.args.out.now = λ f h. record { asked = h; passed = c.packs-q.ensures f h } in
-    let packs_known : PacksAsked c.args.s.now c.packs-q.new.out.0 c.packs-q.result.used c.packs-q.result.wrote c.requires.1.0 c.args.out.now = packs_asked c.requires.1.0 c.requires.1.1 in
-    let pack_in : (f : Form) (o : List ℕ) → PacksAsked c.args.s.now c.packs-q.new.out.0 c.packs-q.result.used c.packs-q.result.wrote f o → SheetPack f c.args.s.now o c.loop-p.out c.loop-p.p c.loop-p.k c.in-Whole.key c.in-Whole.used c.in-Whole.width c.in-Whole.size = λ f o g. record { going = c.loop-p.invariant f o g; here = c.loop-p-test.true; head = _; reads = c.quick_pack_head-h.ensures; whole = c.in-Whole.is; bytes = λ i. (c.type_inv.s i).fits; most = g.asked.few; room = g.asked.fits } in
+    let packs_asked : (f : Form) → SeriesAsked c.args.s.now (length c.args.out.now) f → PacksAsked c.args.s.now c.packs-q.new.out c.packs-q.result.used c.packs-q.result.wrote f c.args.out.now = λ f h. record { asked = h; passed = c.packs-q.ensures f h } in
+    let packs_known : PacksAsked c.args.s.now c.packs-q.new.out c.packs-q.result.used c.packs-q.result.wrote c.requires.1.0 c.args.out.now = packs_asked c.requires.1.0 c.requires.1.1 in
+    let pack_in : (f : Form) (o : List ℕ) → PacksAsked c.args.s.now c.packs-q.new.out c.packs-q.result.used c.packs-q.result.wrote f o → SheetPack f c.args.s.now o c.loop-p.out c.loop-p.p c.loop-p.k c.in-Whole.key c.in-Whole.used c.in-Whole.width c.in-Whole.size = λ f o g. record { going = c.loop-p.invariant f o g; here = c.loop-p-test.true; head = _; reads = c.quick_pack_head-h.ensures; whole = c.in-Whole.is; bytes = λ i. (c.type_inv.s i).fits; most = g.asked.few; room = g.asked.fits } in
     let pack_at : SheetPack c.requires.1.0 c.args.s.now c.args.out.now c.loop-p.out c.loop-p.p c.loop-p.k c.in-Whole.key c.in-Whole.used c.in-Whole.width c.in-Whole.size = pack_in _ _ packs_known in
     omega (arith, pack_room pack_at)
 
 pub pack_sheet-slice_bounds-pack_items-start : goal.pack_sheet-slice_bounds-pack_items-start
 pack_sheet-slice_bounds-pack_items-start t c =
-    let packs_asked : (f : Form) → SeriesAsked c.args.s.now (length c.args.out.now) f → PacksAsked c.args.s.now c.packs-q.new.out.0 c.packs-q.result.used c.packs-q.result.wrote f c.args.out.now = λ f h. record { asked = h; passed = c.packs-q.ensures f h } in
-    let packs_known : PacksAsked c.args.s.now c.packs-q.new.out.0 c.packs-q.result.used c.packs-q.result.wrote c.requires.1.0 c.args.out.now = packs_asked c.requires.1.0 c.requires.1.1 in
-    let pack_in : (f : Form) (o : List ℕ) → PacksAsked c.args.s.now c.packs-q.new.out.0 c.packs-q.result.used c.packs-q.result.wrote f o → SheetPack f c.args.s.now o c.loop-p.out c.loop-p.p c.loop-p.k c.in-Whole.key c.in-Whole.used c.in-Whole.width c.in-Whole.size = λ f o g. record { going = c.loop-p.invariant f o g; here = c.loop-p-test.true; head = _; reads = c.quick_pack_head-h.ensures; whole = c.in-Whole.is; bytes = λ i. (c.type_inv.s i).fits; most = g.asked.few; room = g.asked.fits } in
+    let packs_asked : (f : Form) → SeriesAsked c.args.s.now (length c.args.out.now) f → PacksAsked c.args.s.now c.packs-q.new.out c.packs-q.result.used c.packs-q.result.wrote f c.args.out.now = λ f h. record { asked = h; passed = c.packs-q.ensures f h } in
+    let packs_known : PacksAsked c.args.s.now c.packs-q.new.out c.packs-q.result.used c.packs-q.result.wrote c.requires.1.0 c.args.out.now = packs_asked c.requires.1.0 c.requires.1.1 in
+    let pack_in : (f : Form) (o : List ℕ) → PacksAsked c.args.s.now c.packs-q.new.out c.packs-q.result.used c.packs-q.result.wrote f o → SheetPack f c.args.s.now o c.loop-p.out c.loop-p.p c.loop-p.k c.in-Whole.key c.in-Whole.used c.in-Whole.width c.in-Whole.size = λ f o g. record { going = c.loop-p.invariant f o g; here = c.loop-p-test.true; head = _; reads = c.quick_pack_head-h.ensures; whole = c.in-Whole.is; bytes = λ i. (c.type_inv.s i).fits; most = g.asked.few; room = g.asked.fits } in
     let pack_at : SheetPack c.requires.1.0 c.args.s.now c.args.out.now c.loop-p.out c.loop-p.p c.loop-p.k c.in-Whole.key c.in-Whole.used c.in-Whole.width c.in-Whole.size = pack_in _ _ packs_known in
     omega (arith, pack_room pack_at)
 
 pub pack_sheet-slice_bounds-pack_items-end : goal.pack_sheet-slice_bounds-pack_items-end
 pack_sheet-slice_bounds-pack_items-end t c =
-    let packs_asked : (f : Form) → SeriesAsked c.args.s.now (length c.args.out.now) f → PacksAsked c.args.s.now c.packs-q.new.out.0 c.packs-q.result.used c.packs-q.result.wrote f c.args.out.now = λ f h. record { asked = h; passed = c.packs-q.ensures f h } in
-    let packs_known : PacksAsked c.args.s.now c.packs-q.new.out.0 c.packs-q.result.used c.packs-q.result.wrote c.requires.1.0 c.args.out.now = packs_asked c.requires.1.0 c.requires.1.1 in
-    let pack_in : (f : Form) (o : List ℕ) → PacksAsked c.args.s.now c.packs-q.new.out.0 c.packs-q.result.used c.packs-q.result.wrote f o → SheetPack f c.args.s.now o c.loop-p.out c.loop-p.p c.loop-p.k c.in-Whole.key c.in-Whole.used c.in-Whole.width c.in-Whole.size = λ f o g. record { going = c.loop-p.invariant f o g; here = c.loop-p-test.true; head = _; reads = c.quick_pack_head-h.ensures; whole = c.in-Whole.is; bytes = λ i. (c.type_inv.s i).fits; most = g.asked.few; room = g.asked.fits } in
+    let packs_asked : (f : Form) → SeriesAsked c.args.s.now (length c.args.out.now) f → PacksAsked c.args.s.now c.packs-q.new.out c.packs-q.result.used c.packs-q.result.wrote f c.args.out.now = λ f h. record { asked = h; passed = c.packs-q.ensures f h } in
+    let packs_known : PacksAsked c.args.s.now c.packs-q.new.out c.packs-q.result.used c.packs-q.result.wrote c.requires.1.0 c.args.out.now = packs_asked c.requires.1.0 c.requires.1.1 in
+    let pack_in : (f : Form) (o : List ℕ) → PacksAsked c.args.s.now c.packs-q.new.out c.packs-q.result.used c.packs-q.result.wrote f o → SheetPack f c.args.s.now o c.loop-p.out c.loop-p.p c.loop-p.k c.in-Whole.key c.in-Whole.used c.in-Whole.width c.in-Whole.size = λ f o g. record { going = c.loop-p.invariant f o g; here = c.loop-p-test.true; head = _; reads = c.quick_pack_head-h.ensures; whole = c.in-Whole.is; bytes = λ i. (c.type_inv.s i).fits; most = g.asked.few; room = g.asked.fits } in
     let pack_at : SheetPack c.requires.1.0 c.args.s.now c.args.out.now c.loop-p.out c.loop-p.p c.loop-p.k c.in-Whole.key c.in-Whole.used c.in-Whole.width c.in-Whole.size = pack_in _ _ packs_known in
     omega (arith, pack_room pack_at)
 
 pub pack_sheet-slice_bounds-pack_items-count-in-loop-p : goal.pack_sheet-slice_bounds-pack_items-count-in-loop-p
 pack_sheet-slice_bounds-pack_items-count-in-loop-p t c =
-    let packs_asked : (f : Form) → SeriesAsked c.args.s.now (length c.args.out.now) f → PacksAsked c.args.s.now c.packs-q.new.out.0 c.packs-q.result.used c.packs-q.result.wrote f c.args.out.now = λ f h. record { asked = h; passed = c.packs-q.ensures f h } in
-    let packs_known : PacksAsked c.args.s.now c.packs-q.new.out.0 c.packs-q.result.used c.packs-q.result.wrote c.requires.1.0 c.args.out.now = packs_asked c.requires.1.0 c.requires.1.1 in
-    let pack_in : (f : Form) (o : List ℕ) → PacksAsked c.args.s.now c.packs-q.new.out.0 c.packs-q.result.used c.packs-q.result.wrote f o → SheetPack f c.args.s.now o c.loop-p.out c.loop-p.p c.loop-p.k c.in-Whole.key c.in-Whole.used c.in-Whole.width c.in-Whole.size = λ f o g. record { going = c.loop-p.invariant f o g; here = c.loop-p-test.true; head = _; reads = c.quick_pack_head-h.ensures; whole = c.in-Whole.is; bytes = λ i. (c.type_inv.s i).fits; most = g.asked.few; room = g.asked.fits } in
+    let packs_asked : (f : Form) → SeriesAsked c.args.s.now (length c.args.out.now) f → PacksAsked c.args.s.now c.packs-q.new.out c.packs-q.result.used c.packs-q.result.wrote f c.args.out.now = λ f h. record { asked = h; passed = c.packs-q.ensures f h } in
+    let packs_known : PacksAsked c.args.s.now c.packs-q.new.out c.packs-q.result.used c.packs-q.result.wrote c.requires.1.0 c.args.out.now = packs_asked c.requires.1.0 c.requires.1.1 in
+    let pack_in : (f : Form) (o : List ℕ) → PacksAsked c.args.s.now c.packs-q.new.out c.packs-q.result.used c.packs-q.result.wrote f o → SheetPack f c.args.s.now o c.loop-p.out c.loop-p.p c.loop-p.k c.in-Whole.key c.in-Whole.used c.in-Whole.width c.in-Whole.size = λ f o g. record { going = c.loop-p.invariant f o g; here = c.loop-p-test.true; head = _; reads = c.quick_pack_head-h.ensures; whole = c.in-Whole.is; bytes = λ i. (c.type_inv.s i).fits; most = g.asked.few; room = g.asked.fits } in
     let pack_at : SheetPack c.requires.1.0 c.args.s.now c.args.out.now c.loop-p.out c.loop-p.p c.loop-p.k c.in-Whole.key c.in-Whole.used c.in-Whole.width c.in-Whole.size = pack_in _ _ packs_known in
     items_behind pack_at c.put_target-m.ensures
 
 pub pack_sheet-slice_bounds-pack_items-start-in-loop-p : goal.pack_sheet-slice_bounds-pack_items-start-in-loop-p
 pack_sheet-slice_bounds-pack_items-start-in-loop-p t c =
-    let packs_asked : (f : Form) → SeriesAsked c.args.s.now (length c.args.out.now) f → PacksAsked c.args.s.now c.packs-q.new.out.0 c.packs-q.result.used c.packs-q.result.wrote f c.args.out.now = λ f h. record { asked = h; passed = c.packs-q.ensures f h } in
-    let packs_known : PacksAsked c.args.s.now c.packs-q.new.out.0 c.packs-q.result.used c.packs-q.result.wrote c.requires.1.0 c.args.out.now = packs_asked c.requires.1.0 c.requires.1.1 in
-    let pack_in : (f : Form) (o : List ℕ) → PacksAsked c.args.s.now c.packs-q.new.out.0 c.packs-q.result.used c.packs-q.result.wrote f o → SheetPack f c.args.s.now o c.loop-p.out c.loop-p.p c.loop-p.k c.in-Whole.key c.in-Whole.used c.in-Whole.width c.in-Whole.size = λ f o g. record { going = c.loop-p.invariant f o g; here = c.loop-p-test.true; head = _; reads = c.quick_pack_head-h.ensures; whole = c.in-Whole.is; bytes = λ i. (c.type_inv.s i).fits; most = g.asked.few; room = g.asked.fits } in
+    let packs_asked : (f : Form) → SeriesAsked c.args.s.now (length c.args.out.now) f → PacksAsked c.args.s.now c.packs-q.new.out c.packs-q.result.used c.packs-q.result.wrote f c.args.out.now = λ f h. record { asked = h; passed = c.packs-q.ensures f h } in
+    let packs_known : PacksAsked c.args.s.now c.packs-q.new.out c.packs-q.result.used c.packs-q.result.wrote c.requires.1.0 c.args.out.now = packs_asked c.requires.1.0 c.requires.1.1 in
+    let pack_in : (f : Form) (o : List ℕ) → PacksAsked c.args.s.now c.packs-q.new.out c.packs-q.result.used c.packs-q.result.wrote f o → SheetPack f c.args.s.now o c.loop-p.out c.loop-p.p c.loop-p.k c.in-Whole.key c.in-Whole.used c.in-Whole.width c.in-Whole.size = λ f o g. record { going = c.loop-p.invariant f o g; here = c.loop-p-test.true; head = _; reads = c.quick_pack_head-h.ensures; whole = c.in-Whole.is; bytes = λ i. (c.type_inv.s i).fits; most = g.asked.few; room = g.asked.fits } in
     let pack_at : SheetPack c.requires.1.0 c.args.s.now c.args.out.now c.loop-p.out c.loop-p.p c.loop-p.k c.in-Whole.key c.in-Whole.used c.in-Whole.width c.in-Whole.size = pack_in _ _ packs_known in
     (items_behind pack_at c.put_target-m.ensures)
 
 pub pack_sheet-pack_items-requires : goal.pack_sheet-pack_items-requires
 pack_sheet-pack_items-requires t c =
-    let packs_asked : (f : Form) → SeriesAsked c.args.s.now (length c.args.out.now) f → PacksAsked c.args.s.now c.packs-q.new.out.0 c.packs-q.result.used c.packs-q.result.wrote f c.args.out.now = λ f h. record { asked = h; passed = c.packs-q.ensures f h } in
-    let packs_known : PacksAsked c.args.s.now c.packs-q.new.out.0 c.packs-q.result.used c.packs-q.result.wrote c.requires.1.0 c.args.out.now = packs_asked c.requires.1.0 c.requires.1.1 in
-    let pack_in : (f : Form) (o : List ℕ) → PacksAsked c.args.s.now c.packs-q.new.out.0 c.packs-q.result.used c.packs-q.result.wrote f o → SheetPack f c.args.s.now o c.loop-p.out c.loop-p.p c.loop-p.k c.in-Whole.key c.in-Whole.used c.in-Whole.width c.in-Whole.size = λ f o g. record { going = c.loop-p.invariant f o g; here = c.loop-p-test.true; head = _; reads = c.quick_pack_head-h.ensures; whole = c.in-Whole.is; bytes = λ i. (c.type_inv.s i).fits; most = g.asked.few; room = g.asked.fits } in
+    let packs_asked : (f : Form) → SeriesAsked c.args.s.now (length c.args.out.now) f → PacksAsked c.args.s.now c.packs-q.new.out c.packs-q.result.used c.packs-q.result.wrote f c.args.out.now = λ f h. record { asked = h; passed = c.packs-q.ensures f h } in
+    let packs_known : PacksAsked c.args.s.now c.packs-q.new.out c.packs-q.result.used c.packs-q.result.wrote c.requires.1.0 c.args.out.now = packs_asked c.requires.1.0 c.requires.1.1 in
+    let pack_in : (f : Form) (o : List ℕ) → PacksAsked c.args.s.now c.packs-q.new.out c.packs-q.result.used c.packs-q.result.wrote f o → SheetPack f c.args.s.now o c.loop-p.out c.loop-p.p c.loop-p.k c.in-Whole.key c.in-Whole.used c.in-Whole.width c.in-Whole.size = λ f o g. record { going = c.loop-p.invariant f o g; here = c.loop-p-test.true; head = _; reads = c.quick_pack_head-h.ensures; whole = c.in-Whole.is; bytes = λ i. (c.type_inv.s i).fits; most = g.asked.few; room = g.asked.fits } in
     let pack_at : SheetPack c.requires.1.0 c.args.s.now c.args.out.now c.loop-p.out c.loop-p.p c.loop-p.k c.in-Whole.key c.in-Whole.used c.in-Whole.width c.in-Whole.size = pack_in _ _ packs_known in
     (omega (arith, c.decreases), (c.requires.0, (_, level_asked pack_at c.put_target-m.ensures)))
 
 pub pack_sheet-overflow_add-k : goal.pack_sheet-overflow_add-k
 pack_sheet-overflow_add-k t c =
-    let packs_asked : (f : Form) → SeriesAsked c.args.s.now (length c.args.out.now) f → PacksAsked c.args.s.now c.packs-q.new.out.0 c.packs-q.result.used c.packs-q.result.wrote f c.args.out.now = λ f h. record { asked = h; passed = c.packs-q.ensures f h } in
-    let packs_known : PacksAsked c.args.s.now c.packs-q.new.out.0 c.packs-q.result.used c.packs-q.result.wrote c.requires.1.0 c.args.out.now = packs_asked c.requires.1.0 c.requires.1.1 in
-    let pack_in : (f : Form) (o : List ℕ) → PacksAsked c.args.s.now c.packs-q.new.out.0 c.packs-q.result.used c.packs-q.result.wrote f o → SheetPack f c.args.s.now o c.loop-p.out c.loop-p.p c.loop-p.k c.in-Whole.key c.in-Whole.used c.in-Whole.width c.in-Whole.size = λ f o g. record { going = c.loop-p.invariant f o g; here = c.loop-p-test.true; head = _; reads = c.quick_pack_head-h.ensures; whole = c.in-Whole.is; bytes = λ i. (c.type_inv.s i).fits; most = g.asked.few; room = g.asked.fits } in
+    let packs_asked : (f : Form) → SeriesAsked c.args.s.now (length c.args.out.now) f → PacksAsked c.args.s.now c.packs-q.new.out c.packs-q.result.used c.packs-q.result.wrote f c.args.out.now = λ f h. record { asked = h; passed = c.packs-q.ensures f h } in
+    let packs_known : PacksAsked c.args.s.now c.packs-q.new.out c.packs-q.result.used c.packs-q.result.wrote c.requires.1.0 c.args.out.now = packs_asked c.requires.1.0 c.requires.1.1 in
+    let pack_in : (f : Form) (o : List ℕ) → PacksAsked c.args.s.now c.packs-q.new.out c.packs-q.result.used c.packs-q.result.wrote f o → SheetPack f c.args.s.now o c.loop-p.out c.loop-p.p c.loop-p.k c.in-Whole.key c.in-Whole.used c.in-Whole.width c.in-Whole.size = λ f o g. record { going = c.loop-p.invariant f o g; here = c.loop-p-test.true; head = _; reads = c.quick_pack_head-h.ensures; whole = c.in-Whole.is; bytes = λ i. (c.type_inv.s i).fits; most = g.asked.few; room = g.asked.fits } in
     let pack_at : SheetPack c.requires.1.0 c.args.s.now c.args.out.now c.loop-p.out c.loop-p.p c.loop-p.k c.in-Whole.key c.in-Whole.used c.in-Whole.width c.in-Whole.size = pack_in _ _ packs_known in
     omega (arith, (items_more pack_at c.put_target-m.ensures c.pack_items.ensures).writes.sum, c.requires.1.1.fits, c.well_formed)
 
 pub pack_sheet-loop-p-smaller : goal.pack_sheet-loop-p-smaller
 pack_sheet-loop-p-smaller t c =
-    let packs_asked : (f : Form) → SeriesAsked c.args.s.now (length c.args.out.now) f → PacksAsked c.args.s.now c.packs-q.new.out.0 c.packs-q.result.used c.packs-q.result.wrote f c.args.out.now = λ f h. record { asked = h; passed = c.packs-q.ensures f h } in
-    let packs_known : PacksAsked c.args.s.now c.packs-q.new.out.0 c.packs-q.result.used c.packs-q.result.wrote c.requires.1.0 c.args.out.now = packs_asked c.requires.1.0 c.requires.1.1 in
-    let pack_in : (f : Form) (o : List ℕ) → PacksAsked c.args.s.now c.packs-q.new.out.0 c.packs-q.result.used c.packs-q.result.wrote f o → SheetPack f c.args.s.now o c.loop-p.out c.loop-p.p c.loop-p.k c.in-Whole.key c.in-Whole.used c.in-Whole.width c.in-Whole.size = λ f o g. record { going = c.loop-p.invariant f o g; here = c.loop-p-test.true; head = _; reads = c.quick_pack_head-h.ensures; whole = c.in-Whole.is; bytes = λ i. (c.type_inv.s i).fits; most = g.asked.few; room = g.asked.fits } in
+    let packs_asked : (f : Form) → SeriesAsked c.args.s.now (length c.args.out.now) f → PacksAsked c.args.s.now c.packs-q.new.out c.packs-q.result.used c.packs-q.result.wrote f c.args.out.now = λ f h. record { asked = h; passed = c.packs-q.ensures f h } in
+    let packs_known : PacksAsked c.args.s.now c.packs-q.new.out c.packs-q.result.used c.packs-q.result.wrote c.requires.1.0 c.args.out.now = packs_asked c.requires.1.0 c.requires.1.1 in
+    let pack_in : (f : Form) (o : List ℕ) → PacksAsked c.args.s.now c.packs-q.new.out c.packs-q.result.used c.packs-q.result.wrote f o → SheetPack f c.args.s.now o c.loop-p.out c.loop-p.p c.loop-p.k c.in-Whole.key c.in-Whole.used c.in-Whole.width c.in-Whole.size = λ f o g. record { going = c.loop-p.invariant f o g; here = c.loop-p-test.true; head = _; reads = c.quick_pack_head-h.ensures; whole = c.in-Whole.is; bytes = λ i. (c.type_inv.s i).fits; most = g.asked.few; room = g.asked.fits } in
     let pack_at : SheetPack c.requires.1.0 c.args.s.now c.args.out.now c.loop-p.out c.loop-p.p c.loop-p.k c.in-Whole.key c.in-Whole.used c.in-Whole.width c.in-Whole.size = pack_in _ _ packs_known in
     omega (arith, pack_room pack_at)
 
 pub pack_sheet-loop-p-preserved : goal.pack_sheet-loop-p-preserved
 pack_sheet-loop-p-preserved t c =
-    let pack_in : (f : Form) (o : List ℕ) → PacksAsked c.args.s.now c.packs-q.new.out.0 c.packs-q.result.used c.packs-q.result.wrote f o → SheetPack f c.args.s.now o c.loop-p.out c.loop-p.p c.loop-p.k c.in-Whole.key c.in-Whole.used c.in-Whole.width c.in-Whole.size = λ f o g. record { going = c.loop-p.invariant f o g; here = c.loop-p-test.true; head = _; reads = c.quick_pack_head-h.ensures; whole = c.in-Whole.is; bytes = λ i. (c.type_inv.s i).fits; most = g.asked.few; room = g.asked.fits } in
+    let pack_in : (f : Form) (o : List ℕ) → PacksAsked c.args.s.now c.packs-q.new.out c.packs-q.result.used c.packs-q.result.wrote f o → SheetPack f c.args.s.now o c.loop-p.out c.loop-p.p c.loop-p.k c.in-Whole.key c.in-Whole.used c.in-Whole.width c.in-Whole.size = λ f o g. record { going = c.loop-p.invariant f o g; here = c.loop-p-test.true; head = _; reads = c.quick_pack_head-h.ensures; whole = c.in-Whole.is; bytes = λ i. (c.type_inv.s i).fits; most = g.asked.few; room = g.asked.fits } in
     λ f o g. items_more (pack_in f o g) c.put_target-m.ensures c.pack_items.ensures
 
 pub pack_sheet-shape_of-out : goal.pack_sheet-shape_of-out
 pack_sheet-shape_of-out t c =
-    let packs_asked : (f : Form) → SeriesAsked c.args.s.now (length c.args.out.now) f → PacksAsked c.args.s.now c.packs-q.new.out.0 c.packs-q.result.used c.packs-q.result.wrote f c.args.out.now = λ f h. record { asked = h; passed = c.packs-q.ensures f h } in
-    let packs_known : PacksAsked c.args.s.now c.packs-q.new.out.0 c.packs-q.result.used c.packs-q.result.wrote c.requires.1.0 c.args.out.now = packs_asked c.requires.1.0 c.requires.1.1 in
+    let packs_asked : (f : Form) → SeriesAsked c.args.s.now (length c.args.out.now) f → PacksAsked c.args.s.now c.packs-q.new.out c.packs-q.result.used c.packs-q.result.wrote f c.args.out.now = λ f h. record { asked = h; passed = c.packs-q.ensures f h } in
+    let packs_known : PacksAsked c.args.s.now c.packs-q.new.out c.packs-q.result.used c.packs-q.result.wrote c.requires.1.0 c.args.out.now = packs_asked c.requires.1.0 c.requires.1.1 in
     (c.loop-p.invariant _ _ packs_known).writes.same
 
 pub pack_sheet-returns : goal.pack_sheet-returns
 pack_sheet-returns t c =
-    let packs_asked : (f : Form) → SeriesAsked c.args.s.now (length c.args.out.now) f → PacksAsked c.args.s.now c.packs-q.new.out.0 c.packs-q.result.used c.packs-q.result.wrote f c.args.out.now = λ f h. record { asked = h; passed = c.packs-q.ensures f h } in
+    let packs_asked : (f : Form) → SeriesAsked c.args.s.now (length c.args.out.now) f → PacksAsked c.args.s.now c.packs-q.new.out c.packs-q.result.used c.packs-q.result.wrote f c.args.out.now = λ f h. record { asked = h; passed = c.packs-q.ensures f h } in
     λ f h. series_done (c.loop-p.invariant f _ (packs_asked f h)) c.loop-p-test.false
 
 pub rest_sheet-loop-p-init : goal.rest_sheet-loop-p-init

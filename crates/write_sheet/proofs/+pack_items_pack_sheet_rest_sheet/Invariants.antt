@@ -29,8 +29,8 @@ decreases-pack_items l = 1
 -- ---- the pack walk
 -- the quick way passed p bytes, and stored k
 pub record PacksAsked (s out : List ℕ) (p k : ℕ) (f : Form) (o : List ℕ) : Type 0 where
-  asked : SeriesAsked s (length o) f
-  passed : SeriesPassed f s o out p k
+  pub asked : SeriesAsked s (length o) f
+  pub passed : SeriesPassed f s o out p k
 
 -- whatever the form, and whatever the output was where the series began
 abbrev pub invariant-pack_sheet-loop-p : goal.invariant-pack_sheet-loop-p

@@ -8,45 +8,42 @@ use borrow.Author.Tests.{lt-ltb, le-ltb, not-true, not-false}
 use Rattle.format.specs.Coding.{Bytes}
 use Rattle.format.specs.Table.{nameable}
 use Rattle.items.specs.Meet.{form_of, level_of}
-use Rattle.find.specs.Places.{holder_of, Placed, FoundIs}
+use Rattle.find.specs.Places.{SetOf, holder_of, Placed, FoundIs}
 use Rattle.edit_rules.specs.declared.Valued.{Valued}
 use Rattle.edit_rules.specs.declared.Valued.TheVariants.{Size, Fault}
 use Rattle.edit_rules.specs.declared.one.Judged.{Judged}
 use Rattle.edit_rules.specs.declared.one.Judged.TheVariants.{Wrong}
-use Rattle.edit_rules.specs.Meet.{ValuedAs, TurnedAs, OneAs, LeftAs}
+use Rattle.edit_rules.specs.Meet.{sheet_of, ValuedAs, TurnedAs, OneAs, LeftAs}
 use Rattle.edit_rules.proofs.Rules.{unnamed, unheld, removed, absent, put_turned, turn_fine, turn_stops}
 use Rattle.edit_rules.proofs.Judging.{one_stops, one_left}
+use mathlib.Core.List.{List}
+use Rattle.format.specs.Table.{Form}
+use Rattle.find.specs.declared.Place.{Place}
+use Rattle.edit_rules.specs.declared.Asked.{Asked}
+use Rattle.format.specs.Valid.{SheetValid}
 use Rattle.edit_rules.proofs.one.judge.Goals as goal
 use Rattle.edit_rules.proofs.one.judge.Tie as tie
 
--- the change in its turn, where it puts so many bytes, or is refused
-module _ (p : tie.After-f) where
-  abbrev i : tie.Start
-  i = from (up p)
-
+-- the change in its turn at its place, where it puts so many bytes, or is refused
+module _ (f : Form) (a : Asked) (v s : List ℕ) (b : Bytes s) (o : SetOf f s) (w : SheetValid (sheet_of f s)) (n : nameable (level_of a.set) a.change.tag ≡ true) (place : Place)
+    (here : Placed f (holder_of a.set a.id) a.change.tag s place) where
   abbrev Turned : Valued → Type 0
-  Turned x = TurnedAs (form_of i.args.alone) (level_of i.args.a.set) i.args.a.change i.args.v.now (ltb p.f.given.0.0.at p.f.given.0.0.next) x
+  Turned x = TurnedAs f (level_of a.set) a.change v (ltb place.at place.next) x
 
-  fine : {m : ℕ} → Turned (Size m) → {r : Judged} → LeftAs (form_of i.args.alone) i.args.a p.f.given.0.0 m r → OneAs (form_of i.args.alone) i.args.a i.args.v.now i.args.s.now r
-  fine q l =
-      one_left (form_of i.args.alone) i.args.a i.args.v.now i.args.s.now (bytes (up p)) i.pre.1 i.pre.2
-      (turn_fine (form_of i.args.alone) i.args.a.set i.args.a.id i.args.a.change i.args.v.now i.args.s.now (named (up p)) (bytes (up p)) i.pre.1 _ (here p) q) l
+  fine : {m : ℕ} → Turned (Size m) → {r : Judged} → LeftAs f a place m r → OneAs f a v s r
+  fine q l = one_left f a v s b o w (turn_fine f a.set a.id a.change v s n b o _ here q) l
 
-  stops : {n : ℕ} → Turned (Fault n) → OneAs (form_of i.args.alone) i.args.a i.args.v.now i.args.s.now (Wrong n)
-  stops {n = n} q =
-      one_stops (form_of i.args.alone) i.args.a i.args.v.now i.args.s.now n
-      (turn_stops (form_of i.args.alone) i.args.a.set i.args.a.id i.args.a.change i.args.v.now i.args.s.now (named (up p)) (bytes (up p)) i.pre.1 _ (here p) q)
+  stops : {k : ℕ} → Turned (Fault k) → OneAs f a v s (Wrong k)
+  stops {k = k} q = one_stops f a v s k (turn_stops f a.set a.id a.change v s n b o _ here q)
 
-  gone : i.args.a.change.removal ≡ true → p.f.given.0.0.at < p.f.given.0.0.next → Turned (Size 0)
-  gone r l = removed (form_of i.args.alone) (level_of i.args.a.set) i.args.a.change i.args.v.now r (lt-ltb _ _ l)
+  gone : a.change.removal ≡ true → place.at < place.next → Turned (Size 0)
+  gone r l = removed f (level_of a.set) a.change v r (lt-ltb _ _ l)
 
-  none : i.args.a.change.removal ≡ true → p.f.given.0.0.next ≤ p.f.given.0.0.at → Turned (Fault 18)
-  none r l = absent (form_of i.args.alone) (level_of i.args.a.set) i.args.a.change i.args.v.now r (le-ltb _ _ l)
+  none : a.change.removal ≡ true → place.next ≤ place.at → Turned (Fault 18)
+  none r l = absent f (level_of a.set) a.change v r (le-ltb _ _ l)
 
-  valued : i.args.a.change.removal ≡ false → {y : Valued} (x : Valued) → y ≡ x → ValuedAs (form_of i.args.alone) (level_of i.args.a.set) i.args.a.change.tag i.args.v.now y → Turned x
-  valued r x e q =
-      put_turned (form_of i.args.alone) (level_of i.args.a.set) i.args.a.change i.args.v.now r _ x
-      (subst (ValuedAs (form_of i.args.alone) (level_of i.args.a.set) i.args.a.change.tag i.args.v.now) e q)
+  valued : a.change.removal ≡ false → {y : Valued} (x : Valued) → y ≡ x → ValuedAs f (level_of a.set) a.change.tag v y → Turned x
+  valued r x e q = put_turned f (level_of a.set) a.change v r _ x (subst (ValuedAs f (level_of a.set) a.change.tag v) e q)
 
 pub returns-then-not-nameable_of : goal.returns-then-not-nameable_of
 returns-then-not-nameable_of c =
@@ -64,16 +61,40 @@ returns-in_default c =
 
 pub returns-then-place : goal.returns-then-place
 returns-then-place c =
-    fine c (gone c c.if-c.true c.if-place.true) c.left_of.ensures
+    let i = c.args in
+    let f : Form = form_of i.alone in
+    let b : Bytes i.s.now = λ k. (c.type_inv.s k).fits in
+    let named : nameable (level_of i.a.set) i.a.change.tag ≡ true = sym c.nameable_of.ensures ∙ not-false _ c.if-not-nameable_of.false-raw in
+    let here : Placed f (holder_of i.a.set i.a.id) i.a.change.tag i.s.now c.in-There.place =
+    subst (FoundIs f (holder_of i.a.set i.a.id) i.a.change.tag i.s.now) c.in-There.is c.place_of-f.ensures in
+    fine f i.a i.v.now i.s.now b c.requires.1 c.requires.2 named _ here (gone f i.a i.v.now i.s.now b c.requires.1 c.requires.2 named _ here c.if-c.true c.if-place.true) c.left_of.ensures
 
 pub returns-then-c : goal.returns-then-c
 returns-then-c c =
-    stops c (none c c.if-c.true c.if-place.false)
+    let i = c.args in
+    let f : Form = form_of i.alone in
+    let b : Bytes i.s.now = λ k. (c.type_inv.s k).fits in
+    let named : nameable (level_of i.a.set) i.a.change.tag ≡ true = sym c.nameable_of.ensures ∙ not-false _ c.if-not-nameable_of.false-raw in
+    let here : Placed f (holder_of i.a.set i.a.id) i.a.change.tag i.s.now c.in-There.place =
+    subst (FoundIs f (holder_of i.a.set i.a.id) i.a.change.tag i.s.now) c.in-There.is c.place_of-f.ensures in
+    stops f i.a i.v.now i.s.now b c.requires.1 c.requires.2 named _ here (none f i.a i.v.now i.s.now b c.requires.1 c.requires.2 named _ here c.if-c.true c.if-place.false)
 
 pub returns-in-Size : goal.returns-in-Size
 returns-in-Size c =
-    fine c (valued c c.if-c.false _ c.in-Size.is c.put_size-x.ensures) c.left_of-in-Size.ensures
+    let i = c.args in
+    let f : Form = form_of i.alone in
+    let b : Bytes i.s.now = λ k. (c.type_inv.s k).fits in
+    let named : nameable (level_of i.a.set) i.a.change.tag ≡ true = sym c.nameable_of.ensures ∙ not-false _ c.if-not-nameable_of.false-raw in
+    let here : Placed f (holder_of i.a.set i.a.id) i.a.change.tag i.s.now c.in-There.place =
+    subst (FoundIs f (holder_of i.a.set i.a.id) i.a.change.tag i.s.now) c.in-There.is c.place_of-f.ensures in
+    fine f i.a i.v.now i.s.now b c.requires.1 c.requires.2 named _ here (valued f i.a i.v.now i.s.now b c.requires.1 c.requires.2 named _ here c.if-c.false _ c.in-Size.is c.put_size-x.ensures) c.left_of-in-Size.ensures
 
 pub returns-in-Fault : goal.returns-in-Fault
 returns-in-Fault c =
-    stops c (valued c c.if-c.false _ c.in-Fault.is c.put_size-x.ensures)
+    let i = c.args in
+    let f : Form = form_of i.alone in
+    let b : Bytes i.s.now = λ k. (c.type_inv.s k).fits in
+    let named : nameable (level_of i.a.set) i.a.change.tag ≡ true = sym c.nameable_of.ensures ∙ not-false _ c.if-not-nameable_of.false-raw in
+    let here : Placed f (holder_of i.a.set i.a.id) i.a.change.tag i.s.now c.in-There.place =
+    subst (FoundIs f (holder_of i.a.set i.a.id) i.a.change.tag i.s.now) c.in-There.is c.place_of-f.ensures in
+    stops f i.a i.v.now i.s.now b c.requires.1 c.requires.2 named _ here (valued f i.a i.v.now i.s.now b c.requires.1 c.requires.2 named _ here c.if-c.false _ c.in-Fault.is c.put_size-x.ensures)

@@ -6,16 +6,22 @@ use borrow.Author.Tests.{lt-ltb, le-ltb, not-true, not-false}
 use lib.Dec.{ltb}
 use Rattle.format.specs.Lists.{has}
 use Rattle.format.specs.Packet.{tag_of_entry}
-use Rattle.format.specs.Table.{set, nameable}
+use Rattle.format.specs.Table.{Form, set, nameable}
 use Rattle.items.specs.Meet.{form_of}
 use Rattle.find.specs.Places.{kept_of}
-use mathlib.Core.List.{map}
+use mathlib.Core.List.{List, map}
 use Rattle.edit_rules.specs.declared.Valued.{Valued}
 use Rattle.edit_rules.specs.Meet.{ValuedAs, TurnedAs}
 use Rattle.edit_rules.proofs.Sets.{spot_stands}
 use Rattle.edit_rules.proofs.Rules.{removed, absent, put_turned}
 use Rattle.edit_rules.proofs.Judging.{set_unnamed, set_first, set_second}
+use Prim.Native.Nat.{ℕ}
+use Rattle.edit_rules.specs.declared.Change as told
 use Rattle.edit_rules.proofs.two.set_fault.Goals as goal
+
+-- a value that is put, judged as it is told
+put_as : (f : Form) (c : told.Change) (v s : List ℕ) → c.removal ≡ false → {y : Valued} (x : Valued) → y ≡ x → ValuedAs f set c.tag v y → TurnedAs f set c v (has c.tag (map tag_of_entry (kept_of f s))) x
+put_as f c v s r x e q = put_turned f set c v r _ x (subst (ValuedAs f set c.tag v) e q)
 
 pub returns-then-not-nameable_of : goal.returns-then-not-nameable_of
 returns-then-not-nameable_of c =
@@ -42,13 +48,11 @@ returns-then-c c =
 pub returns-in-Size : goal.returns-in-Size
 returns-in-Size c =
     let named : nameable set c.args.c.tag ≡ true = sym c.nameable_of.ensures ∙ not-false _ c.if-not-nameable_of.false-raw in
-    let put_as : c.args.c.removal ≡ false → {y : Valued} (x : Valued) → y ≡ x → let i = c.args in ValuedAs (form_of i.alone) set i.c.tag i.v.now y → TurnedAs (form_of i.alone) set i.c i.v.now (has i.c.tag (map tag_of_entry (kept_of (form_of i.alone) i.s.now))) x = λ r x e q. let i = c.args in put_turned (form_of i.alone) set i.c i.v.now r _ x (subst (ValuedAs (form_of i.alone) set i.c.tag i.v.now) e q) in
     let i = c.args in
-    set_second (form_of i.alone) i.c i.v.now i.s.now named refl _ (put_as c.if-c.false _ c.in-Size.is c.plain_size-x.ensures)
+    set_second (form_of i.alone) i.c i.v.now i.s.now named refl _ (put_as (form_of i.alone) i.c i.v.now i.s.now c.if-c.false _ c.in-Size.is c.plain_size-x.ensures)
 
 pub returns-in-Fault : goal.returns-in-Fault
 returns-in-Fault c =
     let named : nameable set c.args.c.tag ≡ true = sym c.nameable_of.ensures ∙ not-false _ c.if-not-nameable_of.false-raw in
-    let put_as : c.args.c.removal ≡ false → {y : Valued} (x : Valued) → y ≡ x → let i = c.args in ValuedAs (form_of i.alone) set i.c.tag i.v.now y → TurnedAs (form_of i.alone) set i.c i.v.now (has i.c.tag (map tag_of_entry (kept_of (form_of i.alone) i.s.now))) x = λ r x e q. let i = c.args in put_turned (form_of i.alone) set i.c i.v.now r _ x (subst (ValuedAs (form_of i.alone) set i.c.tag i.v.now) e q) in
     let i = c.args in
-    set_first (form_of i.alone) i.c i.v.now i.s.now named refl _ (put_as c.if-c.false _ c.in-Fault.is c.plain_size-x.ensures)
+    set_first (form_of i.alone) i.c i.v.now i.s.now named refl _ (put_as (form_of i.alone) i.c i.v.now i.s.now c.if-c.false _ c.in-Fault.is c.plain_size-x.ensures)

@@ -16,7 +16,7 @@ pub returns-then-p : goal.returns-then-p
 returns-then-p c =
     let i = c.args in (
       part_bytes c.shown-p.result c.if-p.true c.shown-p.ensures.0 i.reviewer.now i.detector.now,
-      part_place c.shown-p.result c.if-p.true c.shown-p.ensures.0 i.reviewer.ptr i.detector.ptr,
+      part_place c.shown-p.result c.if-p.true c.shown-p.ensures.0 i.reviewer.ref_ptr i.detector.ref_ptr,
     )
 
 pub slice_bounds-result-end-2 : goal.slice_bounds-result-end-2
@@ -26,5 +26,5 @@ pub returns : goal.returns
 returns c =
     let i = c.args in (
       part_bytes c.shown-p.result c.if-p.false c.shown-p.ensures.0 i.reviewer.now i.detector.now,
-      part_place c.shown-p.result c.if-p.false c.shown-p.ensures.0 i.reviewer.ptr i.detector.ptr,
+      part_place c.shown-p.result c.if-p.false c.shown-p.ensures.0 i.reviewer.ref_ptr i.detector.ref_ptr,
     )

@@ -1,0 +1,17 @@
+-- `two::body_size` meets its contract.
+use native.Mathlib.Omega.{arith}
+use borrow.Author.Rules.{rules}
+use Rattle.edit_rules.proofs.Sizes.{cut_few}
+use Rattle.edit_bytes.proofs.two.body_size.Goals as goal
+
+pub overflow_add-result : goal.overflow_add-result
+overflow_add-result c = omega (arith, cut_few c.args.k.lo c.requires.1)
+
+pub overflow_add-result-2 : goal.overflow_add-result-2
+overflow_add-result-2 c = omega (arith, cut_few c.args.k.lo c.requires.1)
+
+pub overflow_add-result-3 : goal.overflow_add-result-3
+overflow_add-result-3 c = omega (arith, cut_few c.args.k.lo c.requires.1, cut_few c.args.k.hi c.requires.2)
+
+pub overflow_add-result-4 : goal.overflow_add-result-4
+overflow_add-result-4 c = omega (arith, cut_few c.args.k.lo c.requires.1, cut_few c.args.k.hi c.requires.2)

@@ -4,7 +4,10 @@
 
 ghost use Rattle.std.specs.Prelude.{◌≤◌, false, ◌≡◌, length};
 
-use libc::{STDIN_FILENO, STDOUT_FILENO};
+// The standard streams, by number.
+const INPUT: i32 = 0;
+
+const OUTPUT: i32 = 1;
 
 // The kinds of a question.
 const LOCATE: u64 = 0x4C;
@@ -24,7 +27,7 @@ const UNKNOWN: u64 = 4;
 fn number(n: u64) {
     let mut out = [0u8; 8];
     stores::put_number(&mut out, 0, n, 8);
-    io::write_all(STDOUT_FILENO, &out);
+    io::write_all(OUTPUT, &out);
 }
 
 // Every number of a table, in one write.
@@ -38,7 +41,7 @@ fn numbers(table: &[u64])
         to = stores::put_number(&mut out, to, table[i], 8);
         i += 1;
     }
-    io::write_all(STDOUT_FILENO, &out[..to]);
+    io::write_all(OUTPUT, &out[..to]);
 }
 
 // The answer to locate: its number and place or count, then the whole table, written or not.
@@ -67,7 +70,7 @@ fn shown<'a>(reviewer: &'a [u8], detector: &'a [u8], alone: bool, set: bool, id:
     number(p.offset as u64);
     number(p.size as u64);
     io::write_all(
-        STDOUT_FILENO,
+        OUTPUT,
         show::show(reviewer, detector, alone, set, id, tag),
     );
 }
@@ -76,7 +79,7 @@ fn shown<'a>(reviewer: &'a [u8], detector: &'a [u8], alone: bool, set: bool, id:
 fn spelled_in(bytes: &mut [u8]) -> u64
     requires { length bytes.old ≤ 8 }
 {
-    io::read_full(STDIN_FILENO, bytes);
+    io::read_full(INPUT, bytes);
     coding::number_of(bytes, bytes.len())
 }
 
@@ -146,7 +149,7 @@ fn answered(h: Head, packets: &[u8]) -> u64
 fn packets_in(h: Head, packets: &mut [u8]) -> u64
     requires { (h.reviewers ≤ length packets.old) × (h.room ≤ 4096) }
 {
-    io::read_full(STDIN_FILENO, packets);
+    io::read_full(INPUT, packets);
     if number_in(1) != h.kind {
         return CUT_OFF;
     }

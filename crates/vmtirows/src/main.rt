@@ -3,25 +3,28 @@
 
 ghost use Rattle.std.specs.Prelude.{◌*◌, ◌≤◌, length};
 
-use libc::STDOUT_FILENO;
+// The standard streams, by number.
+const INPUT: i32 = 0;
+
+const OUTPUT: i32 = 1;
 
 // One number and what follows it.
 fn number(n: u64, after: &[u8]) {
-    io::print_decimal(STDOUT_FILENO, n);
-    io::write_all(STDOUT_FILENO, after);
+    io::print_decimal(OUTPUT, n);
+    io::write_all(OUTPUT, after);
 }
 
 fn refused(number_of: u64, place: usize) {
-    io::write_all(STDOUT_FILENO, b"refused ");
+    io::write_all(OUTPUT, b"refused ");
     number(number_of, b" ");
     number(place as u64, b"\n");
 }
 
 fn form(alone: bool) {
     if alone {
-        io::write_all(STDOUT_FILENO, b"accepted standalone ");
+        io::write_all(OUTPUT, b"accepted standalone ");
     } else {
-        io::write_all(STDOUT_FILENO, b"accepted embedded ");
+        io::write_all(OUTPUT, b"accepted embedded ");
     }
 }
 
@@ -61,6 +64,6 @@ fn report(packet: &[u8]) {
 
 fn main() {
     let mut room = [0u8; 8193];
-    let n = io::read_full(0, &mut room);
+    let n = io::read_full(INPUT, &mut room);
     report(&room[..n]);
 }

@@ -39,4 +39,4 @@ returns c =
     (rw c.low_of-higher.ensures at c.put_cut-e.ensures) c.put_part.ensures
 
 pub shape_of-out : goal.shape_of-out
-shape_of-out c = ap length (all_stored c.args.out.now c.requires c.put_head-a.ensures c.copy_all-b.ensures (rw c.low_of-lower.ensures at c.put_cut-c.ensures) c.put_part-d.ensures (rw c.low_of-higher.ensures at c.put_cut-e.ensures) c.put_part-d.ensures).1 ∙ simp length-sets
+shape_of-out c = ap length (all_stored c.args.out.now c.requires c.put_head-a.ensures c.copy_all-b.ensures (rw c.low_of-lower.ensures at c.put_cut-c.ensures) c.put_part-d.ensures (rw c.low_of-higher.ensures at c.put_cut-e.ensures) c.put_part.ensures).1 ∙ simp length-sets

@@ -71,7 +71,7 @@ slice_bounds-item_packet-count-2 c =
     let form : Form = form_of fine.alone in
     let packs : Packs (write sheet) form (es fine) fine.normal c.frame_size-size.result = write_packs fine c.frame_size-size.ensures in
     let room : Fits form (es fine) c.args.packet.now fine.normal c.frame_size-size.result = packs_fit packs _ c.if-size-gt8192.false c.if-packet-size.false in
-    rest_from room c.«open».ensures
+    rest_from room c.open-a.ensures
 
 pub slice_bounds-item_packet-start-2 : goal.slice_bounds-item_packet-start-2
 slice_bounds-item_packet-start-2 c =
@@ -80,7 +80,7 @@ slice_bounds-item_packet-start-2 c =
     let form : Form = form_of fine.alone in
     let packs : Packs (write sheet) form (es fine) fine.normal c.frame_size-size.result = write_packs fine c.frame_size-size.ensures in
     let room : Fits form (es fine) c.args.packet.now fine.normal c.frame_size-size.result = packs_fit packs _ c.if-size-gt8192.false c.if-packet-size.false in
-    (rest_from room c.«open».ensures)
+    (rest_from room c.open-a.ensures)
 
 pub item_packet-n-requires : goal.item_packet-n-requires
 item_packet-n-requires c =
@@ -88,11 +88,11 @@ item_packet-n-requires c =
     let fine : FoundFine sheet = record { said = c.check-c.result; alone = _; normal = _; inner = _; meets = c.check-c.ensures; bytes = λ i. (c.type_inv.sheet i).fits; told = c.in-Fine.is } in
     let form : Form = form_of fine.alone in
     let parts_of : FoundFine sheet = fine in
-    let rest : List ℕ = take (length c.«open».last.0 - c.«open».result) (drop c.«open».result c.«open».last.0) in
+    let rest : List ℕ = take (length c.open-a.new.out - c.open-a.result) (drop c.open-a.result c.open-a.new.out) in
     let packs : Packs (write sheet) form (es fine) fine.normal c.frame_size-size.result = write_packs fine c.frame_size-size.ensures in
     let small : fine.normal ≤ 8192 = entries_small packs c.args.packet.now c.if-size-gt8192.false in
     let room : Fits form (es fine) c.args.packet.now fine.normal c.frame_size-size.result = packs_fit packs _ c.if-size-gt8192.false c.if-packet-size.false in
-    let asked : RecordsAsked parts_of.inner true form (lent_parts parts_of) (length rest) = parts_asked parts_of small (rest_room room c.«open».ensures (written_is parts_of)) in
+    let asked : RecordsAsked parts_of.inner true form (lent_parts parts_of) (length rest) = parts_asked parts_of small (rest_room room c.open-a.ensures (written_is parts_of)) in
     (_, asked)
 
 pub overflow_add-a : goal.overflow_add-a
@@ -103,10 +103,10 @@ overflow_add-a c =
     let packs : Packs (write sheet) form (es fine) fine.normal c.frame_size-size.result = write_packs fine c.frame_size-size.ensures in
     let room : Fits form (es fine) c.args.packet.now fine.normal c.frame_size-size.result = packs_fit packs _ c.if-size-gt8192.false c.if-packet-size.false in
     let parts_of : FoundFine sheet = fine in
-    let rest : List ℕ = take (length c.«open».last.0 - c.«open».result) (drop c.«open».result c.«open».last.0) in
+    let rest : List ℕ = take (length c.open-a.new.out - c.open-a.result) (drop c.open-a.result c.open-a.new.out) in
     let small : fine.normal ≤ 8192 = entries_small packs c.args.packet.now c.if-size-gt8192.false in
-    let asked : RecordsAsked parts_of.inner true form (lent_parts parts_of) (length rest) = parts_asked parts_of small (rest_room room c.«open».ensures (written_is parts_of)) in
-    omega (arith, entries_end room c.«open».ensures (written_is parts_of) (c.item_packet-n.ensures _ asked))
+    let asked : RecordsAsked parts_of.inner true form (lent_parts parts_of) (length rest) = parts_asked parts_of small (rest_room room c.open-a.ensures (written_is parts_of)) in
+    omega (arith, entries_end room c.open-a.ensures (written_is parts_of) (c.item_packet-n.ensures _ asked))
 
 pub close-requires : goal.close-requires
 close-requires c =
@@ -116,10 +116,10 @@ close-requires c =
     let packs : Packs (write sheet) form (es fine) fine.normal c.frame_size-size.result = write_packs fine c.frame_size-size.ensures in
     let room : Fits form (es fine) c.args.packet.now fine.normal c.frame_size-size.result = packs_fit packs _ c.if-size-gt8192.false c.if-packet-size.false in
     let parts_of : FoundFine sheet = fine in
-    let rest : List ℕ = take (length c.«open».last.0 - c.«open».result) (drop c.«open».result c.«open».last.0) in
+    let rest : List ℕ = take (length c.open-a.new.out - c.open-a.result) (drop c.open-a.result c.open-a.new.out) in
     let small : fine.normal ≤ 8192 = entries_small packs c.args.packet.now c.if-size-gt8192.false in
-    let asked : RecordsAsked parts_of.inner true form (lent_parts parts_of) (length rest) = parts_asked parts_of small (rest_room room c.«open».ensures (written_is parts_of)) in
-    close_asked room c.«open».ensures (written_is parts_of) (c.item_packet-n.ensures _ asked)
+    let asked : RecordsAsked parts_of.inner true form (lent_parts parts_of) (length rest) = parts_asked parts_of small (rest_room room c.open-a.ensures (written_is parts_of)) in
+    close_asked room c.open-a.ensures (written_is parts_of) (c.item_packet-n.ensures _ asked)
 
 pub returns : goal.returns
 returns c =
@@ -129,8 +129,8 @@ returns c =
     let packs : Packs (write sheet) form (es fine) fine.normal c.frame_size-size.result = write_packs fine c.frame_size-size.ensures in
     let room : Fits form (es fine) c.args.packet.now fine.normal c.frame_size-size.result = packs_fit packs _ c.if-size-gt8192.false c.if-packet-size.false in
     let parts_of : FoundFine sheet = fine in
-    let rest : List ℕ = take (length c.«open».last.0 - c.«open».result) (drop c.«open».result c.«open».last.0) in
+    let rest : List ℕ = take (length c.open-a.new.out - c.open-a.result) (drop c.open-a.result c.open-a.new.out) in
     let small : fine.normal ≤ 8192 = entries_small packs c.args.packet.now c.if-size-gt8192.false in
-    let asked : RecordsAsked parts_of.inner true form (lent_parts parts_of) (length rest) = parts_asked parts_of small (rest_room room c.«open».ensures (written_is parts_of)) in
+    let asked : RecordsAsked parts_of.inner true form (lent_parts parts_of) (length rest) = parts_asked parts_of small (rest_room room c.open-a.ensures (written_is parts_of)) in
     packs_done packs _ c.if-size-gt8192.false c.if-packet-size.false
-    (all_written room c.«open».ensures (written_is parts_of) (c.item_packet-n.ensures _ asked) c.close.ensures) c.answer_of-2.ensures
+    (all_written room c.open-a.ensures (written_is parts_of) (c.item_packet-n.ensures _ asked) c.close.ensures) c.answer_of-2.ensures

@@ -106,23 +106,23 @@ module _ {f : Form} {s : List ℕ} (w : FoundFine f s) where
         eo ∙ ap (sets lent 0) (sym k.lies_flat ∙ sym (normal_same packet k.valid n) ∙ normal_form)
 
   -- what the walk that writes is lent
-  abbrev pub lent_set : List ℕ
-  lent_set = lent_set f s w.meets w.bytes w.told
+  abbrev pub lent_set_lem : List ℕ
+  lent_set_lem = lent_set f s w.meets w.bytes w.told
 
   pub set_fits : w.from ≤ length s
   set_fits = set_room f s w.meets w.bytes w.told
 
-  pub set_small : length lent_set ≤ 8192
+  pub set_small : length lent_set_lem ≤ 8192
   set_small = omega (arith, set_long f s w.meets w.bytes w.told)
 
-  pub set_runs : Ran (level_run set f lent_set)
+  pub set_runs : Ran (level_run set f lent_set_lem)
   set_runs = set_ran f s w.meets w.bytes w.told
 
   -- and what it is asked for
-  pub written_is : level_normal set f lent_set ≡ flat_all flat_entry es
+  pub written_is : level_normal set f lent_set_lem ≡ flat_all flat_entry es
   written_is = ap (level_normal set f) (lent_is f s w.meets w.bytes w.told) ∙ sym (normal_whole parts)
 
-  pub inner_asked : (w.sizes.inner ≤ 65536) × InnerRun w.sizes.inner (level_run set f lent_set)
+  pub inner_asked : (w.sizes.inner ≤ 65536) × InnerRun w.sizes.inner (level_run set f lent_set_lem)
   inner_asked = (
     omega (arith, inner, inner_less packet no_seal, entries, normal_small),
     rw (lent_is f s w.meets w.bytes w.told) (inner_run parts w.bytes inner),

@@ -87,7 +87,7 @@ slice_bounds-item_normal-count-2 c =
     let packs : Packs (normalise form packet) form (es fine) normal c.frame_size-size.result = normal_packs fine c.frame_size-size.ensures in
     let within : c.frame_size-size.result ≤ 8192 = normal_within fine c.frame_size-size.ensures in
     let room : Fits form (es fine) c.args.out.now normal c.frame_size-size.result = packs_fit packs _ within c.if-out-size.false in
-    rest_from room c.«open».ensures
+    rest_from room c.open-a.ensures
 
 pub slice_bounds-item_normal-start-2 : goal.slice_bounds-item_normal-start-2
 slice_bounds-item_normal-start-2 c =
@@ -98,7 +98,7 @@ slice_bounds-item_normal-start-2 c =
     let packs : Packs (normalise form packet) form (es fine) normal c.frame_size-size.result = normal_packs fine c.frame_size-size.ensures in
     let within : c.frame_size-size.result ≤ 8192 = normal_within fine c.frame_size-size.ensures in
     let room : Fits form (es fine) c.args.out.now normal c.frame_size-size.result = packs_fit packs _ within c.if-out-size.false in
-    (rest_from room c.«open».ensures)
+    (rest_from room c.open-a.ensures)
 
 pub item_normal-n-requires : goal.item_normal-n-requires
 item_normal-n-requires c =
@@ -112,7 +112,7 @@ item_normal-n-requires c =
     let set_of : FoundFine form packet = fine in
     let w = set_of in (
       c.table-table.ensures,
-      (set_small w, set_runs w, (inner_asked w).0, (inner_asked w).1, rest_room room c.«open».ensures (written_is w)),
+      (set_small w, set_runs w, (inner_asked w).0, (inner_asked w).1, rest_room room c.open-a.ensures (written_is w)),
       c.glances-glances.ensures,
     )
 
@@ -126,7 +126,7 @@ overflow_add-a c =
     let within : c.frame_size-size.result ≤ 8192 = normal_within fine c.frame_size-size.ensures in
     let room : Fits form (es fine) c.args.out.now normal c.frame_size-size.result = packs_fit packs _ within c.if-out-size.false in
     let set_of : FoundFine form packet = fine in
-    omega (arith, entries_end room c.«open».ensures (written_is set_of) c.item_normal-n.ensures)
+    omega (arith, entries_end room c.open-a.ensures (written_is set_of) c.item_normal-n.ensures)
 
 pub close-requires : goal.close-requires
 close-requires c =
@@ -138,7 +138,7 @@ close-requires c =
     let within : c.frame_size-size.result ≤ 8192 = normal_within fine c.frame_size-size.ensures in
     let room : Fits form (es fine) c.args.out.now normal c.frame_size-size.result = packs_fit packs _ within c.if-out-size.false in
     let set_of : FoundFine form packet = fine in
-    close_asked room c.«open».ensures (written_is set_of) c.item_normal-n.ensures
+    close_asked room c.open-a.ensures (written_is set_of) c.item_normal-n.ensures
 
 pub returns : goal.returns
 returns c =
@@ -151,4 +151,4 @@ returns c =
     let room : Fits form (es fine) c.args.out.now normal c.frame_size-size.result = packs_fit packs _ within c.if-out-size.false in
     let set_of : FoundFine form packet = fine in
     packs_done packs _ within c.if-out-size.false
-    (all_written room c.«open».ensures (written_is set_of) c.item_normal-n.ensures c.close.ensures) c.answer_of-2.ensures
+    (all_written room c.open-a.ensures (written_is set_of) c.item_normal-n.ensures c.close.ensures) c.answer_of-2.ensures

@@ -37,7 +37,6 @@ use denote.Steps.{only, owned, peeks, heard, nothing}
 use denote.Struct.Laws as LL
 use denote.Triple.Entry.{on_entry}
 use denote.Triple.Spec.{Meets, triple_of}
-use denote.Triple.Statement.{Contract, Triple}
 use denote.Triple.Call.{calls_at}
 use denote.Triple.Clauses.{ensured, lasts}
 use denote.Triple.Table.{entered, cited}
@@ -69,8 +68,8 @@ use Rattle.locate.proofs.table.numbered.Symbol.{name as #numbered}
 use Rattle.locate.proofs.table.numbered.Met as numbered-thm
 use Rattle.locate.specs.contracts.table.locate.Key.{name as #locate}
 use Rattle.locate.specs.contracts.table.locate as f
-use Rattle.locate.proofs.table.locate.Statement as stated
 use Rattle.locate.proofs.table.locate.Code as code
+use Rattle.locate.proofs.table.locate.Goals as goal
 
 abbrev stayed : Stays (f.ended).signature.params (f.ended).kept
 stayed = (stay_none_slice (0 ∷ []) tt (plain (λ _. u8)) yes, (stay_none (λ _. bool) yes, (gave_slice (1 ∷ []) tt (plain (λ _. T.the_row)), tt)))
@@ -286,13 +285,3 @@ module _ {M : Type 1} {𝓤 : Ura M} (𝓛 : Logic 𝓤) (mem : Memory → SProp
   locate_meets =
       walk_Meets 𝓛 f.ended stayed (Goes-none_slice 𝓛 2 (0 ∷ []) tt (plain (λ _. u8)) yes, (Goes-none 𝓛 2 (λ _. bool) yes (λ κs x f. refl), (Goes-gave_slice 𝓛 2 1 tt (plain (λ _. T.the_row)), tt))) (f.clauses 𝓛 mem run)
       (WpFn 𝓤 H 𝓣.C 𝓣.Λ code.function) (WpFn-mono 𝓤 H 𝓛.laws 𝓣 code.function) locate_walks
-
-pub locate-spec : {M : Type 1} → stated.statement M
-unfolding code.routine tables_of
-locate-spec 𝓤 𝓛 𝓜 𝓡 =
-    entered 𝓤 𝓛.H (triple_of 𝓛 f.signature (f.spec 𝓛 𝓜.mem 𝓡.run))
-    (tables 𝓤 𝓛.H 𝓜 𝓡 code.env).C (tables 𝓤 𝓛.H 𝓜 𝓡 code.env).Λ #locate code.function (code.unfolded 𝓤 𝓛.H 𝓜 𝓡)
-    (locate_meets 𝓛 𝓜.mem 𝓡.run (tables_of 𝓤 𝓛.H 𝓜 (tables 𝓤 𝓛.H 𝓜 𝓡 code.env))
-    (cited 𝓤 𝓛.H (Numbered 𝓛 𝓜.mem 𝓡.run) 𝓜 𝓡 code.env #numbered numbered-def.routine code.calls-locate::table::numbered (numbered-thm.met 𝓤 𝓛 𝓜 𝓡))
-    (cited 𝓤 𝓛.H (Count 𝓛 𝓜.mem 𝓡.run) 𝓜 𝓡 code.env #count count-def.routine code.calls-locate::table::count-of (count-thm.met 𝓤 𝓛 𝓜 𝓡))
-    (cited 𝓤 𝓛.H (Fill 𝓛 𝓜.mem 𝓡.run) 𝓜 𝓡 code.env #fill fill-def.routine code.calls-write-rows::table::fill-rows (fill-thm.met 𝓤 𝓛 𝓜 𝓡)))

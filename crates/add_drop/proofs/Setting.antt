@@ -38,7 +38,7 @@ use Rattle.edit_rules.specs.Meet.{sheet_of}
 use Rattle.target_bytes.specs.Meet.{series_size, packs_size, series_put, entries_put}
 use Rattle.target_bytes.proofs.Sizes.{series_none, series_some, series_put_long}
 use Rattle.target_bytes.proofs.Storing.{no_records}
-use Rattle.target_bytes.proofs.Changed.{added_bytes, dropped_bytes}
+use Rattle.target_bytes.proofs.Changed.{added_bytes_lem, dropped_bytes_lem}
 use Rattle.answers.specs.declared.Answer.{Answer}
 use Rattle.answers.specs.Meet.{answer_of, EntriesPacked}
 use Rattle.answers.proofs.Leaving.{left_refused}
@@ -94,7 +94,7 @@ module _ (f : Form) (s : List ℕ) (b : Bytes s) (k : SetOf f s) (i : ℕ) {r : 
       none = no_records f ex
 
       dropped_are : flat_all flat_entry (change_entries (dropped i) (kept_of f s)) ≡ dropped_bytes x
-      dropped_are = dropped_bytes f s b k i there er ∙ ap (λ n. entries_put s r (n - 1) []) (sym (ap (λ y. y.count) er)) ∙ ap (entries_put s r (r.count - 1)) (sym none)
+      dropped_are = dropped_bytes_lem f s b k i there er ∙ ap (λ n. entries_put s r (n - 1) []) (sym (ap (λ y. y.count) er)) ∙ ap (entries_put s r (r.count - 1)) (sym none)
 
       pub drop_asked : Changing f s r (r.count - 1) 0 x
       unfolding targets_run run skip
@@ -184,7 +184,7 @@ module _ {f : Form} {s records : List ℕ} {id held size : ℕ} {r : Series} {t 
 
         added_are : flat_all flat_entry (change_entries (added t) (kept_of f s)) ≡ added_bytes
         added_are =
-            added_bytes f s q.bytes q.set_of t new found
+            added_bytes_lem f s q.bytes q.set_of t new found
             ∙ ap (λ n. entries_put s r (n + 1) (flat_pack (pack_of t))) (sym (ap (λ y. y.count) q.found))
             ∙ ap (entries_put s r (r.count + 1)) (sym made)
 

@@ -163,18 +163,18 @@ module _ (f : Form) (s : List ℕ) (b : Bytes s) (k : SetOf f s) where
   abbrev rest : List ℕ
   rest = flatten (the_rest f s b k)
 
-  pub added_bytes : (t : Target) {r : Series} → has t.id (map id_of_pack (packs_in (kept_of f s))) ≡ false → r ≡ series_in t.id (kept_of f s)
+  pub added_bytes_lem : (t : Target) {r : Series} → has t.id (map id_of_pack (packs_in (kept_of f s))) ≡ false → r ≡ series_in t.id (kept_of f s)
       → flat_all flat_entry (change_entries (added t) (kept_of f s)) ≡ entries_put s r (length (packs_in (kept_of f s)) + 1) (flat_pack (pack_of t))
   unfolding change_entries moved
-  added_bytes t {r} h e =
+  added_bytes_lem t {r} h e =
       let ps = packs_in es in
       changed t.id e kept_around rest (set_bytes f s b k) (in_order f s b k t.id e) kept_valid.once (length (ps ++ (pack_of t ∷ []))) (ps ++ (pack_of t ∷ [])) (flat_pack (pack_of t)) (left_added t.id ps (pack_of t) h)
       ∙ ap (λ n. entries_put s r n (flat_pack (pack_of t))) (length-append ps (pack_of t ∷ []))
 
-  pub dropped_bytes : (i : ℕ) {r : Series} → has i (map id_of_pack (packs_in (kept_of f s))) ≡ true → r ≡ series_in i (kept_of f s)
+  pub dropped_bytes_lem : (i : ℕ) {r : Series} → has i (map id_of_pack (packs_in (kept_of f s))) ≡ true → r ≡ series_in i (kept_of f s)
       → flat_all flat_entry (change_entries (dropped i) (kept_of f s)) ≡ entries_put s r (length (packs_in (kept_of f s)) - 1) []
   unfolding change_entries moved
-  dropped_bytes i {r} h e =
+  dropped_bytes_lem i {r} h e =
       let ps = packs_in es in
       changed i e kept_around rest (set_bytes f s b k) (in_order f s b k i e) kept_valid.once (length (take_out (has_id i) ps)) (take_out (has_id i) ps) [] (left_dropped i ps)
       ∙ ap (λ n. entries_put s r n []) (count_dropped i ps h)

@@ -69,10 +69,7 @@ fn shown<'a>(reviewer: &'a [u8], detector: &'a [u8], alone: bool, set: bool, id:
     number(p.detectors as u64);
     number(p.offset as u64);
     number(p.size as u64);
-    io::write_all(
-        OUTPUT,
-        show::show(reviewer, detector, alone, set, id, tag),
-    );
+    io::write_all(OUTPUT, show::show(reviewer, detector, alone, set, id, tag));
 }
 
 // The number that the next bytes spell; those that the input has no more are as they were.

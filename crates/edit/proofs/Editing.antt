@@ -25,7 +25,7 @@ use Rattle.answers.specs.declared.Answer.{Answer}
 use Rattle.answers.specs.Meet.{left_of, answer_of, refusal_of}
 use Rattle.answers.proofs.Leaving.{left_refused}
 use Rattle.answers.proofs.Entries.{entries_over}
-use Rattle.edit.specs.Meet.{CutEntered, CutPacked}
+use Rattle.edit.specs.Meet.{Entered, CutPacked}
 
 -- ---- the packet
 
@@ -48,7 +48,7 @@ module _ (f : Form) (b : Bool) (id : ℕ) (cs : Changes) (s : List ℕ) {k : Cut
   unfolding set_edited
   set_packed = bind_so _ _ tt t.passed
 
-  pub cuts_asked : length s ≤ 8192 → (length s ≤ 8192) × Cutting (level_of b) s k v w × CutEntered (level_of b) s k v w
+  pub cuts_asked : length s ≤ 8192 → (length s ≤ 8192) × Cutting (level_of b) s k v w × Entered (level_of b) s k v w
   cuts_asked l = (l, t.cutting, (es, t.edited))
 
   pub cuts_left : (lent left : List ℕ) {q : Answer} → CutPacked f (level_of b) s k v w lent q left → left_of q left ≡ leaves lent (set_edited f (holder_of b id) cs s)

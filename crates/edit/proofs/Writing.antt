@@ -11,7 +11,7 @@ use Rattle.edit_rules.specs.declared.Cuts.{Cuts}
 use Rattle.edit_rules.specs.Cuts.{cut_size, body_size, with_size, Spans, Putting, put_size, cut_bytes}
 use Rattle.edit_rules.proofs.Sizes.{spans_more, body_few, put_most, bytes_long}
 use Rattle.answers.proofs.Entries.{Sized}
-use Rattle.edit.specs.Meet.{CutEntered}
+use Rattle.edit.specs.Meet.{Entered}
 
 module _ {l : Level} {s v w : List ℕ} {k : Cuts} (q : Putting l s k v w) where
   pub spans_are : Spans l 8192 k
@@ -33,5 +33,5 @@ module _ {l : Level} {s v w : List ℕ} {k : Cuts} (q : Putting l s k v w) where
       pub frame_asked : n ≤ 1048576
       frame_asked = omega (arith, put_is, put_most k spans_are q.low_small q.high_small)
 
-      pub sized : (f : Form) → CutEntered l s k v w → {size : ℕ} → size ≡ frame_size f n → Sized f (cut_bytes l s k v w) n size
+      pub sized : (f : Form) → Entered l s k v w → {size : ℕ} → size ≡ frame_size f n → Sized f (cut_bytes l s k v w) n size
       sized f e es = record { entered = e; entries = put_is ∙ sym (bytes_long q); frame = es }

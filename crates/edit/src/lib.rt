@@ -9,7 +9,7 @@ ghost use Rattle.find.specs.Places.{SetOf};
 ghost use Rattle.edit_rules.specs.Meet.{changes_of, asked_holder, sheet_of};
 ghost use Rattle.edit_rules.specs.Cuts.{one_cut, Cutting, Putting};
 ghost use Rattle.answers.specs.Calls.{Edits};
-ghost use Rattle.edit.specs.Meet.{CutEntered, CutPacked, SetEdits};
+ghost use Rattle.edit.specs.Meet.{Entered, CutPacked, SetEdits};
 
 pub mod two;
 
@@ -22,7 +22,7 @@ use find::Place;
 
 // The packet with what the cut puts of v: 1, 16.
 fn edit_at(s: &[u8], alone: bool, set: bool, p: Place, c: Cut, v: &[u8], out: &mut [u8]) -> Answer
-    requires { Putting (level_of set) s.now (one_cut p c) v.now v.now × CutEntered (level_of set) s.now (one_cut p c) v.now v.now }
+    requires { Putting (level_of set) s.now (one_cut p c) v.now v.now × Entered (level_of set) s.now (one_cut p c) v.now v.now }
     ensures { CutPacked (form_of alone) (level_of set) s.now (one_cut p c) v.now v.now
         out.old result out.new }
 {
@@ -44,7 +44,7 @@ fn edit_at(s: &[u8], alone: bool, set: bool, p: Place, c: Cut, v: &[u8], out: &m
 // The same for a cut that puts any number of bytes: with more than a packet may have, its packet has too many.
 fn edit_cut(s: &[u8], alone: bool, set: bool, p: Place, c: Cut, v: &[u8], out: &mut [u8]) -> Answer
     requires { (length s.now ≤ 8192) × Cutting (level_of set) s.now (one_cut p c) v.now v.now
-        × CutEntered (level_of set) s.now (one_cut p c) v.now v.now }
+        × Entered (level_of set) s.now (one_cut p c) v.now v.now }
     ensures { CutPacked (form_of alone) (level_of set) s.now (one_cut p c) v.now v.now
         out.old result out.new }
 {

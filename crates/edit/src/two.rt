@@ -7,7 +7,7 @@ ghost use Rattle.find.specs.Places.{SetOf};
 ghost use Rattle.edit_rules.specs.Meet.{two_of, asked_holder, sheet_of};
 ghost use Rattle.edit_rules.specs.Cuts.{low_of, Cutting, Putting};
 ghost use Rattle.answers.specs.Calls.{Edits};
-ghost use Rattle.edit.specs.Meet.{CutEntered, CutPacked, SetEdits};
+ghost use Rattle.edit.specs.Meet.{Entered, CutPacked, SetEdits};
 
 use answers::{Answer, answer_of, refusal};
 use check_packet::Checked;
@@ -26,7 +26,7 @@ fn edit_at<'a>(
     out: &mut [u8],
 ) -> Answer
     requires { Putting pack s.now k (low_of turned v.now w.now) (low_of turned w.now v.now)
-        × CutEntered pack s.now k (low_of turned v.now w.now) (low_of turned w.now v.now) }
+        × Entered pack s.now k (low_of turned v.now w.now) (low_of turned w.now v.now) }
     ensures { CutPacked (form_of alone) pack s.now k (low_of turned v.now w.now)
         (low_of turned w.now v.now) out.old result out.new }
 {
@@ -56,7 +56,7 @@ fn edit_cuts<'a>(
     out: &mut [u8],
 ) -> Answer
     requires { (length s.now ≤ 8192) × Cutting pack s.now k (low_of turned v.now w.now) (low_of turned w.now v.now)
-        × CutEntered pack s.now k (low_of turned v.now w.now) (low_of turned w.now v.now) }
+        × Entered pack s.now k (low_of turned v.now w.now) (low_of turned w.now v.now) }
     ensures { CutPacked (form_of alone) pack s.now k (low_of turned v.now w.now)
         (low_of turned w.now v.now) out.old result out.new }
 {

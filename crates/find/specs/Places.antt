@@ -7,7 +7,7 @@ use Rattle.format.specs.Packet.{Item, Pack, Entry, plain, series, flat_item, fla
 use Rattle.format.specs.Read.{unsealed}
 use Rattle.format.specs.Rows.{seal_item}
 use Rattle.format.specs.Edit.{Holder, the_set, target, is_series}
-use Rattle.format.specs.Targets.{packs_in}
+pub use Rattle.format.specs.Targets.{packs_in}
 use Rattle.tally.specs.Runs.{Ran, level_run}
 use Rattle.find.specs.declared.Spot.{Spot}
 use Rattle.find.specs.declared.Place.{Place}

@@ -6,6 +6,7 @@ use common::edits::{expected, By, Edit};
 use common::model::parse;
 use second::generate;
 use second::generate::tree::Node;
+use second::generate::Case;
 use second::{add_target, drop_target, edit, locate, normalise, read, show, write};
 use second::{coding, Answer, Form, Level, Row, PACKET_LIMIT, PACKET_SHEET_LIMIT, ROWS_LIMIT};
 use std::collections::BTreeMap;
@@ -210,13 +211,31 @@ fn show_finds_on_either_side_and_nowhere() {
 /// on purpose, so is this number.
 #[test]
 fn the_same_seed_gives_the_same_cases() {
+    let digest = digest(|index| generate::case(7, index));
+    assert_eq!(digest, 0x89C4_A5FF_71FC_4CFD, "{digest:#018X}");
+}
+
+/// The first five kinds alone, as they were before there were others.
+#[test]
+fn the_first_kinds_have_the_same_cases() {
+    let digest = digest(|index| match index % 5 {
+        0 => Case::Packet(generate::packet(7, index / 5)),
+        1 => Case::Sheet(generate::sheet(7, index / 5)),
+        2 => Case::Edit(generate::edit(7, index / 5)),
+        3 => Case::Show(generate::show(7, index / 5)),
+        _ => Case::EditTwo(generate::edit_two(7, index / 5)),
+    });
+    assert_eq!(digest, 0x6C4A_62C6_660F_0652, "{digest:#018X}");
+}
+
+fn digest(case: impl Fn(u64) -> Case) -> u64 {
     let mut digest = 0xCBF2_9CE4_8422_2325u64;
     for index in 0..1_000 {
-        for byte in format!("{:?}", generate::case(7, index)).bytes() {
+        for byte in format!("{:?}", case(index)).bytes() {
             digest = (digest ^ u64::from(byte)).wrapping_mul(0x0100_0000_01B3);
         }
     }
-    assert_eq!(digest, 0x89C4_A5FF_71FC_4CFD, "{digest:#018X}");
+    digest
 }
 
 /// What the first lone 19 or 20 of a packet is like: its tag, whether its

@@ -73,9 +73,10 @@ pub record Exchanged (tag : ℕ) (new was now : List Piece) : Type 0 where
 abbrev pub PutPiece : Piece → List Piece → List Piece → Type 0
 PutPiece p was now = Exchanged (tag_of_piece p) (p ∷ []) was now ⊎ ((has (tag_of_piece p) (map tag_of_piece was) ≡ false) × (now ≡ was ++ (p ∷ [])))
 
--- one change
+-- one change: at the piece with the tag; a put, if there is none, at the level's end
 abbrev pub Step : Level → ℕ × Change → List Piece → List Piece → Type 0
-Step l (tag, put v) was now = PutPiece (new_piece l tag v) was now
+Step l (tag, put v) was now =
+    Exchanged tag (new_piece l tag v ∷ []) was now ⊎ ((has tag (map tag_of_piece was) ≡ false) × (now ≡ was ++ (new_piece l tag v ∷ [])))
 Step l (tag, remove) was now = Exchanged tag [] was now
 
 -- one change after the other

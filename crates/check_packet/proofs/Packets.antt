@@ -11,7 +11,7 @@ use Rattle.format.specs.Packet.{Entry, Packet, tag_of_entry}
 use Rattle.format.specs.Run.{run, always}
 use Rattle.format.specs.Table.{Form, set}
 use Rattle.format.specs.Read.{entry, limit, opening, start, closing, parse}
-use Rattle.format.proofs.Words.Answers.{never, ok_inj, after_ok}
+use Rattle.format.proofs.Words.Answers.{after_ok}
 use Rattle.format.proofs.Words.Bytes.{bytes_drop}
 use Rattle.format.proofs.Reading.Packets.{set_says}
 use Rattle.coding.specs.declared.Num.{Num}

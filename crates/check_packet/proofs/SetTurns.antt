@@ -5,7 +5,7 @@ use native.Mathlib.Omega.{arith}
 use mathlib.Core.Bool.{true, ◌&&◌}
 use mathlib.Core.List.{List}
 use mathlib.Core.Logic.{inl, inr}
-use lib.ListN.{length, drop, take, get_or, length-drop}
+use lib.ListN.{length, drop, take, length-drop}
 use lib.Seq.{length-take-le}
 use lib.Dec.{eqb}
 use lib.Bits.{bit_or, or_zero_r}

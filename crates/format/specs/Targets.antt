@@ -1,6 +1,6 @@
 -- A target added at the series' end, or dropped with all its items, on a sheet and on a packet (document 02, request 2). The series comes
 -- with the first target, at the set's end, and goes with the last; set tag 6, if it is there, becomes the number of targets.
-use Rattle.std.specs.Prelude.{ℕ, ◌+◌, ◌^◌, true, false, not, ◌&&◌, List, [], ◌∷◌, ◌++◌, map, length, take, drop, ltb, leb, eqb}
+use Rattle.std.specs.Prelude.{ℕ, ◌+◌, ◌^◌, not, ◌&&◌, List, [], ◌∷◌, ◌++◌, map, length, take, drop, ltb, leb, eqb}
 use Rattle.format.specs.Answer.{Ans, ok, refused, need, ◌>>=◌}
 use Rattle.format.specs.Coding.{bytes_number, fixed}
 use Rattle.format.specs.Lists.{has, put_in, take_out, on_hit}

@@ -18,7 +18,7 @@ use Rattle.format.proofs.Sheets.Values.{mark_says}
 use Rattle.format.proofs.Sheets.Targets.{target_then}
 use Rattle.items.specs.Meet.{level_of}
 use Rattle.heads.specs.declared.records.Field.{Field}
-use Rattle.heads.specs.declared.records.Field.TheVariants.{Whole, Fault}
+use Rattle.heads.specs.declared.records.Field.TheVariants.{Whole}
 use Rattle.heads.specs.Records.{field_answer, peek_val, record_size, span, peek_record}
 use Rattle.heads.proofs.Spans.{val_room, val_some, size_at_lem, size_val, size_none, size_target, span_none, span_more, target_there, series_there, part_val}
 

@@ -4,17 +4,17 @@ use Prim.Native.Nat.{ℕ, zero, suc, ◌+◌, ◌-◌, ◌/◌, ◌%◌, ◌^◌
 use native.Mathlib.Omega.{arith}
 use native.Mathlib.Nat.{mod-one}
 use mathlib.Core.Bool.{Bool, true, false, not, ◌&&◌, ◌||◌}
-use mathlib.Core.List.{List, [], ◌∷◌}
+use mathlib.Core.List.{List}
 use mathlib.Core.Logic.{inl, inr, ⊎_elim}
 use lib.ListN.{length, get_or}
 use lib.Dec.{ltb, leb, eqb}
 use borrow.Author.Tests.{ltb-true, leb-true, lt-ltb, le-ltb, le-leb, eqb-true, eqb-false, ne_eqb, eq-eqb, not-true}
-use Rattle.format.specs.Answer.{Ans, ok, need}
+use Rattle.format.specs.Answer.{ok, need}
 use Rattle.format.specs.Coding.{bytes_number}
 use Rattle.format.specs.Lists.{has}
-use Rattle.format.specs.Table.{Form, is_alone, Level, set, pack, is_set, Kind, bytes, num, pixel, Rule, unlisted, rules, find, rule_of, nameable, may_stand, sized, not_pixel, is_number, valued, strip, short}
+use Rattle.format.specs.Table.{Form, is_alone, Level, set, pack, is_set, Kind, bytes, num, pixel, Rule, unlisted, rules, find, rule_of, nameable, may_stand, sized, not_pixel, is_number, valued, short}
 use Rattle.format.proofs.Words.Answers.{no_bool, and_both}
-use Rattle.items.specs.Meet.{level_of, form_of, most_tag, rows_from, glance_row, glance_table, offsets, zeros}
+use Rattle.items.specs.Meet.{level_of, form_of, most_tag, rows_from, glance_row, glance_table, offsets}
 use Rattle.items.specs.Quick.{bit, least_row, row_tells, beyond, As, Glanced}
 use Rattle.items.proofs.Rows.{glance_at, rule_over}
 use Rattle.items.proofs.Tests.{need_so, first_some, short_first, offset_over}

@@ -1,7 +1,7 @@
 -- Where the code of items meets document 01: what its numbers and rows mean.
 use Rattle.std.specs.Prelude.{ℕ, zero, suc, ◌+◌, ◌*◌, ◌/◌, ◌%◌, ◌^◌, Bool, true, false, List, [], ◌∷◌, ◌++◌, eqb}
 use Rattle.format.specs.Answer.{Ans, ok, refused}
-use Rattle.format.specs.Table.{Form, embedded, standalone, Level, set, pack, Kind, bytes, num, pixel, Most, up_to, any, Rule, unlisted, rule_of, nameable, may_stand, is_number, sized}
+use Rattle.format.specs.Table.{Form, embedded, standalone, Level, set, pack, Kind, bytes, num, pixel, Most, up_to, any, Rule, rule_of, nameable, may_stand, is_number, sized}
 use Rattle.items.specs.declared.Rule as declared
 
 abbrev pub form_of : Bool → Form

@@ -1,6 +1,6 @@
 -- The turns of a closer look: each item is read as the item walk reads it.
 use mathlib.Core.Path.{◌≡◌, refl, ap, ◌∙◌, subst}
-use Prim.Native.Nat.{ℕ, ◌+◌, ◌-◌, ◌*◌, ◌≤◌, ◌<◌}
+use Prim.Native.Nat.{ℕ, ◌+◌, ◌-◌, ◌≤◌, ◌<◌}
 use native.Mathlib.Omega.{arith}
 use mathlib.Core.Bool.{Bool, ◌&&◌}
 use mathlib.Core.List.{List}
@@ -24,7 +24,7 @@ use Rattle.quick_items.specs.Items.{told_sizes, Closer, CloserIf}
 use Rattle.tally.proofs.Turns.{new_key}
 use Rattle.tally.proofs.Pieces.{piece_within}
 use Rattle.tally.proofs.ItemTurns.{ItemAt, level_is, piece_stood, piece_room, item_told, entry_more}
-use Rattle.quick_items.proofs.Glances.{value_at, looked_meets, quick_piece, quick_plus}
+use Rattle.quick_items.proofs.Glances.{looked_meets, quick_piece, quick_plus}
 
 -- the item at p as the code finds it: h is what it says of the head
 module _ (b : Bool) (f : Form) (s : List ℕ) (p : ℕ) {h : Head} (said : LevelHeadIf (level_of b) h (take (length s - p) (drop p s))) {tag u w n : ℕ} (is : h ≡ heads.Whole tag u w n) where

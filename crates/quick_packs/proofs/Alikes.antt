@@ -1,27 +1,21 @@
 -- What is laid out as items told at a glance is walked as they are: it has their heads, and its values begin as they may.
-use mathlib.Core.Path.{◌≡◌, refl, sym, ap, subst, ◌∙◌}
+use mathlib.Core.Path.{◌≡◌, refl, sym, subst, ◌∙◌}
 use mathlib.Core.Logic.{inl, inr, ⊎_elim}
-use Prim.Native.Nat.{ℕ, ◌+◌, ◌-◌, ◌≤◌, ◌<◌}
+use Prim.Native.Nat.{ℕ, ◌+◌, ◌≤◌, ◌<◌}
 use native.Mathlib.Omega.{arith}
 use mathlib.Core.Bool.{false}
 use mathlib.Core.List.{List}
-use lib.ListN.{length, take, drop, get_or, length-drop}
-use lib.Seq.{get_or-take, length-take-le}
+use lib.ListN.{length, get_or}
 use lib.Bits.{bit_or}
 use Rattle.format.specs.Coding.{Bytes}
 use Rattle.format.specs.Table.{Form, Level}
-use Rattle.format.proofs.Words.Bytes.{bytes_drop, bytes_take}
 use Rattle.coding.specs.Alike.{Alike, AlikeTo, ItemMasked}
-use Rattle.coding.proofs.Alikes.{alike_same, alike_as, masked_before, masked_head, masked_value}
-use Rattle.items.specs.Meet.{level_of, form_of}
+use Rattle.coding.proofs.Alikes.{alike_same, masked_before, masked_head, masked_value}
+use Rattle.items.specs.Meet.{level_of}
 use Rattle.items.specs.Quick as items
 use Rattle.items.proofs.Glances.{quick_as}
-use Rattle.tally.specs.declared.stages.Stage.{Stage}
-use Rattle.quick_packs.specs.declared.Model.{Model}
 use Rattle.tally.specs.Meet.{bit_of}
-use Rattle.tally.specs.Going.{LevelGoing, Begun}
-use Rattle.quick_packs.specs.Packs.{Laid, Told, Modelled}
-use Rattle.tally.proofs.ItemTurns.{level_start}
+use Rattle.tally.specs.Going.{LevelGoing}
 use Rattle.quick_items.specs.Items.{told_sizes, ItemGlanced, GlancedTo}
 use Rattle.quick_items.proofs.Glances.{glanced_next, glanced_low, glanced_more}
 

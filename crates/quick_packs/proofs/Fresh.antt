@@ -1,10 +1,10 @@
 -- An id that is told to be new stood nowhere before, and whatever follows finds it noted.
 use mathlib.Core.Path.{◌≡◌, refl}
 use mathlib.Core.Logic.{⊎_elim}
-use Prim.Native.Nat.{ℕ, ◌+◌, ◌≤◌, ◌<◌}
+use Prim.Native.Nat.{ℕ, ◌+◌, ◌<◌}
 use native.Mathlib.Omega.{arith}
 use mathlib.Core.List.{List}
-use lib.ListN.{length, drop}
+use lib.ListN.{drop}
 use Rattle.format.specs.Answer.{Got, got}
 use Rattle.heads.specs.Meet.{Heads}
 use Rattle.repeats.proofs.Noted.{Noted, noted_new, noted_more}

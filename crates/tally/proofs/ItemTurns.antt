@@ -14,13 +14,11 @@ use Rattle.format.specs.Answer.{ok, refused, got}
 use Rattle.format.specs.Coding.{Bytes}
 use Rattle.format.specs.Table.{Form, Level, set, is_set}
 use Rattle.format.specs.Packet.{plain, series, tag_of_entry}
-use Rattle.format.specs.Run.{always}
 use Rattle.format.specs.Read.{item}
 use Rattle.format.proofs.Words.Answers.{no_bool}
 use Rattle.format.proofs.Words.Bytes.{bytes_drop}
 use Rattle.items.specs.Meet.{level_of}
 use Rattle.coding.proofs.Counts.{len_most}
-use Rattle.heads.specs.Meet.{peek, Past}
 use Rattle.heads.proofs.Heads.{mid_part}
 use Rattle.tally.specs.declared.Piece.{Piece}
 use Rattle.tally.specs.declared.Piece.TheVariants as piece

@@ -19,7 +19,7 @@ use Rattle.coding.proofs.Rooms.{tail_part}
 use Rattle.coding.proofs.Counts.{len_most, oid_most}
 use Rattle.items.specs.Meet.{level_of}
 use Rattle.items.proofs.Tests.{bind_so, bind_not}
-use Rattle.heads.specs.Meet.{peek, Past}
+use Rattle.heads.specs.Meet.{peek}
 use Rattle.heads.proofs.Spans.{is_room}
 use Rattle.heads.proofs.SheetRuns.{series_peek}
 use Rattle.tally.specs.declared.Piece.{Piece}
@@ -28,7 +28,7 @@ use Rattle.tally.specs.declared.Sizes.{Sizes}
 use Rattle.tally.specs.declared.stages.Stage.{Stage}
 use Rattle.tally.specs.declared.Walked.{Walked}
 use Rattle.tally.specs.declared.Walked.TheVariants.{Good, Bad}
-use Rattle.tally.specs.Meet.{sizes, no_sizes, lengthened, item_sizes, series_sizes, plus_sizes, weight_of_target, bit_of, series_from, stop_at, later_by, Few, Small, Within}
+use Rattle.tally.specs.Meet.{sizes, no_sizes, lengthened, item_sizes, series_sizes, weight_of_target, bit_of, series_from, stop_at, later_by, Few, Small, Within}
 use Rattle.tally.proofs.Walks.{few_more, going_start}
 use Rattle.tally.proofs.Series.{after_not}
 use Rattle.tally.proofs.ItemTurns.{level_is}

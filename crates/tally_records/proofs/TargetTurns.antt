@@ -19,7 +19,7 @@ use Rattle.format.proofs.Words.Bytes.{bytes_drop}
 use Rattle.format.proofs.Sheets.Values.{mark_says}
 use Rattle.coding.proofs.Rooms.{tail_part}
 use Rattle.items.proofs.Tests.{bind_so, bind_not}
-use Rattle.heads.specs.Meet.{peek, Past}
+use Rattle.heads.specs.Meet.{peek}
 use Rattle.heads.proofs.SheetRuns.{target_peek}
 use Rattle.tally.specs.declared.Piece.{Piece}
 use Rattle.tally.specs.declared.Piece.TheVariants as piece

@@ -1,7 +1,6 @@
 -- `add_drop::put_changed` meets its contract: each way out is a case of a packet that is written. z is where its size is known, g where there is
 -- room, o where the packet was opened, and n where its entries were written.
 use native.Mathlib.Omega.{arith}
-use borrow.Author.Rules.{rules}
 use Rattle.items.specs.Meet.{form_of}
 use Rattle.target_bytes.specs.Meet.{PuttingIn}
 use Rattle.answers.proofs.Entries.{Sized, sized_long, sized_short, Roomy, opening, entries_from, entries_room, entries_to, closing, written}

@@ -1,6 +1,5 @@
 -- `answers::refusal` meets its contract, by cases of the check.
 use mathlib.Core.Path.{sym, ap, ◌∙◌}
-use borrow.Author.Rules.{rules}
 use Rattle.answers.specs.Meet.{refusal_of}
 use Rattle.answers.proofs.refusal.Goals as goal
 

@@ -1,23 +1,13 @@
 -- `check_items::item_rest` and `check_items::pack_walk` meet their contracts: each turn moves one item or pack from what is to come to what was walked.
 -- In the item walk's answers `u` is where a turn begins, `a` where an item was read, and `j` where it was walked; in the pack walk's `u` is where a turn
 -- begins, `a` where a pack's head was read, `e` where its id was found to be new, `i` where its items were walked, and `g` where they were found good.
-use mathlib.Core.Path.{refl, ap, ◌∙◌}
 use mathlib.Core.Bool.{true, false}
-use mathlib.Core.Logic.{⊎_elim}
-use mathlib.Core.List.{List}
-use Prim.Native.Nat.{ℕ, ◌+◌, ◌-◌, ◌≤◌, ◌<◌}
-use native.Mathlib.Omega.{arith}
+use Prim.Native.Nat.{◌-◌}
 use lib.ListN.{length}
-use borrow.Author.Rules.{rules}
 use Rattle.items.specs.Meet.{form_of}
 use Rattle.heads.specs.Meet.{peek, Clear}
-use Rattle.heads.proofs.Before.{pack_key}
-use Rattle.repeats.proofs.Clears.{clear_none}
 use Rattle.tally.specs.Going.{LevelGoing, SeriesGoing}
-use Rattle.tally.specs.Meet.{plus_sizes}
-use Rattle.tally.proofs.Turns.{turn_done}
-use Rattle.tally.proofs.ItemTurns.{ItemAt, depth, series_deep, value_long, item_fault, piece_stood, piece_room, EntryTold, item_told, series_within, series_told, entry_bad, bad_within, good_small, entry_more}
-use Rattle.tally.proofs.PackTurns.{PackAt, lent_long, head_fault, head_stood, head_room, id_again, items_within, items_fault, items_small, pack_small, not_ended, pack_more}
+use Rattle.tally.proofs.ItemTurns.{depth}
 use Rattle.check_items.proofs.+item_rest_pack_walk.Given as goal
 
 -- the item walk of the set calls the pack walk, and that the item walk of a pack

@@ -1,6 +1,5 @@
 -- `check_items::piece_fault` meets its contract.
 use mathlib.Core.Path.{sym, ap}
-use borrow.Author.Rules.{rules}
 use Rattle.tally.specs.Meet.{piece_fault}
 use Rattle.check_items.proofs.piece_fault.Goals as goal
 

@@ -2,7 +2,6 @@
 -- In each answer a is where what opens the packet was read, and k where the set begins.
 use native.Mathlib.Omega.{arith}
 use Rattle.check_packet.proofs.Packets.{set_within, good_within, check_long, check_shut, check_room, check_bad, check_good}
-use borrow.Author.Rules.{rules}
 use Rattle.check_packet.proofs.check.Goals as goal
 
 pub returns-then-s-gt8192 : goal.returns-then-s-gt8192

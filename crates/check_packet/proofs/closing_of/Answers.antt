@@ -1,8 +1,6 @@
 -- `check_packet::closing_of` meets its contract: each way out is a case of `closing_by`.
-use mathlib.Core.Logic.{⊎_elim}
 use mathlib.Core.Path.{sym, ◌∙◌}
 use native.Mathlib.Omega.{arith}
-use borrow.Author.Rules.{rules}
 use borrow.Author.Tests.{not-true, not-false}
 use Rattle.check_packet.proofs.Closings.{alone_room, closed_embedded, closed_14, closed_15, closed_fine}
 use Rattle.check_packet.proofs.closing_of.Goals as goal

@@ -1,6 +1,5 @@
 -- `check_packet::is_sealed` meets its contract: the last two bytes are a number.
 use Rattle.check_packet.proofs.Closings.{sealed_is}
-use borrow.Author.Rules.{rules}
 use Rattle.check_packet.proofs.is_sealed.Goals as goal
 
 pub returns : goal.returns

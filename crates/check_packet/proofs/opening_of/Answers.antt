@@ -1,6 +1,5 @@
 -- `check_packet::opening_of` meets its contract: an embedded packet opens with nothing.
 use Rattle.format.specs.Read.{opening}
-use borrow.Author.Rules.{rules}
 use Rattle.check_packet.proofs.opening_of.Goals as goal
 
 pub returns-then-alone : goal.returns-then-alone

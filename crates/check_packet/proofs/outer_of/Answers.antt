@@ -1,7 +1,6 @@
 -- `check_packet::outer_of` meets its contract: each way out is a case of `opening`. In each answer a is where the length was read.
 use native.Mathlib.Omega.{arith}
 use Rattle.check_packet.proofs.Openings.{outer_key, outer_from, outer_len, outer_room, outer_whole, outer_size}
-use borrow.Author.Rules.{rules}
 use Rattle.check_packet.proofs.outer_of.Goals as goal
 
 pub slice_bounds-len_of-count : goal.slice_bounds-len_of-count

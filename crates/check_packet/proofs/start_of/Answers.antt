@@ -1,5 +1,4 @@
 -- `check_packet::start_of` meets its contract, by the form.
-use borrow.Author.Rules.{rules}
 use Rattle.check_packet.proofs.start_of.Goals as goal
 
 pub returns-then-alone : goal.returns-then-alone

@@ -1,5 +1,4 @@
 -- `check_packet::wrong_num` meets its contract: a refusal, where the packet begins.
-use borrow.Author.Rules.{rules}
 use Rattle.check_packet.proofs.wrong_num.Goals as goal
 
 pub returns-in-Refused : goal.returns-in-Refused

@@ -1,7 +1,6 @@
 -- `check_packet::wrong_set` meets its contract: a refusal, counted from where the set begins.
 use Rattle.check_packet.proofs.Packets.{bad_within}
 use native.Mathlib.Omega.{arith}
-use borrow.Author.Rules.{rules}
 use Rattle.check_packet.proofs.wrong_set.Goals as goal
 
 pub overflow_add-result : goal.overflow_add-result

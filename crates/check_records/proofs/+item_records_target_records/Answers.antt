@@ -3,23 +3,18 @@
 use mathlib.Core.Path.{◌≡◌, refl, sym, ◌∙◌}
 use mathlib.Core.Bool.{Bool, true, false}
 use mathlib.Core.List.{List}
-use mathlib.Core.Logic.{⊎_elim}
-use Prim.Native.Nat.{ℕ, ◌+◌, ◌-◌, ◌^◌, ◌≤◌, ◌<◌}
+use Prim.Native.Nat.{ℕ, ◌≤◌}
 use native.Mathlib.Omega.{arith}
 use lib.ListN.{length}
-use borrow.Author.Rules.{rules}
 use borrow.Author.Tests.{not-true, not-false}
-use Rattle.format.specs.Coding.{Bytes}
 use Rattle.format.specs.Table.{Form, pack}
 use Rattle.items.specs.Meet.{form_of}
-use Rattle.heads.specs.Meet.{peek, Clear}
 use Rattle.repeats.proofs.Clears.{clear_none}
 use Rattle.tally.specs.declared.Walked.TheVariants.{Good}
 use Rattle.tally.specs.Meet.{Within}
 use Rattle.tally.proofs.Turns.{within_more, told_as, turn_done, turn_over}
-use Rattle.tally.proofs.ItemTurns.{depth, series_deep}
+use Rattle.tally.proofs.ItemTurns.{series_deep}
 use Rattle.tally_records.specs.Meet.{records_walk}
-use Rattle.tally_records.specs.Going.{RecordsFrom, TargetsFrom}
 use Rattle.tally_records.proofs.PartTurns.{PartAt, piece_fault, PartTold, item_small, item_told, series_room, lent_small, lent_opens, series_told, part_bad, bad_within, part_asks, part_less, part_more}
 use Rattle.tally_records.proofs.TargetTurns as targets
 use Rattle.tally_records.proofs.TargetTurns.{TargetAt, same_good, records_over, head_fault, target_room, lent, vals_within, vals_fault, vals_small, not_ended, target_asks, target_less, target_more}

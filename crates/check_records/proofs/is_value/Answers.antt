@@ -1,5 +1,4 @@
 -- `check_records::is_value` meets its contract.
-use borrow.Author.Rules.{rules}
 use Rattle.check_records.proofs.is_value.Goals as goal
 
 pub returns-then-set : goal.returns-then-set

@@ -1,7 +1,6 @@
 -- `check_records::part_at` meets its contract: told at a glance, or by the mark.
 use mathlib.Core.Path.{refl, sym, ◌∙◌}
 use native.Mathlib.Omega.{arith}
-use borrow.Author.Rules.{rules}
 use Rattle.tally_records.proofs.Opens.{value_next_lem, part_next, no_value, clear_set, past_set, part_series, part_unknown}
 use Rattle.quick_records.proofs.Glances.{glance_next, glance_piece}
 use Rattle.check_records.proofs.part_at.Goals as goal

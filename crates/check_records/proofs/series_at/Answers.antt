@@ -1,6 +1,5 @@
 -- `check_records::series_at` meets its contract: each way out is a case of `series_opens`.
 use mathlib.Core.Path.{sym}
-use borrow.Author.Rules.{rules}
 use Rattle.tally_records.proofs.Opens.{series_key, series_alone, series_standing, series_whole_lem}
 use Rattle.check_records.proofs.series_at.Goals as goal
 

@@ -1,7 +1,6 @@
 -- `check_records::target_at` meets its contract: each way out is a case of `target_opens`.
 use mathlib.Core.List.{[]}
 use native.Mathlib.Omega.{arith}
-use borrow.Author.Rules.{rules}
 use Rattle.tally_records.proofs.Opens.{target_key, target_cut, target_high, target_again, target_whole_lem}
 use Rattle.check_records.proofs.target_at.Goals as goal
 

@@ -1,7 +1,6 @@
 -- `check_sheet::check` meets its contract: each way out is a case of `unsheet`.
 -- In each answer k is where the form was read.
 use native.Mathlib.Omega.{arith}
-use borrow.Author.Rules.{rules}
 use Rattle.tally.proofs.Turns.{within_more}
 use Rattle.check_sheet.proofs.Sheeting.{check_long, check_cut, check_unmarked, check_form, check_bad, check_none, check_good}
 use Rattle.check_sheet.proofs.check.Goals as goal

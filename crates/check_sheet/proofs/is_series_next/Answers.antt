@@ -4,7 +4,6 @@ use native.Mathlib.Omega.{arith}
 use borrow.Author.Tests.{not-false}
 use Rattle.format.proofs.Words.Answers.{no_bool}
 use Rattle.tally_records.proofs.PartTurns.{ts_room}
-use borrow.Author.Rules.{rules}
 use Rattle.check_sheet.proofs.is_series_next.Goals as goal
 
 pub returns-then-not-is_series_new : goal.returns-then-not-is_series_new

@@ -1,10 +1,8 @@
 -- `check_sheet::series` meets its contract: all of its targets are told at a glance, or the walk over them goes on.
-use mathlib.Core.Path.{◌∙◌, ap}
 use native.Mathlib.Omega.{arith}
 use Rattle.format.specs.Coding.{Bytes}
 use Rattle.coding.proofs.Rooms.{tail_part}
 use Rattle.check_sheet.proofs.SetTurns.{room, targets_small, targets_open, all_asks, all_walked}
-use borrow.Author.Rules.{rules}
 use Rattle.check_sheet.proofs.series.Goals as goal
 
 pub slice_bounds-t-count : goal.slice_bounds-t-count

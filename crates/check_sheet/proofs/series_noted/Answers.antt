@@ -1,6 +1,5 @@
 -- `check_sheet::series_noted` meets its contract: all of its targets are told with their ids noted, or the walk over them goes on.
 use native.Mathlib.Omega.{arith}
-use borrow.Author.Rules.{rules}
 use Rattle.coding.proofs.Rooms.{tail_part}
 use Rattle.check_sheet.proofs.SetTurns.{room, targets_small, all_asks, all_walked}
 use Rattle.check_sheet.proofs.series_noted.Goals as goal

@@ -1,6 +1,5 @@
 -- `check_sheet::set_glanced` meets its contract.
 use Rattle.tally_records.proofs.PartTurns.{records_start}
-use borrow.Author.Rules.{rules}
 use Rattle.check_sheet.proofs.set_glanced.Goals as goal
 
 pub glance_rising-requires : goal.glance_rising-requires

@@ -3,7 +3,6 @@ use native.Mathlib.Omega.{arith}
 use lib.ListN.{length}
 use Rattle.coding.proofs.Rooms.{tail_part}
 use Rattle.tally.proofs.Turns.{turn_done, told_as}
-use borrow.Author.Rules.{rules}
 use Rattle.check_sheet.proofs.set_records.Goals as goal
 
 pub returns-then-q-s : goal.returns-then-q-s

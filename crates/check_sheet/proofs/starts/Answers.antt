@@ -1,6 +1,5 @@
 -- `check_sheet::starts` meets its contract.
 use mathlib.Core.Path.{sym, ◌∙◌}
-use borrow.Author.Rules.{rules}
 use Rattle.format.proofs.Words.Answers.{no_bool}
 use Rattle.coding.proofs.Rooms.{tail_part}
 use Rattle.check_sheet.proofs.starts.Goals as goal

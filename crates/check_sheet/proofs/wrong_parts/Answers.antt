@@ -1,7 +1,6 @@
 -- `check_sheet::wrong_parts` meets its contract.
 use mathlib.Core.Path.{sym, ap, subst}
 use native.Mathlib.Omega.{arith}
-use borrow.Author.Rules.{rules}
 use Rattle.tally.specs.Meet.{Within}
 use Rattle.check_sheet.specs.Meet.{parts_fault}
 use Rattle.check_sheet.proofs.wrong_parts.Goals as goal

@@ -2,18 +2,15 @@
 use mathlib.Core.Path.{◌≡◌, refl, sym, ◌∙◌}
 use mathlib.Core.Bool.{true, false}
 use mathlib.Core.List.{List}
-use Prim.Native.Nat.{ℕ, ◌+◌, ◌-◌, ◌≤◌, ◌<◌}
+use Prim.Native.Nat.{ℕ, ◌+◌, ◌≤◌, ◌<◌}
 use native.Mathlib.Omega.{arith}
 use lib.ListN.{length, drop}
-use borrow.Author.Rules.{rules}
 use borrow.Author.Tests.{not-true, not-false}
 use Rattle.format.specs.Coding.{Bytes}
 use Rattle.format.specs.Sheet.{TI, is}
-use Rattle.items.specs.Meet.{form_of}
-use Rattle.heads.specs.Meet.{peek, Clear}
 use Rattle.repeats.proofs.Clears.{clear_none}
 use Rattle.tally_records.proofs.Opens.{value_next_lem}
-use Rattle.check_target.proofs.LongTurns.{LongFrom, long_start, long_done, long_over, long_fault, long_room, long_more}
+use Rattle.check_target.proofs.LongTurns.{long_start, long_done, long_over, long_fault, long_room, long_more}
 use Rattle.check_target.proofs.long_vals.Goals as goal
 
 pub loop-p-init : goal.loop-p-init

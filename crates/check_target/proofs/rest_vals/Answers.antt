@@ -1,5 +1,4 @@
 -- `check_target::rest_vals` meets its contract.
-use borrow.Author.Rules.{rules}
 use Rattle.check_target.proofs.Sums.{walk_says}
 use Rattle.check_target.proofs.rest_vals.Goals as goal
 

@@ -1,6 +1,5 @@
 -- `check_target::vals_of` meets its contract.
 use native.Mathlib.Omega.{arith}
-use borrow.Author.Rules.{rules}
 use Rattle.tally.proofs.Turns.{turn_done}
 use Rattle.check_target.proofs.Sums.{walk_fine}
 use Rattle.check_target.proofs.vals_of.Goals as goal

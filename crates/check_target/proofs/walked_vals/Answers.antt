@@ -1,7 +1,6 @@
 -- `check_target::walked_vals` meets its contract.
 use mathlib.Core.Path.{◌≡◌, sym, ap}
 use native.Mathlib.Omega.{arith}
-use borrow.Author.Rules.{rules}
 use borrow.Author.Tests.{eq-eqb, ne_eqb}
 use Rattle.check_target.specs.Meet.{walk_vals}
 use Rattle.check_target.proofs.walked_vals.Goals as goal

@@ -1,6 +1,5 @@
 -- `check_target::wrong_piece` meets its contract.
 use mathlib.Core.Path.{sym, ap}
-use borrow.Author.Rules.{rules}
 use Rattle.check_target.specs.Meet.{piece_fault}
 use Rattle.check_target.proofs.wrong_piece.Goals as goal
 

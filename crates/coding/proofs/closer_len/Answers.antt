@@ -1,5 +1,5 @@
 -- `coding::closer_len` meets its contract: each refusal says nothing.
-use Rattle.std.proofs.Common.{arith, rules}
+use Rattle.std.proofs.Common.{arith}
 use Rattle.coding.proofs.Lens.{len_small, len_two}
 use Rattle.coding.proofs.closer_len.Goals as goal
 

@@ -1,5 +1,5 @@
 -- `coding::eight_of` meets its contract: the high half is below 2 ^ 32, and the two together spell what eight bytes do.
-use Rattle.std.proofs.Common.{arith, rules}
+use Rattle.std.proofs.Common.{arith}
 use Rattle.coding.proofs.Rooms.{bytes_room}
 use Rattle.coding.proofs.Lens.{number_halves}
 use Rattle.coding.proofs.eight_of.Goals as goal

@@ -1,7 +1,7 @@
 -- `coding::has_key` meets its contract: after i bytes, the whole comparison is that of those and the one from here.
-use Rattle.std.proofs.Common.{◌-◌, arith, rules}
+use Rattle.std.proofs.Common.{arith}
 use Rattle.format.specs.Packet.{the_key}
-use Rattle.coding.proofs.TheKey.{KeyLeft, key_start, key_short, key_more, key_done}
+use Rattle.coding.proofs.TheKey.{key_start, key_short, key_more, key_done}
 use Rattle.coding.proofs.has_key.Goals as goal
 
 pub returns-then-s-lt16 : goal.returns-then-s-lt16

@@ -1,7 +1,6 @@
 -- `coding::has_key` meets its contract: after i bytes, the whole comparison is that of those and the one from here.
-use Rattle.std.proofs.Common.{◌-◌, arith, rules}
-use Rattle.format.specs.Packet.{the_key}
-use Rattle.coding.proofs.TheKey.{KeyLeft, key_start, key_short, key_more, key_done}
+use Rattle.std.proofs.Common.{◌-◌}
+use Rattle.coding.proofs.TheKey.{KeyLeft}
 use Rattle.coding.proofs.has_key.Given as goal
 
 abbrev pub invariant-loop-i : goal.invariant-loop-i

@@ -1,5 +1,4 @@
 -- `coding::id_of` meets its contract.
-use Rattle.std.proofs.Common.{rules}
 use Rattle.format.specs.Coding.{id_of}
 use Rattle.coding.proofs.id_of.Goals as goal
 

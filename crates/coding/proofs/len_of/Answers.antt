@@ -1,5 +1,5 @@
 -- `coding::len_of` meets its contract: each way out is a case of `len_of`, over the first byte.
-use Rattle.std.proofs.Common.{inl, inr, arith, rules}
+use Rattle.std.proofs.Common.{inl, inr, arith}
 use Rattle.coding.proofs.Lens.{len_none, len_small, len_bad, len_cut, len_whole}
 use Rattle.coding.proofs.len_of.Goals as goal
 

@@ -1,8 +1,6 @@
 -- `coding::number_of` meets its contract: after i bytes, n is what they spell, in 8 * i bits.
-use Rattle.std.proofs.Common.{◌≡◌, ◌-◌, ◌*◌, ◌^◌, ◌<◌, ◌≤◌, length, take, refl, arith, lit<, rules}
-use Rattle.format.specs.Coding.{bytes_number, number}
-use Rattle.coding.proofs.Rooms.{bits_room, bits_more}
-use Rattle.coding.proofs.Lens.{number_more}
+use Rattle.std.proofs.Common.{◌≡◌, ◌-◌, ◌*◌, ◌^◌, ◌<◌, ◌≤◌, take}
+use Rattle.format.specs.Coding.{bytes_number}
 use Rattle.coding.proofs.number_of.Given as goal
 
 abbrev pub invariant-loop-i : goal.invariant-loop-i

@@ -1,6 +1,6 @@
 -- `coding::oid_bytes` meets its contract: after i bytes, `oid_go` from the start is `oid_go` from here.
-use Rattle.std.proofs.Common.{◌-◌, arith, rules}
-use Rattle.coding.proofs.Oid.{OidLeft, oid_start, oid_room, oid_cut, oid_last, oid_more, oid_none}
+use Rattle.std.proofs.Common.{arith}
+use Rattle.coding.proofs.Oid.{oid_start, oid_room, oid_cut, oid_last, oid_more, oid_none}
 use Rattle.coding.proofs.oid_bytes.Goals as goal
 
 pub loop-i-init : goal.loop-i-init

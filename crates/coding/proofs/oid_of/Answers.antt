@@ -1,5 +1,5 @@
 -- `coding::oid_of` meets its contract: what `oid_bytes` answers, unless the first byte is 80.
-use Rattle.std.proofs.Common.{sym, ap, ◌∙◌, rules}
+use Rattle.std.proofs.Common.{sym, ap, ◌∙◌}
 use Rattle.coding.specs.Code.{num_of}
 use Rattle.coding.proofs.Oid.{oid_refused, oid_80, oid_good, oid_there}
 use Rattle.coding.proofs.oid_of.Goals as goal

@@ -1,6 +1,6 @@
 -- `coding::sum_of` meets its contract: after i bytes the sum is what they add up to, each by its weight.
-use Rattle.std.proofs.Common.{◌-◌, refl, arith, rules}
-use Rattle.coding.proofs.Sums.{SumLeft, sum_start, sum_more, sum_all, weight_small}
+use Rattle.std.proofs.Common.{refl, arith}
+use Rattle.coding.proofs.Sums.{sum_start, sum_more, sum_all, weight_small}
 use Rattle.coding.proofs.sum_of.Goals as goal
 
 pub loop-i-init : goal.loop-i-init

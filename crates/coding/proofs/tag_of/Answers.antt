@@ -1,5 +1,5 @@
 -- `coding::tag_of` meets its contract: what `oid_of` answers, unless the value is 0.
-use Rattle.std.proofs.Common.{sym, ap, ◌∙◌, arith, rules}
+use Rattle.std.proofs.Common.{sym, ap, ◌∙◌, arith}
 use Rattle.coding.specs.Code.{num_of}
 use Rattle.coding.proofs.Oid.{tag_refused, tag_zero, tag_good}
 use Rattle.coding.proofs.tag_of.Goals as goal

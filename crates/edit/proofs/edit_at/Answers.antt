@@ -3,7 +3,6 @@
 use Prim.Native.Nat.{ℕ}
 use native.Mathlib.Omega.{arith}
 use mathlib.Core.List.{List}
-use borrow.Author.Rules.{rules}
 use Rattle.items.specs.Meet.{form_of, level_of}
 use Rattle.edit_rules.specs.Cuts.{one_cut, cut_bytes}
 use Rattle.answers.proofs.Entries.{Sized, sized_long, sized_short, Roomy, opening, entries_from, entries_room, entries_to, closing, written}

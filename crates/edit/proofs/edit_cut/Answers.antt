@@ -1,5 +1,4 @@
 -- `edit::edit_cut` meets its contract. i is where the call begins.
-use borrow.Author.Rules.{rules}
 use native.Mathlib.Omega.{arith}
 use Rattle.items.specs.Meet.{form_of, level_of}
 use Rattle.edit_rules.specs.Cuts.{one_cut}

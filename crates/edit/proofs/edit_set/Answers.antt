@@ -1,6 +1,5 @@
 -- `edit::edit_set` meets its contract. j is where the edit was judged, and i where the call begins.
 use mathlib.Core.Path.{◌≡◌, sym, subst}
-use borrow.Author.Rules.{rules}
 use Rattle.items.specs.Meet.{form_of}
 use Rattle.edit_rules.specs.declared.one.Judged.{Judged}
 use Rattle.edit_rules.specs.Cuts.{one_cut}

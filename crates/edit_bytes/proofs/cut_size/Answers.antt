@@ -1,5 +1,4 @@
 -- `edit_bytes::cut_size` meets its contract.
-use borrow.Author.Rules.{rules}
 use Rattle.edit_bytes.proofs.cut_size.Goals as goal
 
 pub returns-then-c : goal.returns-then-c

@@ -1,6 +1,5 @@
 -- `edit_bytes::edited_size` meets its contract. z is where the size of the series is known.
 use native.Mathlib.Omega.{arith}
-use borrow.Author.Rules.{rules}
 use Rattle.coding.proofs.Counts.{len_most}
 use Rattle.edit_rules.proofs.Sizes.{size_set, size_pack}
 use Rattle.edit_bytes.proofs.edited_size.Goals as goal

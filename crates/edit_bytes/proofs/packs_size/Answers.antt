@@ -1,6 +1,5 @@
 -- `edit_bytes::packs_size` meets its contract.
 use native.Mathlib.Omega.{arith}
-use borrow.Author.Rules.{rules}
 use Rattle.coding.proofs.Counts.{len_most}
 use Rattle.edit_bytes.proofs.packs_size.Goals as goal
 

@@ -1,6 +1,5 @@
 -- `edit_bytes::put_cut` meets its contract: the last bytes of the value are put.
 use native.Mathlib.Omega.{arith}
-use borrow.Author.Rules.{rules}
 use Rattle.edit_rules.proofs.Items.{last_long}
 use Rattle.edit_rules.proofs.Storing.{none_stored, put_room, put_stored}
 use Rattle.edit_bytes.proofs.put_cut.Goals as goal

@@ -1,6 +1,5 @@
 -- `edit_bytes::put_part` meets its contract.
 use native.Mathlib.Omega.{arith}
-use borrow.Author.Rules.{rules}
 use Rattle.edit_rules.proofs.Storing.{part_none}
 use Rattle.edit_bytes.proofs.put_part.Goals as goal
 

@@ -1,5 +1,4 @@
 -- `edit_rules::ending_fault` meets its contract.
-use borrow.Author.Rules.{rules}
 use Rattle.items.specs.Meet.{form_of}
 use Rattle.edit_rules.proofs.Ends.{set_end, pack_parts, pack_stays}
 use Rattle.edit_rules.proofs.ending_fault.Goals as goal

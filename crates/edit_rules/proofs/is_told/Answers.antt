@@ -1,5 +1,4 @@
 -- `edit_rules::is_told` meets its contract.
-use borrow.Author.Rules.{rules}
 use Rattle.format.proofs.Words.Answers.{no_bool}
 use Rattle.edit_rules.proofs.is_told.Goals as goal
 

@@ -1,5 +1,4 @@
 -- `edit_rules::lost_fault` meets its contract.
-use borrow.Author.Rules.{rules}
 use borrow.Author.Tests.{not-true, not-false}
 use Rattle.edit_rules.proofs.Ends.{lost_none, lost_kept, lost_gone}
 use Rattle.edit_rules.proofs.lost_fault.Goals as goal

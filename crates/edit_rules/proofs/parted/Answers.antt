@@ -1,5 +1,4 @@
 -- `edit_rules::parted` meets its contract.
-use borrow.Author.Rules.{rules}
 use Rattle.edit_rules.proofs.Ends.{parted_row, parted_column}
 use Rattle.edit_rules.proofs.parted.Goals as goal
 

@@ -1,6 +1,5 @@
 -- `edit_rules::plain_size` meets its contract. In the last two answers a is where the value may stand, and v where its rule has judged it.
 use mathlib.Core.Path.{sym, ◌∙◌}
-use borrow.Author.Rules.{rules}
 use borrow.Author.Tests.{not-true, not-false}
 use Rattle.items.specs.Meet.{form_of, level_of}
 use Rattle.edit_rules.proofs.Rules.{some_of, put_7, put_13, put_sized, put_fault}

@@ -1,5 +1,4 @@
 -- `edit_rules::put_size` meets its contract.
-use borrow.Author.Rules.{rules}
 use Rattle.items.specs.Meet.{form_of, level_of}
 use Rattle.edit_rules.proofs.Rules.{put_told}
 use Rattle.edit_rules.proofs.put_size.Goals as goal

@@ -1,13 +1,10 @@
 -- `find::item_spot` meets its contract: each turn passes one entry that is not the one sought.
-use mathlib.Core.Path.{◌∙◌}
 use Prim.Native.Nat.{◌-◌}
-use native.Mathlib.Omega.{arith}
 use lib.ListN.{length}
-use borrow.Author.Rules.{rules}
 use Rattle.format.specs.Table.{Form}
 use Rattle.items.specs.Meet.{level_of}
 use Rattle.tally.specs.Runs.{Ran, level_run}
-use Rattle.find.proofs.Entries.{EntryTurn, entry_start, EntryAt, entry_done, entry_fault, entry_room, entry_found, entry_more}
+use Rattle.find.proofs.Entries.{EntryTurn}
 use Rattle.find.proofs.item_spot.Given as goal
 
 abbrev pub invariant-loop-p : goal.invariant-loop-p

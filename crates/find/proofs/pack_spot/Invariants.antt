@@ -1,13 +1,10 @@
 -- `find::pack_spot` meets its contract: each turn passes one pack that is not the one sought.
-use mathlib.Core.Path.{◌∙◌}
 use Prim.Native.Nat.{◌-◌}
-use native.Mathlib.Omega.{arith}
 use lib.ListN.{length}
-use borrow.Author.Rules.{rules}
 use Rattle.format.specs.Table.{Form}
 use Rattle.tally.specs.Runs.{Ran, series_run}
 use Rattle.find.specs.Spots.{has_id}
-use Rattle.find.proofs.Packs.{PackTurn, pack_start, PackAt, pack_done, pack_fault, pack_room, pack_found, pack_more}
+use Rattle.find.proofs.Packs.{PackTurn}
 use Rattle.find.proofs.pack_spot.Given as goal
 
 abbrev pub invariant-loop-p : goal.invariant-loop-p

@@ -1,5 +1,4 @@
 -- `find::place_of` meets its contract.
-use borrow.Author.Rules.{rules}
 use Rattle.find.proofs.Finds.{of_set, of_target}
 use Rattle.find.proofs.place_of.Goals as goal
 

@@ -1,7 +1,6 @@
 -- `find::set_place` meets its contract. a is where the item's spot is known, and g where the set's bytes are.
 use Rattle.items.specs.Meet.{form_of}
 use mathlib.Core.Path.{ap, ◌∙◌}
-use borrow.Author.Rules.{rules}
 use Rattle.find.specs.Places.{place_in}
 use Rattle.find.proofs.Sets.{seal_room, set_stop}
 use Rattle.find.proofs.Finds.{set_there, set_added}

@@ -1,7 +1,6 @@
 -- `find::target_place` meets its contract. i is its entry, b where the bytes are known, e where the series was found, w where the pack was, g where an item was.
 use Rattle.items.specs.Meet.{form_of}
 use native.Mathlib.Omega.{arith}
-use borrow.Author.Rules.{rules}
 use Rattle.find.proofs.Entries.{tag_room}
 use Rattle.find.proofs.Packs.{id_pack}
 use Rattle.find.proofs.Finds.{SeriesFound, PackFound, none_series, series_found, stop_asked, packs_asked, none_pack, pack_found, items_asked, sums, in_place}

@@ -1,9 +1,9 @@
 -- A target that is added or dropped is refused at 0, with a number of the table.
 use mathlib.Core.Path.{refl}
-use Prim.Native.Nat.{ℕ, ◌<◌}
+use Prim.Native.Nat.{ℕ}
 use native.Mathlib.Omega.{arith}
 use mathlib.Core.List.{List, map}
-use lib.ListN.{length, drop}
+use lib.ListN.{drop}
 use Rattle.format.specs.Answer.{Ans, ok, refused}
 use Rattle.format.specs.Table.{Form, pack}
 use Rattle.format.specs.Packet.{Packet}

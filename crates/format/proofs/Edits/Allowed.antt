@@ -1,18 +1,17 @@
 -- What may be asked of a valid sheet is what the edit's rules let through: the changes are distinct where each may follow those before it,
 -- and the level ends as it must where a valid sheet is left.
 use mathlib.Core.Path.{◌≡◌, refl, sym, ap, ◌∙◌, subst}
-use Prim.Native.Nat.{ℕ, ◌≤◌}
+use Prim.Native.Nat.{ℕ}
 use native.Mathlib.Omega.{arith}
-use mathlib.Core.Bool.{true, false, not}
+use mathlib.Core.Bool.{true, not}
 use mathlib.Core.List.{List, [], ◌∷◌, map}
-use lib.ListN.{length}
-use borrow.Author.Tests.{not-true, eq-eqb}
-use Rattle.format.specs.Answer.{Ans, ok, refused}
+use borrow.Author.Tests.{not-true}
+use Rattle.format.specs.Answer.{ok}
 use Rattle.format.specs.Lists.{has, ask_hit, on_hit}
 use Rattle.format.specs.Table.{Form, set, pack}
 use Rattle.format.specs.Sheet.{Part, one, targets, Sheet, Target, tag_of_val, id_of_target, tag_of_part}
 use Rattle.format.specs.Edit.{Holder, the_set, target, Changes, level_of, val_with, in_target, is_targets, in_part, edit_parts, edit_sheet, target_tags, tags_at, ending}
-use Rattle.format.specs.Valid.{All, Once, SheetValid}
+use Rattle.format.specs.Valid.{All, SheetValid}
 use Rattle.format.specs.Demands.Demand3.{Asks, Distinct, Allowed}
 use Rattle.format.proofs.Words.Answers.{never, no_bool, ok_inj}
 use Rattle.format.proofs.Words.Keys.{Fresh, fresh_says, once_fresh}

@@ -5,10 +5,10 @@ use mathlib.Core.List.{List, [], ◌∷◌, ◌++◌}
 use lib.Dec.{eqb}
 use Rattle.format.specs.Answer.{ok}
 use Rattle.format.specs.Table.{pack}
-use Rattle.format.specs.Packet.{Item, Pack, Entry, plain, series, Packet, tag_of_item, id_of_pack, tag_of_entry, closed}
+use Rattle.format.specs.Packet.{Item, Pack, Entry, plain, series, Packet, tag_of_item, tag_of_entry, closed}
 use Rattle.format.specs.Sheet.{Sheet}
 use Rattle.format.specs.Calls.{pack_with, series_with}
-use Rattle.format.specs.Edit.{Holder, the_set, target, Changes, level_of, changed, applied, edit_sheet, edit_rules, in_pack, is_series, in_entry, edit_entries, edit_packet}
+use Rattle.format.specs.Edit.{Holder, the_set, target, Changes, changed, applied, edit_sheet, edit_rules, in_pack, is_series, in_entry, edit_entries, edit_packet}
 use Rattle.format.specs.Demands.Demand3.{Distinct}
 use Rattle.format.proofs.Words.Answers.{ok_inj}
 use Rattle.format.proofs.Words.Changes.{on_on, changed_keys}

@@ -1,10 +1,10 @@
 -- The level that an edit names, in a valid sheet: its tags stand once, and it ends as it must.
-use mathlib.Core.Path.{◌≡◌, refl, sym, ap, ◌∙◌}
+use mathlib.Core.Path.{◌≡◌, refl}
 use Prim.Native.Nat.{ℕ}
 use mathlib.Core.Bool.{true}
 use mathlib.Core.List.{List, [], ◌∷◌, map}
 use borrow.Author.Tests.{eq-eqb}
-use Rattle.format.specs.Answer.{Ans, ok, refused}
+use Rattle.format.specs.Answer.{ok}
 use Rattle.format.specs.Lists.{has}
 use Rattle.format.specs.Table.{Form, embedded, standalone, set}
 use Rattle.format.specs.Sheet.{Part, one, targets, Sheet, tag_of_val, id_of_target, tag_of_part}

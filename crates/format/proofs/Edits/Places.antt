@@ -11,7 +11,7 @@ use Rattle.format.specs.Packet.{Pack, Entry, plain, series, tag_of_item, id_of_p
 use Rattle.format.specs.Sheet.{tag_of_val, tag_of_part, val_of, target_of, part_of}
 use Rattle.format.specs.Calls.{series_with}
 use Rattle.format.specs.Edit.{Holder, the_set, target, Changes, is_targets, target_tags, tags_at, in_pack, is_series, in_entry, edit_entries}
-use Rattle.format.specs.Valid.{Once, Together, PackValid, EntryValid}
+use Rattle.format.specs.Valid.{Together, PackValid, EntryValid}
 use Rattle.format.specs.Demands.Kept.{PackAt}
 use Rattle.format.proofs.Words.Answers.{never, no_bool, ok_inj}
 use Rattle.format.proofs.Words.Changes.{map_ask}

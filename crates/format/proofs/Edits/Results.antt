@@ -8,12 +8,12 @@ use lib.ListN.{length}
 use lib.Dec.{eqb}
 use borrow.Author.Tests.{eqb-true}
 use Rattle.format.specs.Answer.{ok}
-use Rattle.format.specs.Lists.{has, flat_all, put_in, take_out}
+use Rattle.format.specs.Lists.{flat_all, put_in, take_out}
 use Rattle.format.specs.Table.{Form, embedded, standalone, Level, set, pack, rule_of, ended, short}
 use Rattle.format.specs.Packet.{Item, Pack, Entry, plain, series, Packet, tag_of_item, id_of_pack, tag_of_entry, flat_item, flat_pack, flat_entry, flat, closed}
 use Rattle.format.specs.Sheet.{Val, Target, Part, one, targets, Sheet, tag_of_val, tag_of_part, val_of, target_of, part_of, content}
 use Rattle.format.specs.Calls.{item_of, pack_with, series_with, pack_of, entry_of, packet_of}
-use Rattle.format.specs.Edit.{Holder, the_set, target, Change, put, remove, Changes, level_of, changed, applied, val_with, in_target, is_targets, in_part, edit_parts, edit_sheet, ending, edit_rules, in_pack, is_series, in_entry, edit_entries, edit_packet}
+use Rattle.format.specs.Edit.{Holder, the_set, target, put, remove, Changes, level_of, changed, applied, val_with, in_target, is_targets, in_part, edit_parts, edit_sheet, ending, edit_rules, in_pack, is_series, in_entry, edit_entries, edit_packet}
 use Rattle.format.specs.Valid.{All, Once, Together, Begins, Meets, ItemValid, PackValid, EntryValid, Valid}
 use Rattle.format.specs.Demands.Kept.{PackAt}
 use Rattle.format.specs.Demands.Demand3.{Asks}
@@ -24,7 +24,7 @@ use Rattle.format.proofs.Coding.Lengths.{width_holds}
 use Rattle.format.proofs.Table.Values.{short_twice}
 use Rattle.format.proofs.Reading.Items.{length_item}
 use Rattle.format.proofs.Reading.Entries.{plain_flat}
-use Rattle.format.proofs.Sheets.Content.{meets_short, val_tag, target_id, part_tag, content_form}
+use Rattle.format.proofs.Sheets.Content.{meets_short, val_tag, target_id, part_tag}
 use Rattle.format.proofs.Sheets.Normal.{closed_valid, closed_form, closed_entries, closed_content, item_tag, pack_id, entry_tag, pack_with_valid, pack_with_id, series_with_valid, packs_less, items_less, entries_less, sheet_path}
 use Rattle.format.proofs.Edits.Applied.{map_applied, keys_after, applied_keys, Made, applied_together}
 use Rattle.format.proofs.Edits.Rules.{Follows, Turned, rules_then}

@@ -1,16 +1,16 @@
 -- What the edit's rules say of changes that they let through, and the other way.
-use mathlib.Core.Path.{◌≡◌, refl, sym, ap, ◌∙◌}
+use mathlib.Core.Path.{◌≡◌, refl}
 use Prim.Native.Nat.{ℕ}
-use mathlib.Core.Bool.{Bool, true, false, ◌&&◌}
-use mathlib.Core.List.{List, [], ◌∷◌, map}
+use mathlib.Core.Bool.{true}
+use mathlib.Core.List.{List, [], ◌∷◌}
 use lib.ListN.{length}
 use borrow.Author.Tests.{ltb-true, lt-ltb}
 use Rattle.format.specs.Answer.{Ans, ok, refused, ◌>>=◌, need}
 use Rattle.format.specs.Lists.{has}
-use Rattle.format.specs.Table.{Form, Level, nameable, valued}
+use Rattle.format.specs.Table.{Form, Level, nameable}
 use Rattle.format.specs.Sheet.{Sheet}
 use Rattle.format.specs.Edit.{Holder, Change, put, remove, Changes, level_of, applied, tags_at, change_rules, may_follow, turns, ending, edit_rules}
-use Rattle.format.specs.Valid.{All, Meets}
+use Rattle.format.specs.Valid.{All}
 use Rattle.format.specs.Demands.Demand3.{Asks}
 use Rattle.format.proofs.Words.Answers.{never, bind_then, need_then, need_last, need_ok, ok_inj, and_both}
 use Rattle.format.proofs.Words.Changes.{changed_keys}

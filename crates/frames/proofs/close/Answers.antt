@@ -4,7 +4,6 @@ use native.Mathlib.Omega.{arith}
 use mathlib.Core.List.{[]}
 use lib.ListN.{length, length-set}
 use lib.Seq.{length-sets}
-use borrow.Author.Rules.{rules}
 use Rattle.frames.proofs.Parts.{seal_room, sealed, not_sealed}
 use Rattle.frames.proofs.close.Goals as goal
 

@@ -1,7 +1,6 @@
 -- `frames::frame_size` meets its contract.
 use Prim.Native.Nat.{◌+◌}
 use native.Mathlib.Omega.{arith}
-use borrow.Author.Rules.{rules}
 use Rattle.coding.proofs.Counts.{len_most}
 use Rattle.frames.proofs.Parts.{size_alone, size_within}
 use Rattle.frames.proofs.frame_size.Goals as goal

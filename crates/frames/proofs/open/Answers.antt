@@ -1,6 +1,5 @@
 -- `frames::open` meets its contract: the key and the length, one after another.
 use native.Mathlib.Omega.{arith}
-use borrow.Author.Rules.{rules}
 use Rattle.frames.proofs.Parts.{key_long, open_room, opened, not_opened}
 use Rattle.frames.proofs.open.Goals as goal
 

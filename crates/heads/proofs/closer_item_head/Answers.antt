@@ -1,6 +1,5 @@
 -- `heads::closer_item_head` meets its contract: each fault says nothing. `b` is where the length was read, and `a` where the tag was.
 use native.Mathlib.Omega.{arith}
-use borrow.Author.Rules.{rules}
 use Rattle.heads.proofs.Heads.{closer_room, closer_whole}
 use Rattle.heads.proofs.closer_item_head.Goals as goal
 

@@ -1,6 +1,5 @@
 -- `heads::fault_of` meets its contract.
 use mathlib.Core.Path.{sym, ap}
-use borrow.Author.Rules.{rules}
 use Rattle.heads.specs.Meet.{fault_of}
 use Rattle.heads.proofs.fault_of.Goals as goal
 

@@ -1,7 +1,6 @@
 -- `heads::item_head` meets its contract: each way out is a case of `head_of`.
 -- In each answer b is where the length was read, and a where the tag was.
 use native.Mathlib.Omega.{arith}
-use borrow.Author.Rules.{rules}
 use Rattle.heads.proofs.Heads.{item_head_tag, item_tag_room, item_head_len, item_from_room, item_head_seal, item_head_over, item_head_whole}
 use Rattle.heads.proofs.item_head.Goals as goal
 

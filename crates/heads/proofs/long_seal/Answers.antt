@@ -1,6 +1,5 @@
 -- `heads::long_seal` meets its contract.
 use borrow.Author.Tests.{ne_eqb}
-use borrow.Author.Rules.{rules}
 use Rattle.heads.proofs.long_seal.Goals as goal
 
 pub returns-then-tag-eq1 : goal.returns-then-tag-eq1

@@ -1,6 +1,5 @@
 -- `heads::next_of` meets its contract: what a record or a head says of all that it heads.
 use native.Mathlib.Omega.{arith}
-use borrow.Author.Rules.{rules}
 use Rattle.heads.proofs.Heads.{item_within, pack_within}
 use Rattle.heads.proofs.Before.{record_next, no_pack_next, pack_next, no_item_next, item_next}
 use Rattle.heads.proofs.next_of.Goals as goal

@@ -1,7 +1,6 @@
 -- `heads::pack_head` meets its contract: each way out is a case of `pack_head`.
 -- In each answer b is where the length was read.
 use native.Mathlib.Omega.{arith}
-use borrow.Author.Rules.{rules}
 use Rattle.heads.proofs.Heads.{pack_head_len, pack_len_room, pack_head_over, pack_head_id, pack_head_whole}
 use Rattle.heads.proofs.pack_head.Goals as goal
 

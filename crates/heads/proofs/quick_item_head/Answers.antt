@@ -1,5 +1,4 @@
 -- `heads::quick_item_head` meets its contract: what the quick way says, or what `item_head` says.
-use borrow.Author.Rules.{rules}
 use Rattle.heads.proofs.Heads.{item_head_if}
 use Rattle.heads.proofs.quick_item_head.Goals as goal
 

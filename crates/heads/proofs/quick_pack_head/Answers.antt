@@ -1,5 +1,4 @@
 -- `heads::quick_pack_head` meets its contract: what the quick way says, or what `pack_head` says.
-use borrow.Author.Rules.{rules}
 use Rattle.heads.proofs.Heads.{pack_head_if}
 use Rattle.heads.proofs.quick_pack_head.Goals as goal
 

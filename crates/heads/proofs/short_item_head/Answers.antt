@@ -2,7 +2,6 @@
 use mathlib.Core.Path.{sym, ◌∙◌}
 use native.Mathlib.Omega.{arith}
 use lib.Seq.{get_or-drop}
-use borrow.Author.Rules.{rules}
 use Rattle.heads.proofs.Heads.{item_head_short}
 use Rattle.heads.proofs.short_item_head.Goals as goal
 

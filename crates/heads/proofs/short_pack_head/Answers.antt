@@ -1,7 +1,6 @@
 -- `heads::short_pack_head` meets its contract: each fault says nothing.
 use mathlib.Core.Path.{refl}
 use native.Mathlib.Omega.{arith}
-use borrow.Author.Rules.{rules}
 use Rattle.heads.proofs.Heads.{pack_head_one, pack_head_two}
 use Rattle.heads.proofs.short_pack_head.Goals as goal
 

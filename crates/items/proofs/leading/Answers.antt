@@ -1,8 +1,6 @@
 -- `items::leading` meets its contract.
-use Prim.Native.Nat.{◌-◌}
 use native.Mathlib.Omega.{arith}
-use lib.ListN.{length}
-use Rattle.items.proofs.Tests.{ZerosLeft, zero_found, zero_more, zero_done}
+use Rattle.items.proofs.Tests.{zero_found, zero_more, zero_done}
 use Rattle.items.proofs.leading.Goals as goal
 
 pub loop-i-init : goal.loop-i-init

@@ -1,8 +1,7 @@
 -- `items::leading` meets its contract.
 use Prim.Native.Nat.{◌-◌}
-use native.Mathlib.Omega.{arith}
 use lib.ListN.{length}
-use Rattle.items.proofs.Tests.{ZerosLeft, zero_found, zero_more, zero_done}
+use Rattle.items.proofs.Tests.{ZerosLeft}
 use Rattle.items.proofs.leading.Given as goal
 
 abbrev pub invariant-loop-i : goal.invariant-loop-i

@@ -1,6 +1,5 @@
 -- `items::row_at` meets its contract.
 use native.Mathlib.Omega.{arith}
-use borrow.Author.Rules.{rules}
 use Rattle.items.proofs.Rows.{row_in}
 use Rattle.items.proofs.row_at.Goals as goal
 

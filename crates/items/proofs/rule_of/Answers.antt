@@ -1,6 +1,5 @@
 -- `items::rule_of` meets its contract: the row at a tag's place stands for the tag's rule.
 use mathlib.Core.Path.{◌∙◌, ap}
-use borrow.Author.Rules.{rules}
 use Rattle.items.specs.Meet.{row_from}
 use Rattle.items.proofs.Rows.{table_long, item_at, rule_over}
 use Rattle.items.proofs.rule_of.Goals as goal

@@ -1,7 +1,6 @@
 -- `items::short_size` meets its contract.
 use mathlib.Core.Path.{sym, ap, ◌∙◌}
 use lib.ListN.{length}
-use borrow.Author.Rules.{rules}
 use Rattle.items.specs.Meet.{rule_from}
 use Rattle.items.proofs.Tests.{short_first, short_whole, short_some, short_none}
 use Rattle.items.proofs.short_size.Goals as goal

@@ -1,5 +1,4 @@
 -- `items::sized_of` meets its contract.
-use borrow.Author.Rules.{rules}
 use Rattle.items.proofs.Tests.{sized_under, sized_any, sized_over, sized_six, sized_plain}
 use Rattle.items.proofs.sized_of.Goals as goal
 

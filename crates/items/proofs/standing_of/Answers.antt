@@ -1,7 +1,6 @@
 -- `items::standing_of` meets its contract.
 use mathlib.Core.Path.{sym, ◌∙◌}
 use Rattle.items.proofs.Tests.{standing_9, standing_13, standing_14, standing_0}
-use borrow.Author.Rules.{rules}
 use Rattle.items.proofs.standing_of.Goals as goal
 
 pub returns-then-dup : goal.returns-then-dup

@@ -1,7 +1,6 @@
 -- `items::stands` meets its contract.
 use borrow.Author.Tests.{ne_eqb}
 use Rattle.format.specs.Table.{may_stand}
-use borrow.Author.Rules.{rules}
 use Rattle.items.proofs.stands.Goals as goal
 
 pub returns-then-alone : goal.returns-then-alone

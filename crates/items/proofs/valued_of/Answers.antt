@@ -1,7 +1,6 @@
 -- `items::valued_of` meets its contract.
 use mathlib.Core.Path.{sym, ◌∙◌}
 use Rattle.items.proofs.Tests.{valued_11, valued_12, valued_some, valued_0}
-use borrow.Author.Rules.{rules}
 use Rattle.items.proofs.valued_of.Goals as goal
 
 pub returns-then-leading-v : goal.returns-then-leading-v

@@ -1,7 +1,6 @@
 -- `locate::locate_numbers` meets its contract: each way out is a case of what is left behind.
 use mathlib.Core.Path.{◌≡◌}
 use native.Mathlib.Omega.{arith}
-use borrow.Author.Rules.{rules}
 use Rattle.format.specs.Coding.{Bytes}
 use Rattle.format.specs.Read.{parse}
 use Rattle.items.specs.Meet.{form_of}

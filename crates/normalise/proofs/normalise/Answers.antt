@@ -4,7 +4,6 @@
 use mathlib.Core.List.{List}
 use Prim.Native.Nat.{ℕ, ◌≤◌}
 use native.Mathlib.Omega.{arith}
-use borrow.Author.Rules.{rules}
 use Rattle.format.specs.Table.{Form}
 use Rattle.format.specs.Calls.{normalise}
 use Rattle.items.specs.Meet.{form_of}

@@ -1,6 +1,5 @@
 -- `quick_items::glance_item` meets its contract: each 0 says nothing.
 use native.Mathlib.Omega.{arith}
-use borrow.Author.Rules.{rules}
 use Rattle.quick_items.proofs.Glances.{glance_from}
 use Rattle.quick_items.proofs.glance_item.Goals as goal
 

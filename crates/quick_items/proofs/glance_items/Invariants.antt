@@ -1,16 +1,10 @@
 -- `quick_items::glance_items` meets its contract: each turn is a turn of the item walk. Tags rise, so the first is the lowest. `u` is where a turn
 -- begins, and `e` where an item was told.
-use mathlib.Core.Path.{refl}
-use Prim.Native.Nat.{ℕ, ◌-◌, ◌≤◌, ◌<◌}
-use native.Mathlib.Omega.{arith}
-use mathlib.Core.List.{List}
+use Prim.Native.Nat.{◌-◌, ◌≤◌, ◌<◌}
 use lib.ListN.{length, get_or}
-use borrow.Author.Rules.{rules}
 use Rattle.items.specs.Meet.{form_of}
 use Rattle.tally.specs.Going.{LevelGoing}
-use Rattle.tally.proofs.ItemTurns.{level_start}
-use Rattle.quick_items.specs.Items.{told_sizes, GlancedTo}
-use Rattle.quick_items.proofs.Glances.{glanced_next, glanced_low, glanced_more}
+use Rattle.quick_items.specs.Items.{told_sizes}
 use Rattle.quick_items.proofs.glance_items.Given as goal
 
 -- past the end nothing is said

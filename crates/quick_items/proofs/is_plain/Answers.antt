@@ -1,7 +1,6 @@
 -- `quick_items::is_plain` meets its contract: each `false` says nothing.
 use mathlib.Core.Path.{sym, ◌∙◌}
 use native.Mathlib.Omega.{arith}
-use borrow.Author.Rules.{rules}
 use borrow.Author.Tests.{leb-true, not-false}
 use Rattle.format.proofs.Words.Answers.{no_bool}
 use Rattle.quick_items.proofs.is_plain.Goals as goal

@@ -1,12 +1,8 @@
 -- `quick_items::onward` meets its contract: each turn is a turn of the item walk. `a` is where an item was found to be plain.
-use Prim.Native.Nat.{ℕ, ◌-◌}
-use native.Mathlib.Omega.{arith}
+use Prim.Native.Nat.{◌-◌}
 use lib.ListN.{length}
-use borrow.Author.Rules.{rules}
-use borrow.Author.Tests.{not-false}
 use Rattle.items.specs.Meet.{form_of}
 use Rattle.tally.specs.Going.{LevelGoing}
-use Rattle.quick_items.proofs.Beyond.{PlainAt, plain_small, plain_next, plain_sums, plain_more}
 use Rattle.quick_items.proofs.onward.Given as goal
 
 abbrev pub invariant-loop-p : goal.invariant-loop-p

@@ -1,6 +1,5 @@
 -- `quick_items::span` meets its contract.
 use native.Mathlib.Omega.{arith}
-use borrow.Author.Rules.{rules}
 use Rattle.items.specs.Meet.{form_of}
 use Rattle.quick_items.proofs.Glances.{begun_start}
 use Rattle.quick_items.proofs.span.Goals as goal

@@ -1,6 +1,5 @@
 -- `quick_packs::choose` meets its contract.
 use native.Mathlib.Omega.{arith}
-use borrow.Author.Rules.{rules}
 use Rattle.quick_packs.proofs.Models.{as_model}
 use Rattle.quick_packs.proofs.choose.Goals as goal
 

@@ -3,7 +3,6 @@ use native.Mathlib.Omega.{arith}
 use lib.ListN.{length-drop}
 use Rattle.format.proofs.Words.Answers.{no_bool}
 use Rattle.coding.proofs.Rooms.{tail_part}
-use borrow.Author.Rules.{rules}
 use Rattle.quick_packs.proofs.is_as.Goals as goal
 
 pub returns-then-size-gt127 : goal.returns-then-size-gt127

@@ -1,7 +1,6 @@
 -- `quick_packs::is_pack_as` meets its contract.
 use native.Mathlib.Omega.{arith}
 use Rattle.format.proofs.Words.Answers.{no_bool}
-use borrow.Author.Rules.{rules}
 use Rattle.quick_packs.proofs.is_pack_as.Goals as goal
 
 pub returns-then-m-eq0 : goal.returns-then-m-eq0

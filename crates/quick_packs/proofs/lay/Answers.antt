@@ -3,16 +3,14 @@
 use mathlib.Core.Path.{refl}
 use mathlib.Core.Bool.{false}
 use mathlib.Core.List.{List}
-use Prim.Native.Nat.{ℕ, ◌-◌}
+use Prim.Native.Nat.{ℕ}
 use native.Mathlib.Omega.{arith}
-use lib.ListN.{length}
-use borrow.Author.Rules.{rules}
 use Rattle.items.specs.Meet.{form_of}
 use Rattle.tally.proofs.ItemTurns.{level_start}
 use Rattle.format.specs.Coding.{Bytes}
 use Rattle.quick_items.specs.Items.{GlancedTo}
 use Rattle.quick_items.proofs.Glances.{glanced_next}
-use Rattle.quick_packs.proofs.Alikes.{Laying, laying_own, laying_more}
+use Rattle.quick_packs.proofs.Alikes.{laying_own, laying_more}
 use Rattle.quick_packs.proofs.lay.Goals as goal
 
 pub loop-alone-init : goal.loop-alone-init

@@ -1,18 +1,9 @@
 -- `quick_packs::lay` meets its contract: each turn is one of `quick_items::glance_items`, for whatever is laid out so far as the items are. `u` is where
 -- a turn begins, and `e` where an item was told.
-use mathlib.Core.Path.{refl}
-use mathlib.Core.Bool.{false}
-use mathlib.Core.List.{List}
-use Prim.Native.Nat.{ℕ, ◌-◌}
-use native.Mathlib.Omega.{arith}
+use Prim.Native.Nat.{◌-◌}
 use lib.ListN.{length}
-use borrow.Author.Rules.{rules}
 use Rattle.items.specs.Meet.{form_of}
-use Rattle.tally.proofs.ItemTurns.{level_start}
-use Rattle.format.specs.Coding.{Bytes}
-use Rattle.quick_items.specs.Items.{GlancedTo}
-use Rattle.quick_items.proofs.Glances.{glanced_next}
-use Rattle.quick_packs.proofs.Alikes.{Laying, laying_own, laying_more}
+use Rattle.quick_packs.proofs.Alikes.{Laying}
 use Rattle.quick_packs.proofs.lay.Given as goal
 
 abbrev pub invariant-loop-alone : goal.invariant-loop-alone

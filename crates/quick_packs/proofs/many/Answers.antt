@@ -1,12 +1,11 @@
 -- `quick_packs::many` meets its contract: each turn is a turn of the pack walk. `t` is where a turn begins, `a` where a pack's head was read, and `e`
 -- where its id was found to be new.
 use mathlib.Core.Path.{◌≡◌, refl, sym}
-use mathlib.Core.Bool.{Bool, true, false}
+use mathlib.Core.Bool.{true, false}
 use mathlib.Core.List.{List}
-use Prim.Native.Nat.{ℕ, ◌+◌, ◌*◌, ◌-◌, ◌≤◌, ◌<◌}
+use Prim.Native.Nat.{ℕ, ◌+◌, ◌*◌, ◌≤◌, ◌<◌}
 use native.Mathlib.Omega.{arith}
 use lib.ListN.{length, drop}
-use borrow.Author.Rules.{rules}
 use borrow.Author.Tests.{not-false}
 use Rattle.items.specs.Meet.{form_of}
 use Rattle.heads.specs.declared.Head.TheVariants as heads
@@ -14,13 +13,11 @@ use Rattle.heads.specs.Meet.{peek}
 use Rattle.heads.proofs.Heads.{pack_head_if}
 use Rattle.heads.proofs.Before.{pack_peek}
 use Rattle.repeats.proofs.Noted.{Noted, noted_none}
-use Rattle.tally.specs.Going.{SeriesGoing}
 use Rattle.tally.proofs.Turns.{going_wide, Fresh}
 use Rattle.tally.proofs.PackTurns.{PackAt, series_start, whole, head_stood, head_room, lent_long}
 use Rattle.quick_packs.specs.declared.bounds.Bounds.{Bounds}
-use Rattle.quick_packs.specs.declared.Choice.{Choice}
-use Rattle.quick_packs.specs.Packs.{packed_sizes, Modelled}
-use Rattle.quick_packs.specs.Ids.{Bounded, IdNew}
+use Rattle.quick_packs.specs.Packs.{packed_sizes}
+use Rattle.quick_packs.specs.Ids.{IdNew}
 use Rattle.quick_packs.proofs.Models.{no_items, items_asked, told_more}
 use Rattle.quick_packs.proofs.Fresh.{bounded_none, id_fresh, id_bounded, id_noted}
 use Rattle.quick_packs.proofs.many.Goals as goal

@@ -2,7 +2,6 @@
 use mathlib.Core.Path.{◌≡◌, sym, ◌∙◌}
 use native.Mathlib.Omega.{arith}
 use Rattle.quick_packs.proofs.Models.{unchosen, items_told, items_chosen}
-use borrow.Author.Rules.{rules}
 use Rattle.quick_packs.proofs.model_of.Goals as goal
 
 pub returns-then-q-next : goal.returns-then-q-next

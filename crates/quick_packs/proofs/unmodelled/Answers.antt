@@ -2,7 +2,6 @@
 use mathlib.Core.Path.{refl, sym, ◌∙◌}
 use native.Mathlib.Omega.{arith}
 use Rattle.quick_packs.proofs.Models.{part_long, run_told}
-use borrow.Author.Rules.{rules}
 use Rattle.quick_packs.proofs.unmodelled.Goals as goal
 
 pub returns-then-q-next : goal.returns-then-q-next

@@ -1,5 +1,4 @@
 -- `read::head_of` meets its contract, by cases of the form.
-use borrow.Author.Rules.{rules}
 use Rattle.read.proofs.head_of.Goals as goal
 
 pub returns-then-alone : goal.returns-then-alone

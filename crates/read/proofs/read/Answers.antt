@@ -2,7 +2,6 @@
 use mathlib.Core.Path.{◌≡◌}
 use native.Mathlib.Omega.{arith}
 use mathlib.Core.List.{[], ◌∷◌}
-use borrow.Author.Rules.{rules}
 use Rattle.format.specs.Coding.{Bytes, fixed}
 use Rattle.format.specs.Read.{parse}
 use Rattle.format.specs.Sheet.{PK, form_byte}

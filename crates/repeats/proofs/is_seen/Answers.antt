@@ -1,6 +1,5 @@
 -- `repeats::is_seen` meets its contract: by the record's bounds, as no key repeats, or by looking back.
 use mathlib.Core.Path.{sym, ◌∙◌}
-use borrow.Author.Rules.{rules}
 use Rattle.repeats.proofs.Clears.{clear_past}
 use Rattle.repeats.proofs.is_seen.Goals as goal
 

@@ -1,9 +1,6 @@
 -- `repeats::seen_before` meets its contract: the loop passes what heads the first p bytes, one after the other.
-use Prim.Native.Nat.{◌-◌}
 use native.Mathlib.Omega.{arith}
-use borrow.Author.Rules.{rules}
-use Rattle.heads.proofs.Before.{Left, left_start, left_done, left_gone, left_found, left_passed, peek_room}
-use Rattle.heads.specs.Meet.{peek}
+use Rattle.heads.proofs.Before.{left_start, left_done, left_gone, left_found, left_passed, peek_room}
 use Rattle.repeats.proofs.seen_before.Goals as goal
 
 pub loop-q-init : goal.loop-q-init

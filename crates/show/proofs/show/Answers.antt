@@ -1,7 +1,6 @@
 -- `show::show` meets its contract: the part that `shown` names.
 use native.Mathlib.Omega.{arith}
 use Rattle.show.proofs.Showing.{part_fits, part_ends, part_bytes, part_place}
-use borrow.Author.Rules.{rules}
 use Rattle.show.proofs.show.Goals as goal
 
 pub overflow_add-to : goal.overflow_add-to

@@ -5,7 +5,6 @@ use borrow.Author.Tests.{not-true, not-false}
 use Rattle.items.specs.Meet.{form_of}
 use Rattle.find.specs.Places.{holder_of}
 use Rattle.show.proofs.Showing.{reviewer_wrong, detector_wrong, unnamed, reviewers, detectors, neithers}
-use borrow.Author.Rules.{rules}
 use Rattle.show.proofs.shown.Goals as goal
 
 pub check-a-requires : goal.check-a-requires

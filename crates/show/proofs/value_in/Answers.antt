@@ -3,7 +3,6 @@ use mathlib.Core.Path.{refl}
 use Prim.Native.Nat.{◌+◌, ◌≤◌}
 use native.Mathlib.Omega.{arith}
 use lib.ListN.{length}
-use borrow.Author.Rules.{rules}
 use Rattle.format.specs.Coding.{Bytes}
 use Rattle.items.specs.Meet.{form_of}
 use Rattle.check_packet.proofs.Opened.{set_room}

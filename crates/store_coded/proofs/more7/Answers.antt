@@ -1,5 +1,4 @@
 -- `store_coded::more7` meets its contract.
-use borrow.Author.Rules.{rules}
 use Rattle.store_coded.proofs.Codings.{more_bits}
 use Rattle.store_coded.proofs.more7.Goals as goal
 

@@ -3,7 +3,6 @@ use mathlib.Core.Path.{ap, ◌∙◌}
 use native.Mathlib.Omega.{arith}
 use lib.ListN.{length, length-set}
 use lib.Seq.{length-sets}
-use borrow.Author.Rules.{rules}
 use Rattle.coding.proofs.Counts.{len_one, len_above, len_most}
 use Rattle.store_coded.proofs.Codings.{short_length, long_length}
 use Rattle.store_coded.proofs.put_len.Goals as goal

@@ -1,6 +1,5 @@
 -- `store_coded::put_short` meets its contract: the tag, the length, and the value, one after another.
 use native.Mathlib.Omega.{arith}
-use borrow.Author.Rules.{rules}
 use Rattle.store_coded.proofs.Codings.{short_total, short_stored}
 use Rattle.store_coded.proofs.put_short.Goals as goal
 

@@ -4,7 +4,6 @@ use native.Mathlib.Nat.{add-zero}
 use native.Mathlib.Omega.{arith}
 use Rattle.coding.proofs.Rooms.{tail_part}
 use Rattle.stores.proofs.Copies.{Copied, copy_start, copy_one, copy_ends, copy_done}
-use borrow.Author.Rules.{rules}
 use Rattle.stores.proofs.copy.Goals as goal
 use Rattle.stores.proofs.copy.Lts as lts
 use Rattle.stores.proofs.copy.Tie as tie

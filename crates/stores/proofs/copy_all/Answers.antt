@@ -2,7 +2,6 @@
 use mathlib.Core.Path.{refl}
 use native.Mathlib.Omega.{arith}
 use Rattle.stores.proofs.Copies.{Copied, copy_start, copy_ends, copy_done}
-use borrow.Author.Rules.{rules}
 use Rattle.stores.proofs.copy_all.Goals as goal
 use Rattle.stores.proofs.copy_all.Lts as lts
 use Rattle.stores.proofs.copy_all.Tie as tie

@@ -1,9 +1,7 @@
 -- `stores::copy_long` meets its contract.
-use Prim.Native.Nat.{◌-◌}
 use mathlib.Core.Path.{refl}
 use native.Mathlib.Omega.{arith}
-use lib.ListN.{length}
-use Rattle.stores.proofs.Copies.{Copied, copy_start, copy_one, copy_done}
+use Rattle.stores.proofs.Copies.{copy_start, copy_one, copy_done}
 use Rattle.stores.proofs.copy_long.Goals as goal
 
 pub loop-i-init : goal.loop-i-init

@@ -1,9 +1,7 @@
 -- `stores::copy_long` meets its contract.
 use Prim.Native.Nat.{◌-◌}
-use mathlib.Core.Path.{refl}
-use native.Mathlib.Omega.{arith}
 use lib.ListN.{length}
-use Rattle.stores.proofs.Copies.{Copied, copy_start, copy_one, copy_done}
+use Rattle.stores.proofs.Copies.{Copied}
 use Rattle.stores.proofs.copy_long.Given as goal
 
 abbrev pub invariant-loop-i : goal.invariant-loop-i

@@ -5,7 +5,6 @@ use native.Mathlib.Numerals.{towards_suc}
 use lib.ListN.{length-set}
 use lib.Seq.{sets}
 use Rattle.stores.proofs.Copies.{part_reads}
-use borrow.Author.Rules.{rules}
 use Rattle.stores.proofs.move_eight.Goals as goal
 
 pub bounds-out-to-2 : goal.bounds-out-to-2

@@ -1,10 +1,8 @@
 -- `stores::put_number` meets its contract.
 use mathlib.Core.Path.{refl}
-use Prim.Native.Nat.{◌≤◌}
 use native.Mathlib.Omega.{arith}
 use native.Mathlib.Nat.{le_refl}
-use Rattle.format.specs.Coding.{fixed}
-use Rattle.stores.proofs.Stores.{BackLeft, back_start, number_step, number_done}
+use Rattle.stores.proofs.Stores.{back_start, number_step, number_done}
 use Rattle.stores.proofs.put_number.Goals as goal
 
 pub loop-i-init : goal.loop-i-init

@@ -1,10 +1,7 @@
 -- `stores::put_number` meets its contract.
-use mathlib.Core.Path.{refl}
 use Prim.Native.Nat.{◌≤◌}
-use native.Mathlib.Omega.{arith}
-use native.Mathlib.Nat.{le_refl}
 use Rattle.format.specs.Coding.{fixed}
-use Rattle.stores.proofs.Stores.{BackLeft, back_start, number_step, number_done}
+use Rattle.stores.proofs.Stores.{BackLeft}
 use Rattle.stores.proofs.put_number.Given as goal
 
 abbrev pub invariant-loop-i : goal.invariant-loop-i

@@ -3,7 +3,6 @@ use mathlib.Core.Path.{refl}
 use native.Mathlib.Omega.{arith}
 use native.Mathlib.Numerals.{towards_suc}
 use lib.ListN.{length-set}
-use borrow.Author.Rules.{rules}
 use Rattle.stores.proofs.put_row.Goals as goal
 
 pub bounds-out-at-2 : goal.bounds-out-at-2

@@ -1,6 +1,6 @@
 -- `stores::shift` meets its contract.
 use native.Mathlib.Omega.{arith}
-use Rattle.stores.proofs.Shifts.{Shifted, shift_start, shift_same, shift_room, shift_one, shift_done}
+use Rattle.stores.proofs.Shifts.{shift_start, shift_same, shift_room, shift_one, shift_done}
 use Rattle.stores.proofs.shift.Goals as goal
 
 pub loop-i-init : goal.loop-i-init

@@ -1,6 +1,5 @@
 -- `stores::shift` meets its contract.
-use native.Mathlib.Omega.{arith}
-use Rattle.stores.proofs.Shifts.{Shifted, shift_start, shift_same, shift_room, shift_one, shift_done}
+use Rattle.stores.proofs.Shifts.{Shifted}
 use Rattle.stores.proofs.shift.Given as goal
 
 abbrev pub invariant-loop-i : goal.invariant-loop-i

@@ -1,5 +1,4 @@
 -- `tally::ended_of` meets its contract.
-use borrow.Author.Rules.{rules}
 use borrow.Author.Tests.{not-true, not-false}
 use Rattle.tally.proofs.Ends.{ended_unlike, ended_none, ended_bare}
 use Rattle.tally.proofs.ended_of.Goals as goal

@@ -1,6 +1,5 @@
 -- `tally::is_held` meets its contract.
 use mathlib.Core.Path.{refl}
-use borrow.Author.Rules.{rules}
 use Rattle.tally.specs.Meet.{is_held}
 use Rattle.tally.proofs.is_held.Goals as goal
 

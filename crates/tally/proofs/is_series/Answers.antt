@@ -1,5 +1,4 @@
 -- `tally::is_series` meets its contract.
-use borrow.Author.Rules.{rules}
 use Rattle.tally.proofs.is_series.Goals as goal
 
 pub returns-then-set : goal.returns-then-set

@@ -1,7 +1,6 @@
 -- `tally::later` meets its contract.
 use mathlib.Core.Path.{sym, ap, subst}
 use native.Mathlib.Omega.{arith}
-use borrow.Author.Rules.{rules}
 use Rattle.tally.specs.Meet.{later_by, Within}
 use Rattle.tally.proofs.later.Goals as goal
 

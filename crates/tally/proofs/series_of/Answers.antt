@@ -3,7 +3,6 @@ use mathlib.Core.Path.{sym, ap, ◌∙◌, subst}
 use native.Mathlib.Omega.{arith}
 use Rattle.tally.specs.declared.Walked.TheVariants.{Good}
 use Rattle.tally.specs.Meet.{series_from, Within}
-use borrow.Author.Rules.{rules}
 use Rattle.tally.proofs.series_of.Goals as goal
 
 pub series_sizes-requires : goal.series_sizes-requires

@@ -1,6 +1,5 @@
 -- `tally::stop` meets its contract.
 use mathlib.Core.Path.{sym, ap}
-use borrow.Author.Rules.{rules}
 use Rattle.tally.specs.Meet.{stop_at}
 use Rattle.tally.proofs.stop.Goals as goal
 

@@ -1,6 +1,5 @@
 -- `tally_records::after` meets its contract.
 use mathlib.Core.Path.{refl}
-use borrow.Author.Rules.{rules}
 use Rattle.tally_records.proofs.after.Goals as goal
 
 pub returns : goal.returns

@@ -1,5 +1,4 @@
 -- `tally_records::goes_on` meets its contract.
-use borrow.Author.Rules.{rules}
 use Rattle.tally_records.proofs.goes_on.Goals as goal
 
 pub returns : goal.returns

@@ -1,6 +1,5 @@
 -- `target_bytes::entries_size` meets its contract.
 use native.Mathlib.Omega.{arith}
-use borrow.Author.Rules.{rules}
 use Rattle.target_bytes.proofs.Sizes.{around_six, series_few, six_few}
 use Rattle.target_bytes.proofs.entries_size.Goals as goal
 

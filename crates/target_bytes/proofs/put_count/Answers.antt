@@ -1,6 +1,5 @@
 -- `target_bytes::put_count` meets its contract.
 use native.Mathlib.Omega.{arith}
-use borrow.Author.Rules.{rules}
 use Rattle.target_bytes.proofs.Counts.{low_long, high_long}
 use Rattle.target_bytes.proofs.Storing.{low_stored, high_stored}
 use Rattle.target_bytes.proofs.put_count.Goals as goal

@@ -1,7 +1,6 @@
 -- `target_bytes::put_counted` meets its contract. i is where the call begins, t where tag 6 stands, p where what stands before it was put, and k where the item was.
 use mathlib.Core.Logic.{inl, inr}
 use native.Mathlib.Omega.{arith}
-use borrow.Author.Rules.{rules}
 use Rattle.target_bytes.proofs.Storing.{plain_asked, plain_stored, first_asked, count_asked, last_asked, counted_stored}
 use Rattle.target_bytes.proofs.put_counted.Goals as goal
 

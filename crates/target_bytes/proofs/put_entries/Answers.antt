@@ -1,5 +1,4 @@
 -- `target_bytes::put_entries` meets its contract. i is where the call begins, a where what stands before the series was put, and t where that was.
-use borrow.Author.Rules.{rules}
 use Rattle.target_bytes.proofs.Storing.{start_asked, series_asked, end_asked, entries_stored, entries_room}
 use Rattle.target_bytes.proofs.put_entries.Goals as goal
 

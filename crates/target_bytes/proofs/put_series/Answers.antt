@@ -1,7 +1,6 @@
 -- `target_bytes::put_series` meets its contract. i is where the call begins, t where there are packs, h where the series' tag and
 -- length were put, p where the packs before the one taken out were, and l where those after it were.
 use native.Mathlib.Omega.{arith}
-use borrow.Author.Rules.{rules}
 use Rattle.target_bytes.proofs.Storing.{none_stored, front_asked, before_asked, later_asked, unadded, new_behind, new_asked, series_end, series_stored, series_room}
 use Rattle.target_bytes.proofs.put_series.Goals as goal
 

@@ -1,6 +1,5 @@
 -- `target_bytes::series_size` meets its contract.
 use native.Mathlib.Omega.{arith}
-use borrow.Author.Rules.{rules}
 use Rattle.coding.proofs.Counts.{len_most}
 use Rattle.target_bytes.proofs.Sizes.{series_none, series_some}
 use Rattle.target_bytes.proofs.series_size.Goals as goal

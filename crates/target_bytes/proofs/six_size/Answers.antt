@@ -1,5 +1,4 @@
 -- `target_bytes::six_size` meets its contract.
-use borrow.Author.Rules.{rules}
 use Rattle.target_bytes.proofs.Sizes.{six_there, six_none}
 use Rattle.target_bytes.proofs.six_size.Goals as goal
 

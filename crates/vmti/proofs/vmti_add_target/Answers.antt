@@ -1,5 +1,4 @@
 -- `vmti::vmti_add_target` meets its contract: the answer of `add_target`, as one number.
-use borrow.Author.Rules.{rules}
 use Rattle.vmti.proofs.Bounds.{add_small, one_number_lem}
 use Rattle.vmti.proofs.vmti_add_target.Goals as goal
 

@@ -1,5 +1,4 @@
 -- `vmti::vmti_drop_target` meets its contract: the answer of `drop_target`, as one number.
-use borrow.Author.Rules.{rules}
 use Rattle.vmti.proofs.Bounds.{drop_small, one_number_lem}
 use Rattle.vmti.proofs.vmti_drop_target.Goals as goal
 

@@ -1,5 +1,4 @@
 -- `vmti::vmti_edit` meets its contract: the answer of `edit` on the one change, as one number.
-use borrow.Author.Rules.{rules}
 use Rattle.vmti.proofs.Bounds.{edit_small, one_number_lem}
 use Rattle.vmti.proofs.Naming.{one_named}
 use Rattle.vmti.proofs.vmti_edit.Goals as goal

@@ -1,5 +1,4 @@
 -- `vmti::vmti_edit_two` meets its contract: the answer of `edit_two` on the two changes, as one number.
-use borrow.Author.Rules.{rules}
 use Rattle.vmti.proofs.Bounds.{edit_small, one_number_lem}
 use Rattle.vmti.proofs.Naming.{two_named}
 use Rattle.vmti.proofs.vmti_edit_two.Goals as goal

@@ -1,5 +1,4 @@
 -- `vmti::vmti_normalise` meets its contract: the answer of `normalise`, as one number.
-use borrow.Author.Rules.{rules}
 use Rattle.vmti.proofs.Bounds.{normalise_small, one_number_lem}
 use Rattle.vmti.proofs.vmti_normalise.Goals as goal
 

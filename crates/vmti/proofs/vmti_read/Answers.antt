@@ -1,5 +1,4 @@
 -- `vmti::vmti_read` meets its contract: the answer of `read`, as one number.
-use borrow.Author.Rules.{rules}
 use Rattle.vmti.proofs.Bounds.{read_small, one_number_lem}
 use Rattle.vmti.proofs.vmti_read.Goals as goal
 

@@ -1,5 +1,4 @@
 -- `vmti::vmti_write` meets its contract: the answer of `write`, as one number.
-use borrow.Author.Rules.{rules}
 use Rattle.vmti.proofs.Bounds.{write_small, one_number_lem}
 use Rattle.vmti.proofs.vmti_write.Goals as goal
 

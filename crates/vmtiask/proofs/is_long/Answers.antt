@@ -2,7 +2,6 @@
 use mathlib.Core.Path.{◌≡◌}
 use Prim.Native.Nat.{ℕ}
 use native.Mathlib.Omega.{arith}
-use borrow.Author.Rules.{rules}
 use Rattle.vmtiask.proofs.is_long.Goals as goal
 
 pub returns-then-room-gt4096 : goal.returns-then-room-gt4096

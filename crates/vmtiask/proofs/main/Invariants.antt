@@ -1,5 +1,4 @@
 -- `vmtiask::main` is safe and ends: the turns that are left fall.
-use native.Mathlib.Omega.{arith}
 use Rattle.vmtiask.proofs.main.Given as goal
 
 abbrev pub invariant-loop-turns : goal.invariant-loop-turns

@@ -1,5 +1,4 @@
 -- `vmtiask::question` is safe: what is not too long fits the room.
-use borrow.Author.Rules.{rules}
 use mathlib.Core.Path.{sym}
 use native.Mathlib.Omega.{arith}
 use lib.ListN.{length-take}

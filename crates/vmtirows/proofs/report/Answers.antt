@@ -1,5 +1,4 @@
 -- `vmtirows::report` meets its contract: a table that was filled has four numbers for each row.
-use borrow.Author.Rules.{rules}
 use Rattle.locate.proofs.Callers.{located_fits}
 use Rattle.vmtirows.proofs.report.Goals as goal
 

@@ -1,5 +1,4 @@
 -- `vmtirows::rows` meets its contract: four numbers are left for each row that is still to be printed.
-use Prim.Native.Nat.{◌-◌, ◌≤◌}
 use native.Mathlib.Omega.{arith}
 use lib.ListN.{length-take, length-drop}
 use borrow.Author.Rules.{rules}

@@ -1,8 +1,5 @@
 -- `vmtirows::rows` meets its contract: four numbers are left for each row that is still to be printed.
 use Prim.Native.Nat.{◌-◌, ◌≤◌}
-use native.Mathlib.Omega.{arith}
-use lib.ListN.{length-take, length-drop}
-use borrow.Author.Rules.{rules}
 use Rattle.vmtirows.proofs.rows.Given as goal
 
 abbrev pub invariant-loop-i : goal.invariant-loop-i

@@ -1,6 +1,5 @@
 -- `write::sheet_refusal` meets its contract, by cases of the check.
 use mathlib.Core.Path.{sym, ap, ◌∙◌}
-use borrow.Author.Rules.{rules}
 use Rattle.write.specs.Meet.{sheet_refusal}
 use Rattle.write.proofs.sheet_refusal.Goals as goal
 

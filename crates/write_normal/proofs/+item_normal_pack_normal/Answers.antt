@@ -1,16 +1,13 @@
 -- `write_normal::item_normal` and `write_normal::pack_normal` meet their contracts: each turn stores what one entry or pack is in normal form.
-use Prim.Native.Nat.{ℕ, ◌-◌, ◌<◌}
 use native.Mathlib.Omega.{arith}
-use lib.ListN.{length}
-use borrow.Author.Rules.{rules}
 use Rattle.items.specs.Meet.{form_of}
-use Rattle.tally.proofs.ItemTurns.{depth, series_deep}
+use Rattle.tally.proofs.ItemTurns.{series_deep}
 use Rattle.write_laws.proofs.Writing.{each}
 use Rattle.write_laws.proofs.Entries.{entry_fault, entry_room}
 use Rattle.write_laws.proofs.Packs.{series_start, series_done, pack_fault, pack_room, items_asked}
 use Rattle.write_normal.specs.Meet.{pack_normal}
-use Rattle.write_normal.proofs.Turns.{LevelNormals, level_begins, level_room, level_ends, NormalEntry, one_asked, one_more, head_asked, series_behind, series_asked, series_more}
-use Rattle.write_normal.proofs.Turns.{SeriesNormals, NormalPack, no_fault, body_few, pack_asked, items_behind, level_asked, items_more, copy_asked, copied_more}
+use Rattle.write_normal.proofs.Turns.{level_begins, level_room, level_ends, NormalEntry, one_asked, one_more, head_asked, series_behind, series_asked, series_more}
+use Rattle.write_normal.proofs.Turns.{NormalPack, no_fault, body_few, pack_asked, items_behind, level_asked, items_more, copy_asked, copied_more}
 use Rattle.write_normal.proofs.+item_normal_pack_normal.Goals as goal
 
 pub item_normal-loop-p-init : goal.item_normal-loop-p-init

@@ -1,5 +1,4 @@
 -- `write_normal::put_normal` meets its contract.
-use borrow.Author.Rules.{rules}
 use Rattle.store_coded.proofs.Shortest.{NoSeal, other_tag, of_pack, short_less}
 use Rattle.write_normal.proofs.Pieces.{seal_stored, item_asked, item_stored}
 use Rattle.write_normal.proofs.put_normal.Goals as goal

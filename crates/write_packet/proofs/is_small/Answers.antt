@@ -2,7 +2,6 @@
 use mathlib.Core.Path.{sym, ◌∙◌}
 use native.Mathlib.Omega.{arith}
 use borrow.Author.Tests.{eqb-true}
-use borrow.Author.Rules.{rules}
 use Rattle.write_packet.proofs.Smalls.{tested}
 use Rattle.write_packet.proofs.is_small.Goals as goal
 

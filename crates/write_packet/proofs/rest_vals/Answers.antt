@@ -1,15 +1,14 @@
 -- `write_packet::rest_vals` meets its contract: each turn stores what one record of a target is in the packet.
 use mathlib.Core.Path.{◌≡◌, sym, ◌∙◌}
-use Prim.Native.Nat.{ℕ, ◌-◌}
+use Prim.Native.Nat.{ℕ}
 use native.Mathlib.Omega.{arith}
 use mathlib.Core.Bool.{true, false}
 use mathlib.Core.List.{List}
-use lib.ListN.{length, drop}
-use borrow.Author.Rules.{rules}
+use lib.ListN.{drop}
 use borrow.Author.Tests.{not-true, not-false}
 use Rattle.format.specs.Table.{Form}
 use Rattle.format.specs.Sheet.{TS, TI, is}
-use Rattle.write_packet.specs.Writing.{RecordsWriting, RestAsked}
+use Rattle.write_packet.specs.Writing.{RestAsked}
 use Rattle.write_packet.proofs.Steps.{ti_no_ts}
 use Rattle.write_packet.proofs.Turns.{records_over, RecordAt, val_here, fields_room, item_room, item_asked, item_more}
 use Rattle.write_packet.proofs.rest_vals.Goals as goal

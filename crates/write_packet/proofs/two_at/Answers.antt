@@ -1,7 +1,6 @@
 -- `write_packet::two_at` meets its contract.
 use mathlib.Core.Path.{ap, ◌∙◌}
 use lib.ListN.{take}
-use borrow.Author.Rules.{rules}
 use Rattle.format.specs.Coding.{bytes_number}
 use Rattle.coding.proofs.Rooms.{tail_part}
 use Rattle.write_packet.proofs.two_at.Goals as goal

@@ -1,12 +1,11 @@
 -- `write_rows::item_rows` and `write_rows::pack_rows` meet their contracts: each turn stores what one entry or one pack adds to the rows.
 use mathlib.Core.Path.{◌≡◌}
-use Prim.Native.Nat.{ℕ, ◌+◌, ◌-◌, ◌≤◌, ◌<◌}
+use Prim.Native.Nat.{◌+◌, ◌≤◌, ◌<◌}
 use native.Mathlib.Omega.{arith}
 use lib.ListN.{length}
-use borrow.Author.Rules.{rules}
 use Rattle.format.specs.Table.{Form}
 use Rattle.items.specs.Meet.{level_of}
-use Rattle.tally.proofs.ItemTurns.{depth, series_deep}
+use Rattle.tally.proofs.ItemTurns.{series_deep}
 use Rattle.write_laws.proofs.Entries.{level_done, entry_fault, entry_room}
 use Rattle.write_laws.proofs.Packs.{series_done, pack_fault, pack_room}
 use Rattle.write_rows.specs.Meet.{LevelAsked, SeriesAsked}

@@ -1,17 +1,12 @@
 -- `write_rows::item_rows` and `write_rows::pack_rows` meet their contracts: each turn stores what one entry or one pack adds to the rows.
-use mathlib.Core.Path.{◌≡◌}
-use Prim.Native.Nat.{ℕ, ◌+◌, ◌-◌, ◌≤◌, ◌<◌}
-use native.Mathlib.Omega.{arith}
+use Prim.Native.Nat.{◌-◌}
 use lib.ListN.{length}
-use borrow.Author.Rules.{rules}
 use Rattle.format.specs.Table.{Form}
 use Rattle.items.specs.Meet.{level_of}
-use Rattle.tally.proofs.ItemTurns.{depth, series_deep}
-use Rattle.write_laws.proofs.Entries.{level_done, entry_fault, entry_room}
-use Rattle.write_laws.proofs.Packs.{series_done, pack_fault, pack_room}
+use Rattle.tally.proofs.ItemTurns.{depth}
 use Rattle.write_rows.specs.Meet.{LevelAsked, SeriesAsked}
-use Rattle.write_rows.proofs.LevelTurns.{LevelRows, level_rows_lem, RowsEntry, row_room, entry_end, item_more, series_asked, series_end, series_more}
-use Rattle.write_rows.proofs.SeriesTurns.{SeriesRows, series_rows, RowsPack, pack_fits, pack_end, level_asked, items_end, pack_more}
+use Rattle.write_rows.proofs.LevelTurns.{LevelRows}
+use Rattle.write_rows.proofs.SeriesTurns.{SeriesRows}
 use Rattle.write_rows.proofs.+item_rows_pack_rows.Given as goal
 
 -- the item walk of the set calls the pack walk, and that the item walk of a pack

@@ -1,19 +1,12 @@
 -- `write_sheet::rest_sheet`, `write_sheet::pack_items` and `write_sheet::pack_sheet` meet their contracts: each turn stores what one entry or pack writes.
-use mathlib.Core.Path.{sym, ap, ◌∙◌}
-use Prim.Native.Nat.{ℕ, ◌-◌, ◌*◌, ◌<◌}
-use native.Mathlib.Omega.{arith}
-use mathlib.Core.Bool.{false}
+use Prim.Native.Nat.{ℕ, ◌-◌, ◌*◌}
 use mathlib.Core.List.{List}
 use lib.ListN.{length}
-use lib.Seq.{length-sets}
-use borrow.Author.Rules.{rules}
-use Rattle.format.specs.Table.{Form, pack}
-use Rattle.tally.proofs.ItemTurns.{depth, series_deep}
-use Rattle.write_laws.proofs.Entries.{level_done, entry_fault, entry_room}
-use Rattle.write_laws.proofs.Packs.{series_done, pack_fault, pack_room}
-use Rattle.write_sheet.specs.Meet.{LevelAsked, SeriesAsked}
+use Rattle.format.specs.Table.{Form}
+use Rattle.tally.proofs.ItemTurns.{depth}
+use Rattle.write_sheet.specs.Meet.{SeriesAsked}
 use Rattle.write_sheet.specs.Quick.{RestAsked, SeriesPassed}
-use Rattle.write_sheet.proofs.Turns.{LevelSheets, SheetEntry, one_room, one_more, mark_room, series_behind, series_asked, series_more, SeriesSheets, SheetPack, target_room, items_behind, level_asked, items_more}
+use Rattle.write_sheet.proofs.Turns.{LevelSheets, SeriesSheets}
 use Rattle.write_sheet.proofs.+pack_items_pack_sheet_rest_sheet.Given as goal
 
 -- the item walk of the set calls the pack walk, and that the item walk of a pack

@@ -2,7 +2,6 @@
 use native.Mathlib.Omega.{arith}
 use Prim.Native.Nat.{◌+◌, ◌≤◌}
 use lib.ListN.{length}
-use borrow.Author.Rules.{rules}
 use Rattle.write_sheet.proofs.Records.{item_stored, record_long}
 use Rattle.write_sheet.proofs.put_item.Goals as goal
 

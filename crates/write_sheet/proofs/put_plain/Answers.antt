@@ -1,5 +1,4 @@
 -- `write_sheet::put_plain` meets its contract.
-use borrow.Author.Rules.{rules}
 use Rattle.store_coded.proofs.Shortest.{NoSeal, other_tag, of_pack, short_less}
 use Rattle.write_sheet.proofs.Records.{seal_stored, plain_room, plain_stored}
 use Rattle.write_sheet.proofs.put_plain.Goals as goal

@@ -1,5 +1,4 @@
 -- `write_sheet::put_target` meets its contract.
-use borrow.Author.Rules.{rules}
 use Rattle.write_sheet.proofs.Records.{target_stored, short_target_stored}
 use Rattle.write_sheet.proofs.put_target.Goals as goal
 

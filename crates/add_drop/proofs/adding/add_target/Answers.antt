@@ -1,6 +1,5 @@
 -- `add_drop::adding::add_target` meets its contract. a is where the packet was found fine, and d where the records were checked.
 use mathlib.Core.Path.{◌≡◌, sym, ap, ◌∙◌, subst}
-use borrow.Author.Rules.{rules}
 use Rattle.format.specs.Coding.{Bytes}
 use Rattle.format.specs.Room.{leaves}
 use Rattle.format.specs.Targets.{new_target}

@@ -1,7 +1,6 @@
 -- `add_drop::adding::add_told` meets its contract. a is where the place of the id is known; t is the target that the records are.
 use mathlib.Core.Path.{◌≡◌}
 use native.Mathlib.Omega.{arith}
-use borrow.Author.Rules.{rules}
 use Rattle.format.specs.Answer.{ok}
 use Rattle.format.specs.Coding.{Bytes}
 use Rattle.format.specs.Sheet.{Target}

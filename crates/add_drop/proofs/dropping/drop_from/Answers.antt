@@ -1,10 +1,7 @@
 -- `add_drop::dropping::drop_from` meets its contract. a is where the place of the id is known.
 use mathlib.Core.Path.{refl}
 use native.Mathlib.Omega.{arith}
-use borrow.Author.Rules.{rules}
 use Rattle.format.specs.Coding.{Bytes}
-use Rattle.items.specs.Meet.{form_of}
-use Rattle.find.proofs.Arounds.{pack_hit}
 use Rattle.add_drop.proofs.Setting.{rules_left, drop_absent, drop_some, drop_asked, drop_left}
 use Rattle.add_drop.proofs.dropping.drop_from.Goals as goal
 

@@ -1,6 +1,5 @@
 -- `sets::head_at` meets its contract: a fault says nothing.
 use native.Mathlib.Omega.{arith}
-use borrow.Author.Rules.{rules}
 use Rattle.check_packet.proofs.SetTurns.{head_if}
 use Rattle.check_packet.proofs.sets.head_at.Goals as goal
 

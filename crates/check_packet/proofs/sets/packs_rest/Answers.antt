@@ -1,5 +1,4 @@
 -- `sets::packs_rest` meets its contract: the pack walk goes on.
-use borrow.Author.Rules.{rules}
 use Rattle.coding.proofs.Rooms.{tail_part}
 use Rattle.check_packet.proofs.sets.packs_rest.Goals as goal
 

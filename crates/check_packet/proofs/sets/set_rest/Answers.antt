@@ -1,7 +1,6 @@
 -- `sets::set_rest` meets its contract: what was walked is all, or the item walk goes on.
 use native.Mathlib.Omega.{arith}
 use lib.ListN.{length}
-use borrow.Author.Rules.{rules}
 use Rattle.tally.proofs.Turns.{turn_done, told_as}
 use Rattle.check_packet.proofs.sets.set_rest.Goals as goal
 

@@ -3,11 +3,9 @@
 use mathlib.Core.Path.{refl}
 use mathlib.Core.Bool.{true}
 use mathlib.Core.List.{List}
-use mathlib.Core.Logic.{⊎_elim}
 use Prim.Native.Nat.{ℕ, ◌<◌}
 use native.Mathlib.Omega.{arith}
 use lib.ListN.{length}
-use borrow.Author.Rules.{rules}
 use Rattle.coding.proofs.Rooms.{tail_part}
 use Rattle.items.specs.Meet.{form_of}
 use Rattle.tally.specs.Going.{LevelTo}

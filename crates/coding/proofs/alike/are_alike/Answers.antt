@@ -1,8 +1,7 @@
 -- `coding::alike::are_alike` meets its contract: the first i bytes are alike, a block more at each turn.
-use Rattle.std.proofs.Common.{◌+◌, ◌-◌, ◌≤◌, length, arith, rules}
+use Rattle.std.proofs.Common.{◌-◌, arith}
 use borrow.Author.Tests.{not-false}
 use Rattle.format.proofs.Words.Answers.{no_bool}
-use Rattle.coding.specs.Alike.{AlikeTo}
 use Rattle.coding.proofs.Rooms.{tail_part}
 use Rattle.coding.proofs.Alikes.{alike_none, alike_on, alike_less}
 use Rattle.coding.proofs.alike.are_alike.Goals as goal

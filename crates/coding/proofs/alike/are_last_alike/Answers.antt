@@ -1,5 +1,5 @@
 -- `coding::alike::are_last_alike` meets its contract.
-use Rattle.std.proofs.Common.{arith, rules}
+use Rattle.std.proofs.Common.{arith}
 use Rattle.format.proofs.Words.Answers.{no_bool}
 use Rattle.coding.proofs.Rooms.{tail_part}
 use Rattle.coding.proofs.alike.are_last_alike.Goals as goal

@@ -1,5 +1,4 @@
 -- `coding::alike::is_alike` meets its contract.
-use Rattle.std.proofs.Common.{rules}
 use Rattle.coding.proofs.Alikes.{alike_told}
 use Rattle.coding.proofs.alike.is_alike.Goals as goal
 

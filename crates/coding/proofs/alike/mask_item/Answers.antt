@@ -1,6 +1,6 @@
 -- `coding::alike::mask_item` meets its contract: after i turns, i bytes of the head are masked.
-use Rattle.std.proofs.Common.{◌-◌, ◌≤◌, arith, rules}
-use Rattle.coding.proofs.Alikes.{HeadMasked, head_none, head_more, item_masked}
+use Rattle.std.proofs.Common.{arith}
+use Rattle.coding.proofs.Alikes.{head_none, head_more, item_masked}
 use Rattle.coding.proofs.alike.mask_item.Goals as goal
 
 pub loop-i-init : goal.loop-i-init

@@ -1,7 +1,6 @@
 -- `coding::alike::some_alike` meets its contract: if all were alike so far, the first i are.
-use Rattle.std.proofs.Common.{◌≡◌, ◌-◌, ◌≤◌, true, sym, ◌∙◌, arith, rules}
+use Rattle.std.proofs.Common.{sym, ◌∙◌, arith}
 use Rattle.format.proofs.Words.Answers.{and_both}
-use Rattle.coding.specs.Alike.{AlikeTo}
 use Rattle.coding.proofs.Alikes.{alike_none, alike_more, alike_less}
 use Rattle.coding.proofs.alike.some_alike.Goals as goal
 

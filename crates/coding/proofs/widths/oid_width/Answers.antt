@@ -1,6 +1,6 @@
 -- `coding::widths::oid_width` meets its contract: k bytes are counted, and those above m's last digit are to come.
-use Rattle.std.proofs.Common.{◌/◌, refl, arith, rules}
-use Rattle.coding.proofs.Counts.{OidCount, count_start, count_more, count_done}
+use Rattle.std.proofs.Common.{◌/◌, refl, arith}
+use Rattle.coding.proofs.Counts.{count_start, count_more, count_done}
 use Rattle.coding.proofs.widths.oid_width.Goals as goal
 
 pub returns-then-n-lt128 : goal.returns-then-n-lt128

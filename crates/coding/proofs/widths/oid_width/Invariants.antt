@@ -1,6 +1,5 @@
 -- `coding::widths::oid_width` meets its contract: k bytes are counted, and those above m's last digit are to come.
-use Rattle.std.proofs.Common.{◌/◌, refl, arith, rules}
-use Rattle.coding.proofs.Counts.{OidCount, count_start, count_more, count_done}
+use Rattle.coding.proofs.Counts.{OidCount}
 use Rattle.coding.proofs.widths.oid_width.Given as goal
 
 abbrev pub invariant-loop-m : goal.invariant-loop-m

@@ -1,5 +1,5 @@
 -- `coding::widths::short_total` meets its contract.
-use Rattle.std.proofs.Common.{arith, rules}
+use Rattle.std.proofs.Common.{arith}
 use Rattle.coding.proofs.Counts.{len_most}
 use Rattle.coding.proofs.widths.short_total.Goals as goal
 

@@ -3,7 +3,6 @@
 use Prim.Native.Nat.{ℕ}
 use native.Mathlib.Omega.{arith}
 use mathlib.Core.List.{List}
-use borrow.Author.Rules.{rules}
 use Rattle.format.specs.Table.{pack}
 use Rattle.items.specs.Meet.{form_of}
 use Rattle.edit_rules.specs.Cuts.{low_of, cut_bytes}

@@ -1,5 +1,4 @@
 -- `edit::two::edit_cuts` meets its contract. i is where the call begins.
-use borrow.Author.Rules.{rules}
 use native.Mathlib.Omega.{arith}
 use Rattle.format.specs.Table.{pack}
 use Rattle.items.specs.Meet.{form_of}

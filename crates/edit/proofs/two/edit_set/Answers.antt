@@ -3,7 +3,6 @@ use mathlib.Core.Path.{◌≡◌, sym, ap, ◌∙◌, subst}
 use mathlib.Core.Bool.{Bool, true, false}
 use Prim.Native.Nat.{ℕ}
 use mathlib.Core.List.{List}
-use borrow.Author.Rules.{rules}
 use Rattle.format.specs.Room.{Left, leaves}
 use Rattle.items.specs.Meet.{form_of}
 use Rattle.find.specs.Places.{holder_of}

@@ -1,6 +1,5 @@
 -- `edit::two::edit_two` meets its contract. a is where the packet was found fine.
 use mathlib.Core.Path.{sym, ap, ◌∙◌}
-use borrow.Author.Rules.{rules}
 use Rattle.format.specs.Room.{leaves}
 use Rattle.check_packet.proofs.Opened.{set_room}
 use Rattle.find.proofs.Callers.{set_is}

@@ -1,6 +1,5 @@
 -- `one::put_edited` meets its contract. i is where the call begins, h where what stands before the level was put, f where its first part was,
 -- and l where the cut's item was.
-use borrow.Author.Rules.{rules}
 use Rattle.edit_rules.proofs.Storing.{head_asked, first_asked, low_asked, one_asked, one_stored}
 use Rattle.edit_bytes.proofs.one.put_edited.Goals as goal
 

@@ -1,6 +1,5 @@
 -- `one::put_head` meets its contract. z is where the size of the series is known, a where what stands before the pack was put.
 use mathlib.Core.Path.{ap}
-use borrow.Author.Rules.{rules}
 use Rattle.items.specs.Meet.{level_of}
 use Rattle.edit_rules.proofs.Storing.{head_none, to_pack_asked, len_asked, head_stored}
 use Rattle.edit_bytes.proofs.one.put_head.Goals as goal

@@ -1,6 +1,5 @@
 -- `two::body_size` meets its contract.
 use native.Mathlib.Omega.{arith}
-use borrow.Author.Rules.{rules}
 use Rattle.edit_rules.proofs.Sizes.{cut_few}
 use Rattle.edit_bytes.proofs.two.body_size.Goals as goal
 

@@ -4,7 +4,6 @@
 use mathlib.Core.Path.{ap, ◌∙◌}
 use lib.ListN.{length}
 use lib.Seq.{length-sets}
-use borrow.Author.Rules.{rules}
 use Rattle.edit_rules.proofs.Storing.{head_asked, first_asked, low_asked, mid_asked, high_asked, rest_asked, all_stored}
 use Rattle.edit_bytes.proofs.two.put_edited.Goals as goal
 

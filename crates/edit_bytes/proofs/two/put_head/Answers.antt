@@ -1,6 +1,5 @@
 -- `two::put_head` meets its contract. z is where the size of the series is known, a where what stands before the pack was put.
 use mathlib.Core.Path.{refl}
-use borrow.Author.Rules.{rules}
 use Rattle.edit_rules.proofs.Storing.{to_pack_asked, len_asked, head_stored}
 use Rattle.edit_bytes.proofs.two.put_head.Goals as goal
 

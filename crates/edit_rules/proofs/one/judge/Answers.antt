@@ -3,7 +3,6 @@ use mathlib.Core.Path.{◌≡◌, sym, ◌∙◌, subst}
 use Prim.Native.Nat.{ℕ, ◌≤◌, ◌<◌}
 use mathlib.Core.Bool.{true, false}
 use lib.Dec.{ltb}
-use borrow.Author.Rules.{rules}
 use borrow.Author.Tests.{lt-ltb, le-ltb, not-true, not-false}
 use Rattle.format.specs.Coding.{Bytes}
 use Rattle.format.specs.Table.{nameable}
@@ -22,7 +21,6 @@ use Rattle.find.specs.declared.Place.{Place}
 use Rattle.edit_rules.specs.declared.Asked.{Asked}
 use Rattle.format.specs.Valid.{SheetValid}
 use Rattle.edit_rules.proofs.one.judge.Goals as goal
-use Rattle.edit_rules.proofs.one.judge.Tie as tie
 
 -- the change in its turn at its place, where it puts so many bytes, or is refused
 module _ (f : Form) (a : Asked) (v s : List ℕ) (b : Bytes s) (o : SetOf f s) (w : SheetValid (sheet_of f s)) (n : nameable (level_of a.set) a.change.tag ≡ true) (place : Place)

@@ -1,5 +1,4 @@
 -- `edit_rules::one::left_of` meets its contract. e is where the end was judged.
-use borrow.Author.Rules.{rules}
 use Rattle.items.specs.Meet.{form_of, level_of}
 use Rattle.edit_rules.specs.Cuts.{no_cut}
 use Rattle.edit_rules.specs.Meet.{cut_of, EndsAs}

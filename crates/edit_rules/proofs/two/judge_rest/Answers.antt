@@ -1,7 +1,6 @@
 -- `edit_rules::two::judge_rest` meets its contract. a is where the second item may be named, y where its change was judged, and e where the end was.
 use mathlib.Core.Path.{◌≡◌, sym, ap₂, ◌∙◌, subst}
 use mathlib.Core.Bool.{true, false}
-use borrow.Author.Rules.{rules}
 use borrow.Author.Tests.{not-true, not-false}
 use lib.Dec.{ltb}
 use Rattle.format.specs.Table.{pack, nameable}

@@ -1,7 +1,6 @@
 -- `edit_rules::two::set_fault` meets its contract. a is where the item may be named, s where it was looked for, and x where the value was judged.
 use mathlib.Core.Path.{◌≡◌, refl, sym, ◌∙◌, subst}
 use mathlib.Core.Bool.{true, false}
-use borrow.Author.Rules.{rules}
 use borrow.Author.Tests.{lt-ltb, le-ltb, not-true, not-false}
 use lib.Dec.{ltb}
 use Rattle.format.specs.Lists.{has}

@@ -1,5 +1,4 @@
 -- `edit_rules::two::turn_of` meets its contract.
-use borrow.Author.Rules.{rules}
 use Rattle.format.specs.Table.{pack}
 use Rattle.items.specs.Meet.{form_of}
 use Rattle.edit_rules.proofs.Rules.{removed, absent, put_turned}

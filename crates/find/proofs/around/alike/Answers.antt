@@ -1,5 +1,4 @@
 -- `find::around::alike` meets its contract.
-use borrow.Author.Rules.{rules}
 use Rattle.find.proofs.Alikes.{passed_none}
 use Rattle.find.proofs.around.alike.Goals as goal
 

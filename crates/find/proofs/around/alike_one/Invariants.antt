@@ -1,13 +1,7 @@
 -- `find::around::alike_one` meets its contract: each turn passes one pack.
-use mathlib.Core.Path.{◌≡◌}
-use Prim.Native.Nat.{◌+◌, ◌-◌, ◌≤◌, ◌<◌}
-use native.Mathlib.Omega.{arith}
-use lib.ListN.{length, drop}
-use borrow.Author.Rules.{rules}
-use Rattle.format.specs.Answer.{ok, got}
-use Rattle.format.specs.Coding.{Bytes, len_of}
+use Prim.Native.Nat.{◌-◌, ◌≤◌}
+use lib.ListN.{length}
 use Rattle.find.specs.Series.{AlikePassed}
-use Rattle.find.proofs.Alikes.{len_one, passed_none, passed_few, passed_room, passed_more}
 use Rattle.find.proofs.around.alike_one.Given as goal
 
 abbrev pub invariant-loop-p : goal.invariant-loop-p

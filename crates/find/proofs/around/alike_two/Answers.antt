@@ -1,12 +1,10 @@
 -- `find::around::alike_two` meets its contract: each turn passes one pack.
 use mathlib.Core.Path.{◌≡◌}
-use Prim.Native.Nat.{◌+◌, ◌-◌, ◌≤◌, ◌<◌}
+use Prim.Native.Nat.{◌+◌, ◌≤◌, ◌<◌}
 use native.Mathlib.Omega.{arith}
 use lib.ListN.{length, drop}
-use borrow.Author.Rules.{rules}
 use Rattle.format.specs.Answer.{ok, got}
 use Rattle.format.specs.Coding.{Bytes, len_of}
-use Rattle.find.specs.Series.{AlikePassed}
 use Rattle.find.proofs.Alikes.{len_two, passed_none, passed_few, passed_room, passed_more}
 use Rattle.find.proofs.around.alike_two.Goals as goal
 

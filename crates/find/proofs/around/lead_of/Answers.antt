@@ -1,8 +1,6 @@
 -- `find::around::lead_of` meets its contract.
-use Prim.Native.Nat.{◌<◌, ◌^◌}
 use native.Mathlib.Omega.{arith}
-use borrow.Author.Rules.{rules}
-use Rattle.find.proofs.Leads.{lead_low, LeadAt, lead_start, lead_more, lead_done}
+use Rattle.find.proofs.Leads.{lead_low, lead_start, lead_more, lead_done}
 use Rattle.find.proofs.around.lead_of.Goals as goal
 
 pub returns-then-id-lt128 : goal.returns-then-id-lt128

@@ -1,8 +1,6 @@
 -- `find::around::lead_of` meets its contract.
 use Prim.Native.Nat.{◌<◌, ◌^◌}
-use native.Mathlib.Omega.{arith}
-use borrow.Author.Rules.{rules}
-use Rattle.find.proofs.Leads.{lead_low, LeadAt, lead_start, lead_more, lead_done}
+use Rattle.find.proofs.Leads.{LeadAt}
 use Rattle.find.proofs.around.lead_of.Given as goal
 
 abbrev pub invariant-loop-m : goal.invariant-loop-m

@@ -1,9 +1,7 @@
 -- `find::around::packs_of` meets its contract: each turn passes one pack, and those like it.
-use mathlib.Core.Logic.{⊎_elim}
-use Prim.Native.Nat.{ℕ, ◌+◌, ◌-◌, ◌≤◌}
+use Prim.Native.Nat.{ℕ, ◌+◌, ◌≤◌}
 use native.Mathlib.Omega.{arith}
 use lib.ListN.{length}
-use borrow.Author.Rules.{rules}
 use Rattle.format.specs.Table.{Form}
 use Rattle.tally.specs.Runs.{Ran, series_run}
 use Rattle.find.specs.Series.{PassedOn}

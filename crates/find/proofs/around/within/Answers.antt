@@ -1,6 +1,5 @@
 -- `find::around::within` meets its contract.
 use mathlib.Core.Path.{sym, ◌∙◌}
-use borrow.Author.Rules.{rules}
 use Rattle.find.proofs.Arounds.{within_there, within_none}
 use Rattle.find.proofs.around.within.Goals as goal
 

@@ -1,7 +1,6 @@
 -- `check_records::field_of` meets its contract: the record as it was seen, if it may be named.
 use mathlib.Core.Path.{sym, ◌∙◌}
 use native.Mathlib.Omega.{arith}
-use borrow.Author.Rules.{rules}
 use Rattle.heads.proofs.Spans.{no_field, a_field, not_named}
 use Rattle.heads.proofs.records.field_of.Goals as goal
 

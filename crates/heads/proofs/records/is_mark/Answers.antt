@@ -2,7 +2,6 @@
 use mathlib.Core.Path.{◌∙◌, sym}
 use Prim.Native.Nat.{ℕ, ◌/◌, ◌%◌}
 use native.Mathlib.Omega.{arith}
-use borrow.Author.Rules.{rules}
 use Rattle.format.specs.Sheet.{Mark}
 use Rattle.heads.proofs.Spans.{mark_cut, mark_first, mark_second}
 use Rattle.heads.proofs.records.is_mark.Goals as goal

@@ -2,7 +2,6 @@
 use mathlib.Core.Path.{sym, ◌∙◌}
 use mathlib.Core.Bool.{true}
 use native.Mathlib.Omega.{arith}
-use borrow.Author.Rules.{rules}
 use Rattle.format.specs.Sheet.{TS}
 use Rattle.heads.proofs.Spans.{is_room, part_series, part_item, span_within}
 use Rattle.heads.proofs.records.part_next.Goals as goal

@@ -1,5 +1,4 @@
 -- `check_records::record_next` meets its contract, by its flags.
-use borrow.Author.Rules.{rules}
 use Rattle.heads.specs.Records.{peek_record}
 use Rattle.heads.proofs.records.record_next.Goals as goal
 

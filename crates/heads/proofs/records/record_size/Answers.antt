@@ -1,7 +1,6 @@
 -- `heads::records::record_size` meets its contract, by the mark.
 use mathlib.Core.Path.{sym, ◌∙◌}
 use native.Mathlib.Omega.{arith}
-use borrow.Author.Rules.{rules}
 use Rattle.heads.proofs.Spans.{size_val, size_none, size_target, size_cut}
 use Rattle.heads.proofs.records.record_size.Goals as goal
 

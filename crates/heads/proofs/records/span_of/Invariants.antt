@@ -1,9 +1,7 @@
 -- `check_records::span_of` meets its contract: the loop passes one record after the other.
 use Prim.Native.Nat.{◌-◌}
 use lib.ListN.{length}
-use native.Mathlib.Omega.{arith}
-use borrow.Author.Rules.{rules}
-use Rattle.heads.proofs.Spans.{SpanLeft, span_end, span_stop, span_on}
+use Rattle.heads.proofs.Spans.{SpanLeft}
 use Rattle.heads.proofs.records.span_of.Given as goal
 
 abbrev pub invariant-loop-q : goal.invariant-loop-q

@@ -2,7 +2,6 @@
 use mathlib.Core.Path.{sym, ◌∙◌}
 use mathlib.Core.Bool.{false}
 use native.Mathlib.Omega.{arith}
-use borrow.Author.Rules.{rules}
 use Rattle.heads.proofs.Spans.{target_cut, target_bare, target_whole, span_within}
 use Rattle.heads.proofs.records.target_next.Goals as goal
 

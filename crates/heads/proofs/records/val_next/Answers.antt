@@ -1,6 +1,5 @@
 -- `check_records::val_next` meets its contract, by the bytes that are there.
 use native.Mathlib.Omega.{arith}
-use borrow.Author.Rules.{rules}
 use Rattle.heads.proofs.Spans.{val_cut, val_over, val_whole}
 use Rattle.heads.proofs.records.val_next.Goals as goal
 

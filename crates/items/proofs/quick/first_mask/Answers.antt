@@ -1,7 +1,6 @@
 -- `items::quick::first_mask` meets its contract: each 1 says nothing.
 use mathlib.Core.Path.{refl, sym, ◌∙◌}
 use native.Mathlib.Omega.{arith}
-use borrow.Author.Rules.{rules}
 use borrow.Author.Tests.{not-false}
 use Rattle.items.proofs.Rows.{glances_long}
 use Rattle.items.proofs.Glances.{quick_from, quick_other, row_any}

@@ -1,5 +1,4 @@
 -- `items::quick::fits` meets its contract.
-use borrow.Author.Rules.{rules}
 use native.Mathlib.Omega.{arith}
 use Rattle.items.proofs.Glances.{fits_long, fits_not, fits_so}
 use Rattle.items.proofs.quick.fits.Goals as goal

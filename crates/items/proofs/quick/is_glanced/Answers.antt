@@ -1,5 +1,4 @@
 -- `items::quick::is_glanced` meets its contract: the row at a tag's place has the bits of its rule.
-use borrow.Author.Rules.{rules}
 use Rattle.format.proofs.Words.Answers.{no_bool}
 use Rattle.items.proofs.Rows.{glances_long}
 use Rattle.items.proofs.Glances.{quick_from, quick_other}

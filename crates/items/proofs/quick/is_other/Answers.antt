@@ -1,7 +1,6 @@
 -- `items::quick::is_other` meets its contract: each `false` says nothing.
 use mathlib.Core.Path.{sym, ◌∙◌}
 use native.Mathlib.Omega.{arith}
-use borrow.Author.Rules.{rules}
 use Rattle.format.proofs.Words.Answers.{no_bool}
 use Rattle.items.proofs.quick.is_other.Goals as goal
 

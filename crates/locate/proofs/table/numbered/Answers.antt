@@ -1,5 +1,4 @@
 -- `locate::table::numbered` meets its contract.
-use borrow.Author.Rules.{rules}
 use Rattle.locate.proofs.Tabled.{table_filled, table_asked}
 use Rattle.locate.proofs.table.numbered.Goals as goal
 

@@ -1,5 +1,4 @@
 -- `quick_packs::closer::is_worth` meets its contract: `false` says nothing.
-use borrow.Author.Rules.{rules}
 use Rattle.format.proofs.Words.Answers.{no_bool}
 use Rattle.quick_packs.proofs.closer.is_worth.Goals as goal
 

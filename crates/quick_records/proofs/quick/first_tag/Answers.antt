@@ -1,5 +1,5 @@
 -- `quick_records::quick::first_tag` meets its contract.
-use Rattle.std.proofs.Common.{arith, rules}
+use Rattle.std.proofs.Common.{arith}
 use Rattle.coding.proofs.Rooms.{tail_part}
 use Rattle.quick_records.proofs.quick.first_tag.Goals as goal
 

@@ -1,5 +1,5 @@
 -- `quick_records::quick::glance_begun` meets its contract.
-use Rattle.std.proofs.Common.{sym, ◌∙◌, arith, rules}
+use Rattle.std.proofs.Common.{sym, ◌∙◌, arith}
 use Rattle.quick_records.proofs.quick.glance_begun.Goals as goal
 
 pub returns-then-begins : goal.returns-then-begins

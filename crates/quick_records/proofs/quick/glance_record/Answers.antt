@@ -1,5 +1,5 @@
 -- `quick_records::quick::glance_record` meets its contract: where it has nothing to tell it says nothing.
-use Rattle.std.proofs.Common.{refl, arith, rules}
+use Rattle.std.proofs.Common.{refl, arith}
 use Rattle.quick_records.proofs.Glances.{head_fits, size_from, glance_from}
 use Rattle.quick_records.proofs.quick.glance_record.Goals as goal
 

@@ -1,5 +1,4 @@
 -- `quick_records::quick::glance_records` meets its contract.
-use Rattle.std.proofs.Common.{rules}
 use Rattle.quick_records.proofs.quick.glance_records.Goals as goal
 
 pub glance_rising-requires : goal.glance_rising-requires

@@ -1,11 +1,9 @@
 -- `quick_records::quick::glance_rising` meets its contract: each turn is a turn of the walk.
-use Rattle.std.proofs.Common.{◌-◌, ◌*◌, ◌<◌, ◌≤◌, length, refl, arith, rules}
+use Rattle.std.proofs.Common.{◌-◌, ◌*◌, ◌<◌, ◌≤◌, length}
 use Rattle.items.specs.Meet.{form_of}
-use Rattle.tally.proofs.Turns.{going_wide}
 use Rattle.tally_records.specs.Going.{RecordsGoing}
-use Rattle.tally_records.proofs.PartTurns.{records_start}
 use Rattle.quick_records.specs.Going.{first_tag}
-use Rattle.quick_records.proofs.Glances.{told_sizes, glance_next, glance_begun, first_least, glance_more}
+use Rattle.quick_records.proofs.Glances.{told_sizes}
 use Rattle.quick_records.proofs.quick.glance_rising.Given as goal
 
 abbrev pub invariant-loop-g : goal.invariant-loop-g

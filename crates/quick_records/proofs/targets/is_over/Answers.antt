@@ -1,5 +1,5 @@
 -- `quick_records::targets::is_over` meets its contract.
-use Rattle.std.proofs.Common.{sym, ◌∙◌, arith, rules}
+use Rattle.std.proofs.Common.{sym, ◌∙◌, arith}
 use Rattle.quick_records.proofs.targets.is_over.Goals as goal
 
 pub returns-then-s-p : goal.returns-then-s-p

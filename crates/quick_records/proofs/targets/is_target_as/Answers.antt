@@ -1,5 +1,5 @@
 -- `quick_records::targets::is_target_as` meets its contract.
-use Rattle.std.proofs.Common.{arith, rules}
+use Rattle.std.proofs.Common.{arith}
 use borrow.Author.Tests.{not-false}
 use Rattle.format.proofs.Words.Answers.{no_bool}
 use Rattle.quick_records.proofs.targets.is_target_as.Goals as goal

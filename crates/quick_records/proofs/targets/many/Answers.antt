@@ -1,10 +1,10 @@
 -- `quick_records::targets::many` meets its contract: each turn is a turn of the target walk. `l` is where the loop stands, `j` where a target's id
 -- was found to be new, and `v` where it had a model.
-use Rattle.std.proofs.Common.{◌≡◌, ℕ, ◌+◌, ◌-◌, ◌*◌, ◌<◌, ◌≤◌, List, length, sym, refl, ◌∙◌, arith, rules}
+use Rattle.std.proofs.Common.{ℕ, ◌+◌, ◌-◌, ◌*◌, ◌<◌, ◌≤◌, List, length, refl, arith}
 use borrow.Author.Tests.{not-false}
 use Rattle.format.specs.Coding.{Bytes}
 use Rattle.quick_records.proofs.Models.{model_room}
-use Rattle.quick_records.proofs.Passings.{Passing, passing_none, passing_stays, passing_wide, passing_more}
+use Rattle.quick_records.proofs.Passings.{passing_none, passing_stays, passing_wide, passing_more}
 use Rattle.quick_records.proofs.targets.many.Goals as goal
 
 pub loop-p-init : goal.loop-p-init

@@ -1,5 +1,4 @@
 -- `quick_records::targets::model_at` meets its contract.
-use Rattle.std.proofs.Common.{rules}
 use Rattle.quick_records.proofs.Models.{as_held}
 use Rattle.quick_records.proofs.targets.model_at.Goals as goal
 

@@ -1,5 +1,5 @@
 -- `quick_records::targets::model_of` meets its contract.
-use Rattle.std.proofs.Common.{◌≡◌, sym, ◌∙◌, arith, length-drop, rules}
+use Rattle.std.proofs.Common.{◌≡◌, sym, ◌∙◌, arith, length-drop}
 use borrow.Author.Tests.{not-false}
 use Rattle.coding.proofs.Rooms.{tail_part}
 use Rattle.quick_records.proofs.Models.{no_model, records_held, records_model}

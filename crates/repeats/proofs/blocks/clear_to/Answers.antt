@@ -1,11 +1,6 @@
 -- `blocks::clear_to` meets its contract: each turn adds a block, of which none stood before.
-use Prim.Native.Nat.{◌-◌}
 use native.Mathlib.Omega.{arith}
-use mathlib.Core.Bool.{true}
-use borrow.Author.Rules.{rules}
-use lib.ListN.{length}
-use Rattle.heads.specs.Meet.{peek}
-use Rattle.repeats.proofs.Gathers.{Told, told_start, told_more}
+use Rattle.repeats.proofs.Gathers.{told_start, told_more}
 use Rattle.repeats.proofs.blocks.clear_to.Goals as goal
 
 pub loop-from-init : goal.loop-from-init

@@ -1,11 +1,6 @@
 -- `blocks::gather` meets its contract: the loop puts one key after the other into the block, as none is among it.
 use mathlib.Core.Path.{sym, ◌∙◌}
-use Prim.Native.Nat.{◌-◌}
 use native.Mathlib.Omega.{arith}
-use mathlib.Core.Bool.{true}
-use borrow.Author.Rules.{rules}
-use Rattle.heads.specs.Meet.{peek}
-use Rattle.repeats.specs.Blocks.{FirstOf}
 use Rattle.heads.proofs.Before.{peek_room}
 use Rattle.repeats.proofs.Gathers.{first_start, first_more}
 use Rattle.repeats.proofs.blocks.gather.Goals as goal

@@ -1,8 +1,6 @@
 -- `blocks::is_among` meets its contract: after i of the block, the key is among it where it was found or is among the rest.
-use Prim.Native.Nat.{◌-◌}
 use native.Mathlib.Omega.{arith}
-use borrow.Author.Rules.{rules}
-use Rattle.repeats.proofs.Gathers.{AmongLeft, among_start, among_more, among_done}
+use Rattle.repeats.proofs.Gathers.{among_start, among_more, among_done}
 use Rattle.repeats.proofs.blocks.is_among.Goals as goal
 
 pub loop-i-init : goal.loop-i-init

@@ -1,5 +1,4 @@
 -- `clear::after` meets its contract: what was known, or what the pass tells.
-use borrow.Author.Rules.{rules}
 use Rattle.repeats.proofs.Clears.{clear_first}
 use Rattle.repeats.proofs.clear.after.Goals as goal
 

@@ -1,9 +1,6 @@
 -- `clear::clear_to` meets its contract: as far as each part tells, or as the blocks do.
-use Prim.Native.Nat.{◌-◌}
 use native.Mathlib.Omega.{arith}
-use borrow.Author.Rules.{rules}
-use Rattle.heads.specs.Meet.{peek}
-use Rattle.repeats.proofs.Clears.{ClearBelow, below_more, below_all}
+use Rattle.repeats.proofs.Clears.{below_more, below_all}
 use Rattle.repeats.proofs.clear.clear_to.Goals as goal
 
 pub loop-part-init : goal.loop-part-init

@@ -1,6 +1,5 @@
 -- `clear::is_noted_part` meets its contract.
 use native.Mathlib.Omega.{arith}
-use borrow.Author.Rules.{rules}
 use Rattle.repeats.specs.Parts.{noted_part}
 use Rattle.repeats.proofs.clear.is_noted_part.Goals as goal
 

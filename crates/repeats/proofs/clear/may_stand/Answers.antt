@@ -1,6 +1,5 @@
 -- `clear::may_stand` meets its contract.
 use mathlib.Core.Path.{sym, ◌∙◌}
-use borrow.Author.Rules.{rules}
 use Rattle.repeats.proofs.clear.may_stand.Goals as goal
 
 pub returns-then-key-part : goal.returns-then-key-part

@@ -1,5 +1,4 @@
 -- `clear::note_part` meets its contract.
-use borrow.Author.Rules.{rules}
 use Rattle.repeats.proofs.Parts.{bits_more, bits_same}
 use Rattle.repeats.proofs.clear.note_part.Goals as goal
 

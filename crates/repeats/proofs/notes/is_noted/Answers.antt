@@ -1,6 +1,5 @@
 -- `notes::is_noted` meets its contract.
 use mathlib.Core.Path.{refl}
-use borrow.Author.Rules.{rules}
 use Rattle.repeats.specs.Notes.{noted}
 use Rattle.repeats.proofs.notes.is_noted.Goals as goal
 

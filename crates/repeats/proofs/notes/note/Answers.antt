@@ -1,6 +1,5 @@
 -- `notes::note` meets its contract.
 use native.Mathlib.Omega.{arith}
-use borrow.Author.Rules.{rules}
 use Rattle.repeats.proofs.Bits.{notes_more, notes_same}
 use Rattle.repeats.proofs.notes.note.Goals as goal
 

@@ -1,5 +1,4 @@
 -- `stages::after_series` meets its contract.
-use borrow.Author.Rules.{rules}
 use Rattle.tally.proofs.stages.after_series.Goals as goal
 
 pub series_sizes-requires : goal.series_sizes-requires

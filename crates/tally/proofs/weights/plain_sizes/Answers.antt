@@ -12,6 +12,6 @@ pub returns : goal.returns
 unfolding item_sizes
 returns c =
     elim c.if-set.branch [
-      then-set+else-tag-eq1 w ↦ rw (w.if-set.true, ne_eqb c.args.tag 1 w.if-tag-eq1.false, c.short_total.ensures)
-    | else-set w ↦ rw (w.if-set.false, c.short_total.ensures)
+      | then-set+else-tag-eq1 w ↦ rw (w.if-set.true, ne_eqb c.args.tag 1 w.if-tag-eq1.false, c.short_total.ensures)
+      | else-set w ↦ rw (w.if-set.false, c.short_total.ensures)
     ]

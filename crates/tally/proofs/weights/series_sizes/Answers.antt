@@ -3,7 +3,6 @@ use native.Mathlib.Omega.{arith}
 use mathlib.Core.Path.{refl}
 use Rattle.coding.proofs.Counts.{len_most}
 use Rattle.tally.proofs.Walks.{same_sizes}
-use borrow.Author.Rules.{rules}
 use Rattle.tally.proofs.weights.series_sizes.Goals as goal
 
 pub overflow_add-result-3 : goal.overflow_add-result-3

@@ -1,5 +1,5 @@
 -- `write_rows::table::fill_rows` meets its contract: each turn stores the next row.
-use Rattle.std.proofs.Common.{◌≡◌, ◌+◌, ◌-◌, suc, length, refl, sym, arith, length-set, ◌∙◌}
+use Rattle.std.proofs.Common.{◌≡◌, ◌+◌, ◌-◌, suc, refl, arith, length-set, ◌∙◌}
 use Rattle.write_rows.proofs.Filling.{Stand, next_rest, done}
 use Rattle.write_rows.proofs.table.fill_rows.Goals as goal
 

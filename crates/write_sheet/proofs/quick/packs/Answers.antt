@@ -3,7 +3,6 @@ use mathlib.Core.Path.{refl}
 use Prim.Native.Nat.{◌-◌}
 use native.Mathlib.Omega.{arith}
 use lib.ListN.{length, take, drop}
-use borrow.Author.Rules.{rules}
 use Rattle.format.specs.Table.{Form}
 use Rattle.heads.specs.declared.Head.TheVariants as heads
 use Rattle.heads.specs.Meet.{PackHeadIf}

@@ -86,6 +86,7 @@ fn main() -> io::Result<()> {
     let mut first: Vec<PacketCase> = compare::examples();
     first.extend(named().into_iter().map(|named| PacketCase { form: named.form, bytes: named.packet }));
     let alike = alike(&first);
+    let named = (first.len() + deep::packets().len()) as u64;
     let fixed = fixed(&first);
     let out = &mut BufWriter::new(io::stdout().lock());
     out.write_all(&(fixed.len() as u64 + 2 * count + 4 * (count / 2) + 2 * count.div_ceil(16)).to_le_bytes())?;
@@ -93,7 +94,7 @@ fn main() -> io::Result<()> {
         write_case(out, *index, question)?;
     }
     for index in 0..count {
-        write_seeded(out, seed, index)?;
+        write_seeded(out, seed, index, (named + index) as usize)?;
     }
     for index in 0..count.div_ceil(16) {
         let random = &mut Random::new(seed, 9, index);
@@ -123,8 +124,9 @@ fn fixed(first: &[PacketCase]) -> Vec<(usize, Question)> {
     all
 }
 
-fn write_seeded(out: &mut impl Write, seed: u64, index: u64) -> io::Result<()> {
-    let (case, place, half) = (packet(seed, index), index as usize, index / 2);
+/// The seeded questions of an index, whose packet has this place among all.
+fn write_seeded(out: &mut impl Write, seed: u64, index: u64, place: usize) -> io::Result<()> {
+    let (case, half) = (packet(seed, index), index / 2);
     write_case(out, place, &of_packet(Call::Read, place, &case))?;
     if index % 2 == 0 {
         return write_case(out, place / 2, &of_packet(Call::Normalise, place, &case));
@@ -246,8 +248,9 @@ fn write_bytes(out: &mut impl Write, bytes: &[u8]) -> io::Result<()> {
 fn rooms(index: usize, question: &Question) -> [usize; 2] {
     let answer = question.answer(&mut [0; SHEET_LIMIT]);
     let exact = if answer % 256 == 0 { answer as usize / 256 } else { 3 + question.input.len() % 500 };
-    // kinds go round in sixteens: each has its turn at either
-    let spare = match index % 61 {
+    // of targets, whose kinds go round in sixteens, each has its turn at either
+    let turns = if matches!(question.call, Call::Add | Call::Drop) { 61 } else { 64 };
+    let spare = match index % turns {
         12 => question.most()[0],
         28 => question.most()[1],
         _ => exact + 1 + index * 7_919 % 40,

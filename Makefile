@@ -3,7 +3,7 @@
 # examples/two_columns, examples/add_value and examples/add_target run. `make install` and `make uninstall` heed PREFIX and DESTDIR.
 
 .PHONY: all proofs test bench counts examples install uninstall clean
-# rt uses target/ alone
+# two runs of rt would wait for each other
 .NOTPARALLEL:
 
 PREFIX = /usr/local
@@ -11,21 +11,22 @@ to = $(DESTDIR)$(abspath $(PREFIX))
 version = $(shell sed -n 's/^.define VMTI_VERSION "\(.*\)"$$/\1/p' include/vmti.h)
 files = bin/vmtirows include/vmti.h lib/libvmti.a lib/pkgconfig/vmti.pc libexec/vmtirows \
 	share/man/man1/vmtirows.1 share/man/man3/vmti.3
-program = target/bin/vmtirows
-archive = target/staticlib/libvmti.a
-code := $(shell find crates crates.txt -type f)
+program = crates/vmtirows/out/vmtirows
+archive = crates/vmti/out/libvmti.a
+code := $(shell find crates crates.txt -path '*/out' -prune -o -type f -print)
 
-all: proofs $(archive)
+all: proofs $(archive) $(program)
 
 proofs:
-	rt check
-
-$(program): $(code)
-	rt check
-	@touch $@
+	rt all check
 
 $(archive): $(code)
-	rt staticlib vmti
+	cd crates/vmti && rt lib
+
+# rt builds a program where it runs it, and these end where nothing is read; that one is there says that it was built
+$(program) crates/vmtiask/out/vmtiask: $(code)
+	rm -f $@
+	cd $(@D)/.. && rt run < /dev/null > /dev/null || test -x out/$(@F)
 
 # A program that does not run by itself on this machine is installed below ./vmtirows, which runs it under the kit.
 install: $(archive) $(program)
@@ -54,4 +55,4 @@ examples:
 	@examples/build
 
 clean:
-	rm -rf target tests/*/target
+	rm -rf target tests/*/target crates/*/out

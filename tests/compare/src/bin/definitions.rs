@@ -24,17 +24,17 @@ fn main() {
 
 const HEAD: &str = "\
 -- Seeded cases with the second reader's answers.
-use mathlib.Core.Path.{_≡_, refl}
+use mathlib.Core.Path.{◌≡◌, refl}
 use Prim.Native.Nat.{ℕ}
-use mathlib.Core.List.{List, [], _∷_, map}
-use Rattle·format·specs.specs.Answer.{Ans, ok, refused}
-use Rattle·format·specs.specs.Table.{Form, embedded, standalone}
-use Rattle·format·specs.specs.Calls.{read, write, normalise}
-use Rattle·format·specs.specs.Rows.{Row, row, locate}
-use Rattle·format·specs.specs.Edit.{Holder, theSet, target, put, remove, Changes, edit}
-use Rattle·format·specs.specs.Targets.{addTarget, dropTarget}
-use Rattle·format·specs.specs.Show.{Shown, shown, reviewer, detector, show}
-use Rattle·format·proofs.proofs.tables.Open.{opened}
+use mathlib.Core.List.{List, [], ◌∷◌, map}
+use Rattle.format.specs.Answer.{Ans, ok, refused}
+use Rattle.format.specs.Table.{Form, embedded, standalone}
+use Rattle.format.specs.Calls.{read, write, normalise}
+use Rattle.format.specs.Rows.{Row, row, locate}
+use Rattle.format.specs.Edit.{Holder, the_set, target, put, remove, Changes, edit}
+use Rattle.format.specs.Targets.{add_target, drop_target}
+use Rattle.format.specs.Show.{Shown, shown, reviewer, detector, show}
+use Rattle.format.proofs.Tables.Open.{opened}
 ";
 
 /// The answer of a call that fills a buffer, with all the room it may want.
@@ -65,7 +65,7 @@ fn form_of(form: Form) -> &'static str {
 
 fn holder(level: Level) -> String {
     match level {
-        Level::Set => "theSet".to_string(),
+        Level::Set => "the_set".to_string(),
         Level::Target(id) => format!("target {id}"),
     }
 }
@@ -78,8 +78,8 @@ fn table(name: &str, kinds: (&str, &str), ask: &str, rows: &[(String, String)]) 
         println!("    (({question}), ({answer})) ∷");
     }
     println!("    []\n");
-    println!("{name}-so : map (λ c. {ask}) {name} ≡ map (λ c. c .1) {name}");
-    println!("unfolding {name} opened\n{name}-so = refl");
+    println!("{name}_so : map (λ c. {ask}) {name} ≡ map (λ c. c.1) {name}");
+    println!("unfolding {name} opened\n{name}_so = refl");
 }
 
 fn packets(seed: u64, count: u64) {
@@ -95,7 +95,7 @@ fn packets(seed: u64, count: u64) {
         })
         .collect();
     let kinds = ("Form × List ℕ", "Ans (List ℕ) × Ans (List ℕ) × Ans (List Row)");
-    let asks = ["read", "normalise", "locate"].map(|call| format!("{call} (c .0 .0) (c .0 .1)"));
+    let asks = ["read", "normalise", "locate"].map(|call| format!("{call} c.0.0 c.0.1"));
     table("packets", kinds, &format!("({})", asks.join(", ")), &rows);
 }
 
@@ -110,7 +110,7 @@ fn sheets(seed: u64, count: u64) {
     let cases = (0..count).map(|index| sheet(seed, index)).filter(|case| case.bytes.len() <= LONGEST);
     let rows: Vec<_> =
         cases.map(|case| (list(&case.bytes), bytes_of(|room| second::write(&case.bytes, room)))).collect();
-    table("sheets", ("List ℕ", "Ans (List ℕ)"), "write (c .0)", &rows);
+    table("sheets", ("List ℕ", "Ans (List ℕ)"), "write c.0", &rows);
 }
 
 fn edits(seed: u64, count: u64) {
@@ -147,7 +147,7 @@ fn edit_asked(form: Form, level: Level, changes: &[(u64, Change)], packet: &[u8]
 }
 
 fn edit_table(name: &str, rows: impl Iterator<Item = (String, String)>) {
-    let asks = "edit (c .0 .0) (c .0 .1) (c .0 .2) (c .0 .3)";
+    let asks = "edit c.0.0 c.0.1 c.0.2 c.0.3";
     table(name, ("Form × Holder × Changes × List ℕ", "Ans (List ℕ)"), asks, &rows.collect::<Vec<_>>());
 }
 
@@ -159,7 +159,7 @@ fn additions(seed: u64, count: u64) {
             (question, bytes_of(|room| second::add_target(case.form, &case.packet, &case.records, room)))
         })
         .collect();
-    let asks = "addTarget (c .0 .0) (c .0 .1) (c .0 .2)";
+    let asks = "add_target c.0.0 c.0.1 c.0.2";
     table("additions", ("Form × List ℕ × List ℕ", "Ans (List ℕ)"), asks, &rows);
 }
 
@@ -171,7 +171,7 @@ fn drops(seed: u64, count: u64) {
             (question, bytes_of(|room| second::drop_target(case.form, &case.packet, case.target, room)))
         })
         .collect();
-    let asks = "dropTarget (c .0 .0) (c .0 .1) (c .0 .2)";
+    let asks = "drop_target c.0.0 c.0.1 c.0.2";
     table("drops", ("Form × List ℕ × ℕ", "Ans (List ℕ)"), asks, &rows);
 }
 
@@ -198,6 +198,6 @@ fn shows(seed: u64, count: u64) {
             (question, format!("shown {side} {offset} {length}"))
         })
         .collect();
-    let asks = "show (c .0 .0) (c .0 .1) (c .0 .2) (c .0 .3) (c .0 .4)";
+    let asks = "show c.0.0 c.0.1 c.0.2 c.0.3 c.0.4";
     table("shows", ("Form × List ℕ × List ℕ × Holder × ℕ", "Shown"), asks, &rows);
 }

@@ -164,7 +164,8 @@ fn function(name: &str, body: &[&str]) -> Function {
                     all.calls.push(Call { to: named(name, rest), at: bytes, last: true });
                     break;
                 }
-                _ if word.starts_with('j') => todo.push((target(rest), bytes)),
+                _ if word.starts_with('j') && rest.starts_with(".L") => todo.push((target(rest), bytes)),
+                _ if word.starts_with('j') => all.calls.push(Call { to: named(name, rest), at: bytes, last: true }),
                 _ if rest.ends_with("%rsp") => fail(&format!("{name}: no fixed frame: {line}")),
                 _ => {}
             }

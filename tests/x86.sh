@@ -5,7 +5,8 @@
 #   x86_cc WORD..         compiles and links C with it
 #   x86_program NAME      sees to the program crates/NAME/out/NAME
 #   x86_kit_run PROGRAM.. runs it, under the kit's loader and C library
-#   kept_module FOLDER    the LLVM module of the archive, and the words that the kit's compiler is given with it
+#   kept_module FOLDER    the LLVM module of the archive, and the words that the kit's compiler is given with it; the folder is outside
+#                         the tree, in which rt ci refuses links
 #   kept_clang FOLDER KIND OUT WORD..  that compiler once more on that module, with those words and these; KIND is -c or -S
 #   second_bench          the second reader's bench, its functions aligned as ours; its path is $second
 [ "$(uname -m)" = x86_64 ] || { echo "$0: only an x86-64 machine can build and run the proved code"; exit 2; }
@@ -33,8 +34,6 @@ x86_program() { made "crates/$1/out/$1"; }
 # kept_module FOLDER: makes the archive by a kit that is this one but for its clang, which keeps what it is given, as module.bc and
 # words. rt goes by where its own two files lie, so these are copied.
 kept_module() {
-  local keeper=$PWD/$1
-  rm -rf "$1"
   mkdir -p "$1"/{bin,toolchain/bin}
   link_all "$home" "$1" bin toolchain
   link_all "$home/bin" "$1/bin" rt rtlib.py
@@ -43,12 +42,12 @@ kept_module() {
   cp "$home"/bin/{rt,rtlib.py} "$1/bin"
   cat > "$1/toolchain/bin/clang" << END
 #!/bin/sh
-for word in "\$@"; do case \$word in *.bc) cp "\$word" "$keeper/module.bc" ;; esac; done
-printf '%s\\n' "\$@" > "$keeper/words"
+for word in "\$@"; do case \$word in *.bc) cp "\$word" "$1/module.bc" ;; esac; done
+printf '%s\\n' "\$@" > "$1/words"
 exec "$home/toolchain/bin/clang" "\$@"
 END
   chmod +x "$1/toolchain/bin/clang"
-  (cd crates/vmti && "$keeper/bin/rt" lib) > target/made.log 2>&1 || { tail -n 5 target/made.log; return 1; }
+  (cd crates/vmti && "$1/bin/rt" lib) > target/made.log 2>&1 || { tail -n 5 target/made.log; return 1; }
   [ -s "$1/module.bc" ] && [ -s "$1/words" ]
 }
 

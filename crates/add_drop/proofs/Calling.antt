@@ -1,7 +1,8 @@
 -- The calls that add and drop a target: the packet's own refusal, that of the records, and the call at the set of a packet that was checked.
-use mathlib.Core.Path.{◌≡◌, refl, sym, ap, ◌∙◌}
+use mathlib.Core.Path.{◌≡◌, refl, sym, ap, ◌∙◌, subst}
 use Prim.Native.Nat.{ℕ}
 use mathlib.Core.List.{List, map}
+use Rattle.std.specs.Prelude.{Result, Ok, Err}
 use Rattle.format.specs.Answer.{Ans, ok, refused, ◌>>=◌}
 use Rattle.format.specs.Coding.{Bytes}
 use Rattle.format.specs.Table.{Form}
@@ -12,18 +13,20 @@ use Rattle.format.specs.Calls.{packed}
 use Rattle.format.specs.Room.{leaves}
 use Rattle.format.specs.Targets.{TargetChange, added, dropped, change_entries, change_packet, new_target, at_start, target_rules, change_targets, add_target, drop_target}
 use Rattle.items.proofs.Tests.{bind_so, bind_not}
+use Rattle.coding.specs.declared.refusals.Fault.{Fault}
+use Rattle.coding.specs.declared.refusals.Refusal.{Refusal}
+use Rattle.coding.specs.Refusals.{number, placed}
+use Rattle.coding.proofs.Tried.{placed_ok, placed_err}
 use Rattle.tally.specs.declared.Sizes.{Sizes}
 use Rattle.tally.proofs.Parsed.{Parsed}
-use Rattle.check_packet.specs.declared.Checked.{Checked}
-use Rattle.check_packet.specs.declared.Checked.TheVariants.{Fine, Wrong}
+use Rattle.check_packet.specs.Checks.{Checked, Fine, Wrong}
 use Rattle.check_packet.specs.Meet.{checked_of}
 use Rattle.check_packet.proofs.Opened.{fine, opened, lent_set, lent_is}
 use Rattle.check_packet.proofs.Parsing.{wrong_parsed}
 use Rattle.find.proofs.Callers.{set_at, entries_are}
-use Rattle.check_target.specs.declared.Told.TheVariants as told
-use Rattle.check_target.specs.Meet.{ToldAs}
-use Rattle.answers.specs.declared.Answer.{Answer}
-use Rattle.answers.specs.Meet.{left_of, answer_of, refusal_of}
+use Rattle.check_target.specs.declared.Told.{Told}
+use Rattle.check_target.specs.Meet.{target_told, ToldAs}
+use Rattle.answers.specs.Meet.{Answer, left_of, answer_of, refusal_of}
 use Rattle.answers.proofs.Leaving.{left_refused}
 use Rattle.add_drop.specs.Meet.{set_changed}
 
@@ -80,9 +83,19 @@ module _ (f : Form) (s : List ℕ) {c : Checked} (ec : c ≡ checked_of (parse f
     add_is g e = bind_so _ _ packet parsed ∙ bind_so _ _ g (start_ok e) ∙ change_is (added g)
 
     -- the records are refused at 0
-    pub add_wrong : {n : ℕ} → ToldAs (new_target f records) (told.Wrong n) → (lent : List ℕ) {r : Answer} → r ≡ answer_of n 0 → left_of r lent ≡ leaves lent (add_target f s records)
-    add_wrong {n} h lent {r} er = go (new_target f records) refl h
+    pub add_wrong : (x : Refusal) → ToldAs (new_target f records) (target_told (Err x)) → (lent : List ℕ) {r : Answer} → r ≡ answer_of (number x) 0 → left_of r lent ≡ leaves lent (add_target f s records)
+    add_wrong x h lent {r} er = go (new_target f records) refl h
       where
-        go : (m : Ans Target) → new_target f records ≡ m → ToldAs m (told.Wrong n) → left_of r lent ≡ leaves lent (add_target f s records)
+        go : (m : Ans Target) → new_target f records ≡ m → ToldAs m (target_told (Err x)) → left_of r lent ≡ leaves lent (add_target f s records)
         go (ok g) e w = absurd w
-        go (refused x p) e w = unfold add_target in left_refused lent (bind_so _ _ packet parsed ∙ bind_not _ _ x 0 (start_not e)) (er ∙ ap (λ y. answer_of y 0) w)
+        go (refused n p) e w = unfold add_target in left_refused lent (bind_so _ _ packet parsed ∙ bind_not _ _ n 0 (start_not e)) (er ∙ ap (λ y. answer_of y 0) w)
+
+    -- what the check of the records said, x, as a `?` finds it
+    module _ (x : Result Told Refusal) (ex : ToldAs (new_target f records) (target_told x)) where
+      pub records_wrong : {e : Fault} → Err e ≡ placed 0 x → (lent : List ℕ) {r : Answer} → r ≡ answer_of (number e.refusal) e.place → left_of r lent ≡ leaves lent (add_target f s records)
+      records_wrong h lent er =
+          let (y, ey, ee) = placed_err 0 x (sym h) in
+          add_wrong y (subst (λ r. ToldAs (new_target f records) (target_told r)) ey ex) lent (er ∙ ap (λ (d : Fault). answer_of (number d.refusal) d.place) (sym ee))
+
+      pub records_fine : {d : Told} → Ok d ≡ placed 0 x → ToldAs (new_target f records) (target_told (Ok d))
+      records_fine h = subst (λ r. ToldAs (new_target f records) (target_told r)) (placed_ok 0 x (sym h)) ex

@@ -7,6 +7,7 @@ use mathlib.Core.List.{List, [], ◌∷◌, append-nil, map}
 use lib.ListN.{length, length-append, length-map}
 use lib.Dec.{eqb}
 use borrow.Author.Tests.{eqb-true, eq-eqb}
+use Rattle.std.specs.Prelude.{Result, Ok, Err}
 use Rattle.format.specs.Answer.{Ans, ok, refused, need, got}
 use Rattle.format.specs.Coding.{Bytes}
 use Rattle.format.specs.Lists.{has, flat_all}
@@ -22,7 +23,12 @@ use Rattle.format.proofs.Series.Rules.{ids_say}
 use Rattle.format.proofs.Series.Records.{new_says, targets_run_lem}
 use Rattle.items.proofs.Tests.{bind_so, bind_not, need_so, need_not}
 use Rattle.tally.specs.Runs.{Ran, made_of}
-use Rattle.tally.specs.Meet.{ended_by, bit_of}
+use Rattle.coding.specs.declared.refusals.Fault.{Fault}
+use Rattle.coding.specs.declared.refusals.Refusal.{Refusal}
+use Rattle.coding.specs.Refusals.{number, placed}
+use Rattle.coding.proofs.Tried.{placed_ok, placed_err}
+use Rattle.tally.specs.Meet.{unended, ended_by, bit_of}
+use Rattle.tally.proofs.Tried.{unended_not}
 use Rattle.tally.proofs.Bits.{bits_map}
 use Rattle.tally.proofs.Ends.{ended_says}
 use Rattle.tally.proofs.Totals.{target_normal_lem, target_sheet}
@@ -31,16 +37,15 @@ use Rattle.find.specs.declared.around.Series.{Series}
 use Rattle.find.specs.Places.{SetOf, kept_of}
 use Rattle.find.specs.Series.{series_in}
 use Rattle.find.proofs.Arounds.{pack_there, pack_not, in_order, count_few}
-use Rattle.check_target.specs.declared.Told.TheVariants as told
-use Rattle.check_target.specs.Meet.{held_by, Measures, ToldAs}
+use Rattle.check_target.specs.declared.Told.{Told}
+use Rattle.check_target.specs.Meet.{target_told, held_by, Measures, ToldAs}
 use Rattle.write_packet.specs.Meet.{targets_run, target_normal, targets_normal}
 use Rattle.edit_rules.specs.Meet.{sheet_of}
 use Rattle.target_bytes.specs.Meet.{series_size, packs_size, series_put, entries_put}
 use Rattle.target_bytes.proofs.Sizes.{series_none, series_some, series_put_long}
 use Rattle.target_bytes.proofs.Storing.{no_records}
 use Rattle.target_bytes.proofs.Changed.{added_bytes_lem, dropped_bytes_lem}
-use Rattle.answers.specs.declared.Answer.{Answer}
-use Rattle.answers.specs.Meet.{answer_of, EntriesPacked}
+use Rattle.answers.specs.Meet.{Answer, answer_of, EntriesPacked}
 use Rattle.answers.proofs.Leaving.{left_refused}
 use Rattle.answers.proofs.Entries.{entries_over}
 use Rattle.add_drop.specs.Meet.{set_changed, SetChanges, Changing}
@@ -118,9 +123,9 @@ module _ (f : Form) (s : List ℕ) (b : Bytes s) (k : SetOf f s) (i : ℕ) {r : 
 -- ---- an addition
 
 -- what the code was told of the records, of the target that they are
-pub told_then : {X : Type 0} (x : Ans Target) (id held size : ℕ) → ToldAs x (told.Fine id held size) → ((t : Target) → x ≡ ok t → X) → X
-told_then (ok t) id held size h k = k t refl
-told_then (refused n p) id held size h k = absurd h
+pub told_then : {X : Type 0} (x : Ans Target) (d : Told) → ToldAs x (target_told (Ok d)) → ((t : Target) → x ≡ ok t → X) → X
+told_then (ok t) d h k = k t refl
+told_then (refused n p) d h k = absurd h
 
 series_more : (m : ℕ) → m ≤ series_size m
 series_more m = go (eqb m 0) refl
@@ -130,16 +135,30 @@ series_more m = go (eqb m 0) refl
     go false z = omega (arith, series_some m (λ e. no_bool (sym z ∙ eq-eqb m 0 e)) refl)
 
 -- the code at the set with the place r of the id that it was told; t is the target that the records are
-pub record Asking (f : Form) (s records : List ℕ) (id held size : ℕ) (r : Series) (t : Target) : Type 0 where
+pub record Asking (f : Form) (s records : List ℕ) (d : Told) (r : Series) (t : Target) : Type 0 where
   pub bytes : Bytes s
   pub set_of : SetOf f s
-  pub say : ToldAs (new_target f records) (told.Fine id held size)
-  pub found : r ≡ series_in id (kept_of f s)
+  pub say : ToldAs (new_target f records) (target_told (Ok d))
+  pub found : r ≡ series_in d.id (kept_of f s)
   pub it : new_target f records ≡ ok t
 
-module _ {f : Form} {s records : List ℕ} {id held size : ℕ} {r : Series} {t : Target} (q : Asking f s records id held size r t) where
-  said : ToldAs (ok t) (told.Fine id held size)
-  said = subst (λ x. ToldAs x (told.Fine id held size)) q.it q.say
+pub asking : {f : Form} {s records : List ℕ} (d : Told) {r : Series} {t : Target} → Bytes s → SetOf f s × ToldAs (new_target f records) (target_told (Ok d)) → r ≡ series_in d.id (kept_of f s)
+    → new_target f records ≡ ok t → Asking f s records d r t
+asking d b q e i = record { bytes = b; set_of = q.0; say = q.1; found = e; it = i }
+
+-- the rules that a target does not meet at its end, as a `?` finds them
+pub ended_not : (r : Result (Unit {0}) Refusal) {e : Fault} → Err e ≡ placed 0 r → (answer_of (number e.refusal) e.place ≡ answer_of (unended r) 0) × (unended r ≡ 0 → ⊥)
+ended_not r h =
+    let (x, ex, ee) = placed_err 0 r (sym h) in
+    let (n, z) = unended_not ex in
+    (ap (λ (d : Fault). answer_of (number d.refusal) d.place) (sym ee) ∙ ap (λ m. answer_of m 0) (sym n), z)
+
+pub ended_so : (r : Result (Unit {0}) Refusal) {u : Unit {0}} → Ok u ≡ placed 0 r → unended r ≡ 0
+ended_so r h = ap unended (placed_ok 0 r (sym h))
+
+module _ {f : Form} {s records : List ℕ} {d : Told} {r : Series} {t : Target} (q : Asking f s records d r t) where
+  said : ToldAs (ok t) (target_told (Ok d))
+  said = subst (λ x. ToldAs x (target_told (Ok d))) q.it q.say
 
   found : r ≡ series_in t.id (kept_of f s)
   found = q.found ∙ ap (λ i. series_in i (kept_of f s)) said.0
@@ -159,7 +178,7 @@ module _ {f : Form} {s records : List ℕ} {id held size : ℕ} {r : Series} {t 
     unfolding target_rules
     ends = need_so _ _ _ (ap not (ap (has t.id) ids ∙ new))
 
-    module _ {number : ℕ} (en : number ≡ ended_by f held) where
+    module _ {number : ℕ} (en : number ≡ ended_by f d.held) where
       by_tags : (number ≡ 0 → ended f (map tag_of_val t.vals) ≡ ok tt) × ((number ≡ 0 → ⊥) → ended f (map tag_of_val t.vals) ≡ refused number 0)
       by_tags = ended_says f (map tag_of_val t.vals) en (sym (bits_map tag_of_val bit_of t.vals) ∙ sym said.1)
 
@@ -191,26 +210,26 @@ module _ {f : Form} {s records : List ℕ} {id held size : ℕ} {r : Series} {t 
         long : length (targets_normal f records) ≤ length added_bytes
         unfolding entries_put
         long =
-            let l = series_put_long s r (in_order f s q.bytes q.set_of id q.found) (targets_normal f records) in
+            let l = series_put_long s r (in_order f s q.bytes q.set_of d.id q.found) (targets_normal f records) in
             let m = series_more (packs_size r (length (targets_normal f records))) in
             simp length-append (omega (arith, l, m))
 
-        pub add_over : 8192 < size → (lent : List ℕ) {a : Answer} → a ≡ answer_of 1 0 → SetChanges f (added t) s lent a lent
+        pub add_over : 8192 < d.size → (lent : List ℕ) {a : Answer} → a ≡ answer_of 1 0 → SetChanges f (added t) s lent a lent
         add_over g lent ea = packed_left f s (added t) lent add_met added_are (entries_over f added_bytes (omega (arith, said.2.1 g, ap length made, long)) lent ea)
 
-        module _ (br : Bytes records) (g : size ≤ 8192) where
+        module _ (br : Bytes records) (g : d.size ≤ 8192) where
           few : length records ≤ 65536
           few =
               let l = ap length (new_says f records t br q.it).0 in
               let n = target_normal_lem t in
               omega (arith, l, target_sheet t, n, said.2.0 g, vals_dense t.vals)
 
-          pub add_asked : Changing f s r (r.count + 1) size records
+          pub add_asked : Changing f s r (r.count + 1) d.size records
           add_asked = record {
             putting = record {
               short = q.set_of.short;
-              ordered = in_order f s q.bytes q.set_of id q.found;
-              few = omega (arith, count_few f s q.bytes q.set_of id q.found);
+              ordered = in_order f s q.bytes q.set_of d.id q.found;
+              few = omega (arith, count_few f s q.bytes q.set_of d.id q.found);
               size = ap (packs_size r) (said.2.0 g ∙ sym (ap length made));
               few_records = few;
               ran = subst Ran (sym ran) tt;

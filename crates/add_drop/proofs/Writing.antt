@@ -11,7 +11,7 @@ use Rattle.write_packet.specs.Meet.{targets_normal}
 use Rattle.target_bytes.specs.Meet.{packs_size, entries_put, entries_size, PuttingIn}
 use Rattle.target_bytes.proofs.Sizes.{entries_long, entries_few}
 use Rattle.frames.specs.Meet.{frame_size}
-use Rattle.answers.proofs.Entries.{Sized}
+use Rattle.answers.proofs.Entries.{Sized, Roomy}
 use Rattle.add_drop.specs.Meet.{Changing}
 
 order_more : {n m : ℕ} {r : Series} → InOrder n r → n ≤ m → InOrder m r
@@ -59,3 +59,6 @@ module _ {f : Form} {s : List ℕ} {r : Series} {n k : ℕ} {records : List ℕ}
 
       pub sized : {size : ℕ} → size ≡ frame_size f body → Sized f bytes body size
       sized es = record { entered = q.entered; entries = body_is; frame = es }
+
+      pub roomy : {size : ℕ} → size ≡ frame_size f body → (lent : List ℕ) → size ≤ 8192 → size ≤ length lent → Roomy f bytes body size lent
+      roomy es lent small room = record { sizes = sized es; small = small; room = room }

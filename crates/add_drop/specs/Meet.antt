@@ -12,8 +12,7 @@ use Rattle.find.specs.Places.{kept_of}
 use Rattle.write_packet.specs.Meet.{targets_normal}
 use Rattle.edit_rules.specs.Meet.{sheet_of}
 use Rattle.target_bytes.specs.Meet.{packs_size, entries_put, PuttingIn}
-use Rattle.answers.specs.declared.Answer.{Answer}
-use Rattle.answers.specs.Meet.{left_of, Entered}
+use Rattle.answers.specs.Meet.{Answer, left_of, Entered}
 
 -- a change to such a set: the rules on what it says, then 1
 unfoldable pub set_changed : Form → TargetChange → List ℕ → Ans (List ℕ)

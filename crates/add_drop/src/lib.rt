@@ -4,41 +4,42 @@
 ghost use Rattle.std.specs.Prelude.{◌≡◌};
 ghost use Rattle.items.specs.Meet.{form_of};
 ghost use Rattle.write_packet.specs.Meet.{targets_normal};
-ghost use Rattle.answers.specs.Meet.{EntriesPacked};
+ghost use Rattle.answers.specs.Meet.{answer, EntriesPacked};
 ghost use Rattle.target_bytes.specs.Meet.{entries_put};
 ghost use Rattle.add_drop.specs.Meet.{Changing};
 
 pub mod adding;
 pub mod dropping;
 
-use answers::{Answer, answer_of};
+use coding::refusals::{Fault, Refusal};
 use find::around::Series;
 
-// The packet without the pack that r names, with the k bytes that the records make, and with n for tag 6: 1, 16.
+// The packet without the pack that the series names, with so many bytes added that the records make, and with the count for tag 6: 1, 16. How many
+// bytes it has.
 fn put_changed(
     s: &[u8],
     alone: bool,
-    r: Series,
-    n: usize,
-    k: usize,
+    series: Series,
+    count: usize,
+    added: usize,
     records: &[u8],
     out: &mut [u8],
-) -> Answer
-    requires { Changing (form_of alone) s.now r n k records.now }
-    ensures { EntriesPacked (form_of alone) (entries_put s.now r n (targets_normal (form_of alone) records.now))
-        out.old result out.new }
+) -> Result<usize, Fault>
+    requires { Changing (form_of alone) s.now series count added records.now }
+    ensures { EntriesPacked (form_of alone) (entries_put s.now series count (targets_normal (form_of alone) records.now))
+        out.old (answer result) out.new }
 {
-    let m = target_bytes::packs_size(r, k);
-    let body = target_bytes::entries_size(r, n, m);
+    let inner = target_bytes::packs_size(series, added);
+    let body = target_bytes::entries_size(series, count, inner);
     let total = frames::frame_size(alone, body);
     if 8192 < total {
-        return answer_of(1, 0);
+        return Err(Refusal::OverLimit.at(0));
     }
     if out.len() < total {
-        return answer_of(16, total);
+        return Err(Refusal::RoomTooShort.at(total));
     }
     let from = frames::open(out, alone, body);
-    let size = target_bytes::put_entries(s, r, n, m, records, &mut out[from..]);
-    frames::close(out, alone, from + size);
-    answer_of(0, total)
+    let wrote = target_bytes::put_entries(s, series, count, inner, records, &mut out[from..]);
+    frames::close(out, alone, from + wrote);
+    Ok(total)
 }

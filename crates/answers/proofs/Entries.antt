@@ -14,8 +14,7 @@ use Rattle.format.specs.Calls.{packed}
 use Rattle.format.proofs.Sheets.Normal.{entries_less}
 use Rattle.stores.specs.Puts.{Puts}
 use Rattle.frames.specs.Meet.{frame_size, open_bytes, seal_bytes}
-use Rattle.answers.specs.declared.Answer.{Answer}
-use Rattle.answers.specs.Meet.{answer_of, Entered, EntriesPacked}
+use Rattle.answers.specs.Meet.{Answer, answer_of, Entered, EntriesPacked}
 use Rattle.answers.proofs.Framed.{Fits, open_asked, rest_from, rest_room, entries_end, close_asked, all_written}
 use Rattle.answers.proofs.Packing.{Packs, size_is, packs_long, packs_short, packs_fit, packs_done}
 

@@ -12,8 +12,7 @@ use borrow.Author.Tests.{le-leb, lt-leb, leb-true, leb-false}
 use Rattle.format.specs.Answer.{Ans, ok, refused}
 use Rattle.format.specs.Room.{Left, leaves}
 use Rattle.format.specs.Demands.Demand1.{Listed, Answers}
-use Rattle.answers.specs.declared.Answer.{Answer}
-use Rattle.answers.specs.Meet.{left_of, answer_of}
+use Rattle.answers.specs.Meet.{Answer, left_of, answer_of}
 use Rattle.answers.specs.Given.{Answered, Given, Refusing, Accepted, written}
 use Rattle.answers.proofs.Results.{one_result}
 

@@ -9,8 +9,7 @@ use borrow.Author.Tests.{le-leb, lt-leb}
 use Rattle.format.specs.Answer.{Ans, ok, refused}
 use Rattle.format.specs.Room.{leaves}
 use Rattle.stores.proofs.Stores.{sets_start}
-use Rattle.answers.specs.declared.Answer.{Answer}
-use Rattle.answers.specs.Meet.{left_of, answer_of}
+use Rattle.answers.specs.Meet.{Answer, left_of, answer_of}
 
 short : (lent b : List ℕ) → length lent < length b → left_of (answer_of 16 (length b)) lent ≡ leaves lent (ok b)
 unfolding leaves

@@ -17,8 +17,7 @@ use Rattle.format.proofs.Sheets.Normal.{entries_less}
 use Rattle.items.proofs.Tests.{need_so, need_not}
 use Rattle.frames.specs.Meet.{frame_size}
 use Rattle.frames.proofs.Framing.{frame_long}
-use Rattle.answers.specs.declared.Answer.{Answer}
-use Rattle.answers.specs.Meet.{left_of, answer_of}
+use Rattle.answers.specs.Meet.{Answer, left_of, answer_of}
 use Rattle.answers.proofs.Leaving.{left_refused, left_short, left_whole}
 use Rattle.answers.proofs.Framed.{Fits}
 

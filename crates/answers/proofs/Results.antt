@@ -7,14 +7,19 @@ use mathlib.Core.List.{List}
 use lib.ListN.{length}
 use lib.Dec.{leb}
 use borrow.Author.Tests.{leb-true}
+use Rattle.std.specs.Prelude.{Result, Err}
+use Rattle.std.specs.Result.{IsErr, IsErrAnd}
+use Rattle.std.proofs.lemmas.Result.{err_from_is_err_and}
 use Rattle.format.specs.Answer.{Ans, ok, refused, ◌>>=◌, need}
 use Rattle.format.specs.Packet.{Packet}
 use Rattle.format.specs.Table.{Form}
 use Rattle.format.specs.Read.{parse, limit}
 use Rattle.format.specs.Room.{Left}
 use Rattle.format.proofs.Bounds.Packets.{parse_answers}
-use Rattle.answers.specs.declared.Answer.{Answer}
-use Rattle.answers.specs.Meet.{left_of}
+use Rattle.coding.specs.declared.refusals.Fault.{Fault}
+use Rattle.coding.specs.declared.refusals.Refusal.{Refusal}
+use Rattle.coding.specs.Refusals.{number, fault}
+use Rattle.answers.specs.Meet.{Answer, answer_of, answer, left_of}
 
 -- for `leaves`, `leaves_rows` and `leaves_table` alike, whatever is lent
 pub one_result : {A : Type 0} (a b : Answer) (x y : List A) (l : Left A) → left_of a x ≡ l → left_of b y ≡ l → (a ≡ b) × (x ≡ y)
@@ -23,6 +28,14 @@ one_result a b x y l p q =
     (λ i. record { number = (e i).number; place = (e i).place }, ap (λ z. z.lent) e)
 
 -- ---- a refusal
+
+-- as the code makes it
+pub refuses : {e : Fault} {r : Refusal} {p : ℕ} → e ≡ fault r p → answer (Err e) ≡ answer_of (number r) p
+refuses e = ap (λ x. answer (Err x)) e
+
+-- as a `?` passes it on
+pub passed_on : (r : Result ℕ Fault) (e : Fault) → IsErr r × IsErrAnd r (λ d. d ≡ e) → answer r ≡ answer_of (number e.refusal) e.place
+passed_on r e h = let p = err_from_is_err_and r h.1 in rw (p.1, p.2)
 
 refused_small : (f : Form) (s : List ℕ) (n p : ℕ) → parse f s ≡ refused n p → (1 ≤ n) × (n ≤ 20) × (p ≤ 8192)
 refused_small f s n p e = go (leb (length s) 8192) refl

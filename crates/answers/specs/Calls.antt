@@ -6,8 +6,7 @@ use Rattle.format.specs.Room.{leaves}
 use Rattle.format.specs.Calls.{read, write, normalise}
 use Rattle.format.specs.Edit.{Holder, Changes, edit}
 use Rattle.format.specs.Targets.{add_target, drop_target}
-use Rattle.answers.specs.declared.Answer.{Answer}
-use Rattle.answers.specs.Meet.{left_of}
+use Rattle.answers.specs.Meet.{Answer, left_of}
 
 abbrev pub Reads : Form → List ℕ → List ℕ → Answer → List ℕ → Type 0
 Reads f packet lent a left = left_of a left ≡ leaves lent (read f packet)

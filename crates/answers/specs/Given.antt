@@ -2,8 +2,7 @@
 use Rattle.std.specs.Prelude.{◌≡◌, ◌⊎◌, List, ◌++◌, ℕ, ◌≤◌, ◌<◌, length, take, drop}
 use Rattle.format.specs.Answer.{Ans, refused}
 use Rattle.format.specs.Demands.Demand1.{Listed}
-use Rattle.answers.specs.declared.Answer.{Answer}
-use Rattle.answers.specs.Meet.{answer_of}
+use Rattle.answers.specs.Meet.{Answer, answer_of}
 
 -- success: the count, room for it, and nothing beyond it changed
 abbrev pub Done : {A : Type 0} → List A → Answer → List A → Type 0

@@ -1,13 +1,18 @@
 -- Where the answers of the calls meet document 01: what a call leaves behind, for every input and every room.
-use Rattle.std.specs.Prelude.{◌≡◌, ℕ, List}
+use Rattle.std.specs.Prelude.{◌≡◌, ℕ, Result, Ok, Err, List}
 use Rattle.format.specs.Lists.{flat_all}
 use Rattle.format.specs.Table.{Form}
 use Rattle.format.specs.Packet.{Entry, flat_entry, closed}
 use Rattle.format.specs.Calls.{packed}
 use Rattle.format.specs.Room.{Left, leaves}
-use Rattle.check_packet.specs.declared.Checked.{Checked}
-use Rattle.check_packet.specs.declared.Checked.TheVariants.{Fine, Wrong}
-use Rattle.answers.specs.declared.Answer.{Answer}
+use Rattle.check_packet.specs.Checks.{Checked, Fine, Wrong}
+use Rattle.coding.specs.declared.refusals.Fault.{Fault}
+use Rattle.coding.specs.Refusals.{number}
+
+-- what a call answers: a refusal's number and place; or 0, and how many bytes or rows were written
+pub record Answer : Type 0 where
+  pub number : ℕ
+  pub place : ℕ
 
 -- an answer, with what was lent as it is then
 abbrev pub left_of : {A : Type 0} → Answer → List A → Left A
@@ -15,6 +20,11 @@ left_of a lent = record { number = a.number; place = a.place; lent = lent }
 
 abbrev pub answer_of : ℕ → ℕ → Answer
 answer_of n p = record { number = n; place = p }
+
+-- as the code has it
+abbrev pub answer : Result ℕ Fault → Answer
+answer (Ok n) = answer_of 0 n
+answer (Err e) = answer_of (number e.refusal) e.place
 
 abbrev pub refusal_of : Checked → Answer
 refusal_of (Fine a k) = answer_of 0 0

@@ -27,8 +27,8 @@ use Rattle.tally.proofs.Bits.{bits_map, bits_has}
 use Rattle.tally.proofs.Walks.{same_sizes}
 use Rattle.tally.proofs.Totals.{parts_sheet, parts_normal, parts_inner, entries_say, says_no_seal, entries_count, seal_last}
 use Rattle.tally.proofs.Parsed.{packet_of}
-use Rattle.check_packet.specs.declared.Checked.{Checked}
-use Rattle.check_packet.specs.declared.Checked.TheVariants.{Fine, Wrong}
+use Rattle.check_packet.specs.Checks.{Checked}
+use Rattle.check_packet.specs.Checks.{Fine, Wrong}
 use Rattle.check_packet.specs.Meet.{checked_of, fine_of, sum_right, closing_by}
 
 -- ---- as the code tests it

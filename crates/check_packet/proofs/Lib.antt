@@ -4,3 +4,4 @@ pub mod Closings
 pub mod Packets
 pub mod Parsing
 pub mod Opened
+pub mod Tried

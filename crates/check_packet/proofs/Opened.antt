@@ -13,8 +13,8 @@ use Rattle.coding.proofs.Rooms.{tail_part}
 use Rattle.tally.specs.declared.Sizes.{Sizes}
 use Rattle.tally.specs.Runs.{Ran, level_run}
 use Rattle.tally.proofs.Parsed.{Parsed}
-use Rattle.check_packet.specs.declared.Checked.{Checked}
-use Rattle.check_packet.specs.declared.Checked.TheVariants.{Fine}
+use Rattle.check_packet.specs.Checks.{Checked}
+use Rattle.check_packet.specs.Checks.{Fine}
 use Rattle.check_packet.specs.Meet.{checked_of}
 use Rattle.check_packet.proofs.Parsing.{parsed, fine_parsed}
 

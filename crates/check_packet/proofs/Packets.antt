@@ -1,6 +1,6 @@
 -- The whole packet, case by case, as the code reads it.
 use mathlib.Core.Path.{◌≡◌, refl, sym, ap, ◌∙◌}
-use Prim.Native.Nat.{ℕ, ◌-◌, ◌≤◌, ◌<◌}
+use Prim.Native.Nat.{◌+◌, ℕ, ◌-◌, ◌≤◌, ◌<◌}
 use native.Mathlib.Omega.{arith}
 use mathlib.Core.List.{List}
 use lib.ListN.{length, take, drop, length-drop}
@@ -14,20 +14,21 @@ use Rattle.format.specs.Read.{entry, limit, opening, start, closing, parse}
 use Rattle.format.proofs.Words.Answers.{after_ok}
 use Rattle.format.proofs.Words.Bytes.{bytes_drop}
 use Rattle.format.proofs.Reading.Packets.{set_says}
-use Rattle.coding.specs.declared.Num.{Num}
-use Rattle.coding.specs.declared.Num.TheVariants.{Value, Refused}
+use Rattle.std.proofs.Common.{Result, Ok, Err}
+use Rattle.coding.specs.declared.refusals.Refusal.{Refusal}
+use Rattle.coding.specs.Refusals.{number}
 use Rattle.coding.proofs.Rooms.{tail_part}
 use Rattle.items.proofs.Tests.{bind_so, bind_not, need_so, need_not}
 use Rattle.tally.specs.declared.Sizes.{Sizes}
-use Rattle.tally.specs.declared.Walked.{Walked}
-use Rattle.tally.specs.declared.Walked.TheVariants.{Good, Bad}
+use Rattle.tally.specs.Pieces.{Walked}
+use Rattle.tally.specs.Pieces.{Good, Bad}
 use Rattle.tally.specs.Meet.{total, bit_of, is_held, weight_of_entry, deepen_at, step_at, walked_of, level_walk, Within}
 use Rattle.tally.proofs.Maps.{walked_good, walked_bad}
 use Rattle.tally.proofs.Turns.{within_more}
 use Rattle.tally.proofs.Parsed.{packet_of}
-use Rattle.check_packet.specs.declared.Checked.{Checked}
-use Rattle.check_packet.specs.declared.Checked.TheVariants.{Wrong}
-use Rattle.check_packet.specs.Meet.{checked_of, width_of, num_fault, walk_fault, closing_by}
+use Rattle.check_packet.specs.Checks.{Checked}
+use Rattle.check_packet.specs.Checks.{Wrong}
+use Rattle.check_packet.specs.Meet.{checked_of, opened, closing_by}
 use Rattle.check_packet.proofs.Openings.{opening_room}
 use Rattle.check_packet.proofs.Closings.{close_set}
 
@@ -66,32 +67,32 @@ module _ (f : Form) (s : List ℕ) where
   check_long h = ap checked_of (sym (need_not _ _ _ (lt-leb (length s) 8192 h)))
 
   -- a is the answer on what opens it
-  module _ (l : length s ≤ 8192) {a : Num} (ea : width_of a ≡ opening f s) where
-    pub check_shut : {n : ℕ} {r : Checked} → a ≡ Refused n → r ≡ num_fault a → r ≡ checked_of (parse f s)
+  module _ (l : length s ≤ 8192) {a : Result ℕ Refusal} (ea : opened a ≡ opening f s) where
+    pub check_shut : {x : Refusal} {r : Checked} → a ≡ Err x → r ≡ Wrong (number x) 0 → r ≡ checked_of (parse f s)
     unfolding parse limit
-    check_shut t e = e ∙ ap num_fault t ∙ ap checked_of (sym (need_so _ _ _ (le-leb (length s) 8192 l) ∙ bind_not _ _ _ _ (sym ea ∙ ap width_of t)))
+    check_shut t e = e ∙ ap checked_of (sym (need_so _ _ _ (le-leb (length s) 8192 l) ∙ bind_not _ _ _ _ (sym ea ∙ ap opened t)))
 
-    module _ {v w : ℕ} (t : a ≡ Value v w) where
-      opened : opening f s ≡ ok w
-      opened = sym ea ∙ ap width_of t
+    module _ {w : ℕ} (t : a ≡ Ok w) where
+      opens : opening f s ≡ ok w
+      opens = sym ea ∙ ap opened t
 
       pub check_room : (w ≤ length s) × (start f w ≤ length s) × (start f 0 ≤ length s)
-      check_room = opening_room f s w opened
+      check_room = opening_room f s w opens
 
       parse_is : parse f s ≡ (after (start f w) (set_run f (drop (start f w) s)) >>= closes w)
       unfolding parse limit
-      parse_is = need_so _ _ _ (le-leb (length s) 8192 l) ∙ bind_so _ _ _ opened
+      parse_is = need_so _ _ _ (le-leb (length s) 8192 l) ∙ bind_so _ _ _ opens
 
       -- x is the answer on the set, which begins at k
       module _ {k : ℕ} (ek : k ≡ start f w) {x : Walked} (ex : x ≡ level_walk set f (take (length s - k) (drop k s))) where
         walk_is : x ≡ set_walked (set_run f (drop (start f w) s))
         walk_is = rw (tail_part, ek) at ex ∙ walk_run f (drop (start f w) s)
 
-        pub check_bad : {n p : ℕ} {r : Checked} → x ≡ Bad n p → r ≡ walk_fault k x → r ≡ checked_of (parse f s)
+        pub check_bad : {n p : ℕ} {r : Checked} → x ≡ Bad n p → r ≡ Wrong n (k + p) → r ≡ checked_of (parse f s)
         unfolding ◌>>=◌ after
         check_bad {n} {p} z e =
             let q = walked_bad (weight_of_entry set) (λ e. bit_of (tag_of_entry e)) (set_run f (drop (start f w) s)) n p (sym z ∙ walk_is) in
-            e ∙ ap (walk_fault k) z ∙ rw (parse_is, q, ek)
+            e ∙ rw (parse_is, q, ek)
 
         pub check_good : {b : Sizes} {m : ℕ} {r : Checked} → Bytes s → x ≡ Good b m → r ≡ closing_by f s (is_held 1 m) b k → r ≡ checked_of (parse f s)
         check_good {b} {m} h z e =

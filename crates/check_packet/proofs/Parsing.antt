@@ -20,7 +20,7 @@ use Rattle.tally.specs.declared.Sizes.{Sizes}
 use Rattle.tally.specs.Meet.{step_at, deepen_at}
 use Rattle.tally.specs.Runs.{level_run}
 use Rattle.tally.proofs.Parsed.{Sealing, Parsed}
-use Rattle.check_packet.specs.declared.Checked.TheVariants.{Fine, Wrong}
+use Rattle.check_packet.specs.Checks.{Fine, Wrong}
 use Rattle.check_packet.specs.Meet.{checked_of}
 use Rattle.check_packet.proofs.Openings.{opening_room}
 

@@ -17,20 +17,19 @@ use Rattle.format.specs.Read.{head_of}
 use Rattle.coding.proofs.Rooms.{tail_part}
 use Rattle.items.proofs.Glances.{plainly, any_size}
 use Rattle.heads.specs.declared.Head.{Head}
-use Rattle.heads.specs.declared.Head.TheVariants as heads
-use Rattle.heads.specs.Meet.{item_head_of}
+use Rattle.heads.specs.Meet.{head, item_head}
+use Rattle.heads.proofs.Heads.{item_within}
 use Rattle.tally.specs.declared.Sizes.{Sizes}
-use Rattle.tally.specs.declared.Walked.{Walked}
+use Rattle.tally.specs.Pieces.{Walked}
 use Rattle.tally.specs.declared.stages.Stage.{Stage}
-use Rattle.tally.specs.declared.Walked.TheVariants.{Good, Bad}
+use Rattle.tally.specs.Pieces.{Good, Bad}
 use Rattle.tally.specs.Meet.{item_sizes, series_sizes, plus_sizes, bit_of, level_walk, series_walk, series_from, later_by, Small, Within}
 use Rattle.tally.specs.Going.{LevelGoing, LevelTo, stage_at}
 use Rattle.tally.proofs.Turns.{within_more, going_between}
-use Rattle.tally.proofs.Pieces.{piece_within}
 use Rattle.tally.proofs.ItemTurns.{ItemAt, EntryTold, item_told, series_told, good_small, entry_bad, entry_more}
 use Rattle.tally.proofs.Begins.{begun_later}
 use Rattle.quick_items.proofs.Glances.{Headed, value_size, met_item}
-use Rattle.check_packet.specs.Meet.{HeadIf}
+use Rattle.check_packet.specs.Meet.{HeadRead}
 use Rattle.check_packet.specs.Sets.{SeriesNext}
 
 -- ---- their values
@@ -45,43 +44,41 @@ seal_value v e = plainly (B 2) v (omega (arith, e)) (rw e) refl
 
 -- ---- an item of the set whose head the code has read at p
 
-pub head_if : (s : List ℕ) (p : ℕ) (h : Head) → p < length s → item_head_of h ≡ head_of set (take (length s - p) (drop p s)) → HeadIf s p h
-head_if s p (heads.Whole k u w n) here e = (here, rw tail_part at e)
-head_if s p (heads.Fault n) here e = tt
-
-pub head_within : (s : List ℕ) (p tag u w n : ℕ) → HeadIf s p (heads.Whole tag u w n) → p + u + w + n ≤ length s
-head_within s p tag u w n h = omega (arith, h.0, length-drop p s, piece_within (drop p s) set h.1 refl)
+pub head_read : (s : List ℕ) (p : ℕ) (h : Head) → p < length s → ok (item_head h) ≡ head_of set (take (length s - p) (drop p s)) → HeadRead s p h
+head_read s p h here e =
+    let e' = rw tail_part at e in
+    (here, e', omega (arith, length-drop p s, item_within (drop p s) h set e'))
 
 pub record HeadAt (f : Form) (s : List ℕ) (p : ℕ) (sum : Sizes) (held top low tag u w n : ℕ) : Type 0 where
   pub going : LevelGoing true f s p sum held top low
-  pub it : Head
-  pub told : HeadIf s p it
-  pub is : it ≡ heads.Whole tag u w n
+  pub told : HeadRead s p (head tag u w n)
   pub bytes : Bytes s
   pub most : length s ≤ 8192
 
-module _ {f : Form} {s : List ℕ} {p : ℕ} {sum : Sizes} {held top low tag u w n : ℕ} (i : HeadAt f s p sum held top low tag u w n) where
-  head_told : HeadIf s p (heads.Whole tag u w n)
-  head_told = subst (HeadIf s p) i.is i.told
+-- as the code has it at a stage
+pub head_here : {f : Form} {s : List ℕ} {q : Stage} → LevelTo true f s q → {h : Head} → HeadRead s q.at h → Bytes s → length s ≤ 8192
+    → HeadAt f s q.at q.sizes q.held q.top q.low h.key h.used h.width h.size
+head_here g told bytes most = record { going = g; told = told; bytes = bytes; most = most }
 
+module _ {f : Form} {s : List ℕ} {p : ℕ} {sum : Sizes} {held top low tag u w n : ℕ} (i : HeadAt f s p sum held top low tag u w n) where
   pub head_room : p + u + w + n ≤ length s
-  head_room = head_within s p tag u w n head_told
+  head_room = i.told.2
 
   -- as the head of tag k of m bytes
-  head_as : (k m : ℕ) → tag ≡ k → n ≡ m → item_head_of (heads.Whole k u w m) ≡ head_of set (drop p s)
-  head_as k m et en = rw (← et, ← en) head_told.1
+  head_as : (k m : ℕ) → tag ≡ k → n ≡ m → ok (item_head (head k u w m)) ≡ head_of set (drop p s)
+  head_as k m et en = rw (← et, ← en) i.told.1
 
   -- ---- it is the checksum, and ends the set
 
   module _ (alone : is_alone f ≡ true) (next : (0 < p) × (1 < low) × (tag ≡ 1) × (n ≡ 2)) (end : p + u + w + n ≡ length s) where
     seal_head : Headed true s p 1 u w 2
-    seal_head = record { it = heads.Whole 1 u w 2; told = head_as 1 2 next.2 next.3; is = refl }
+    seal_head = record { told = head_as 1 2 next.2 next.3 }
 
     seal_item : ItemAt true f s p sum held top low 1 (u + w) 2 2
     unfolding may_stand
     seal_item = met_item (record {
       going = i.going;
-      here = head_told.0;
+      here = i.told.0;
       meets = record {
         head = seal_head;
         some = omega arith;
@@ -110,7 +107,7 @@ module _ {f : Form} {s : List ℕ} {p : ℕ} {sum : Sizes} {held top low tag u w
 -- ---- the series after the items that were walked to q
 
 -- as the code finds it
-pub series_next : (s : List ℕ) (p top tag u w n : ℕ) → HeadIf s p (heads.Whole tag u w n) → (0 < p) × (top < 101) × (0 < n) × (tag ≡ 101) → SeriesNext s p top (p + u + w) (p + u + w + n)
+pub series_next : (s : List ℕ) (p top tag u w n : ℕ) → HeadRead s p (head tag u w n) → (0 < p) × (top < 101) × (0 < n) × (tag ≡ 101) → SeriesNext s p top (p + u + w) (p + u + w + n)
 series_next s p top tag u w n h (later, new, some, is) = record {
   used = u;
   width = w;
@@ -130,15 +127,19 @@ pub record SeriesAt (f : Form) (s : List ℕ) (q : Stage) (from next : ℕ) : Ty
   pub bytes : Bytes s
   pub most : length s ≤ 8192
 
+-- as the code has it
+pub series_here : {f : Form} {s : List ℕ} {q : Stage} {from next : ℕ} → LevelTo true f s q → SeriesNext s q.at q.top from next → Bytes s → length s ≤ 8192 → SeriesAt f s q from next
+series_here g j bytes most = record { going = g; series = j; bytes = bytes; most = most }
+
 module _ {f : Form} {s : List ℕ} {q : Stage} {from next : ℕ} (i : SeriesAt f s q from next) where
   pub series_room : (from ≤ next) × (next ≤ length s)
   series_room =
       let j = i.series in
-      let l = head_within s q.at 101 j.used j.width j.size (j.here, j.head) in
-      (omega (arith, j.next_is), omega (arith, l, j.from_is, j.next_is))
+      let l = item_within (drop q.at s) (head 101 j.used j.width j.size) set j.head in
+      (omega (arith, j.next_is), omega (arith, l, length-drop q.at s, j.here, j.from_is, j.next_is))
 
   series_head : Headed true s q.at 101 i.series.used i.series.width i.series.size
-  series_head = let j = i.series in record { it = heads.Whole 101 j.used j.width j.size; told = j.head; is = refl }
+  series_head = record { told = i.series.head }
 
   series_item : ItemAt true f s q.at q.sizes q.held q.top q.low 101 (i.series.used + i.series.width) i.series.size i.series.size
   unfolding may_stand

@@ -1,5 +1,5 @@
 -- Where the code of the whole packet meets document 01: what its answers mean.
-use Rattle.std.specs.Prelude.{◌≡◌, ℕ, ◌+◌, ◌-◌, ◌<◌, Bool, List, map, length, take, drop, eqb}
+use Rattle.std.specs.Prelude.{◌≡◌, ℕ, Result, Ok, Err, ◌+◌, ◌-◌, ◌<◌, ◌≤◌, Bool, List, map, length, take, drop, eqb}
 use Rattle.format.specs.Answer.{Ans, ok, refused, ◌>>=◌, need, after}
 use Rattle.format.specs.Coding.{bytes_number}
 use Rattle.format.specs.Lists.{flat_all}
@@ -9,17 +9,15 @@ use Rattle.format.specs.Read.{head_of, start}
 use Rattle.format.specs.Sheet.{content, sheet_bytes}
 use Rattle.format.specs.Calls.{entry_of}
 use Rattle.format.specs.Rows.{rows_of}
-use Rattle.coding.specs.declared.Num.{Num}
-use Rattle.coding.specs.declared.Num.TheVariants.{Value, Refused}
+use Rattle.coding.specs.declared.refusals.Fault.{Fault}
+use Rattle.coding.specs.declared.refusals.Refusal.{Refusal}
+use Rattle.coding.specs.Refusals.{number, told}
 use Rattle.heads.specs.declared.Head.{Head}
-use Rattle.heads.specs.declared.Head.TheVariants as heads
-use Rattle.heads.specs.Meet.{item_head_of}
+use Rattle.heads.specs.Meet.{item_head}
 use Rattle.tally.specs.declared.Sizes.{Sizes}
-use Rattle.tally.specs.declared.Walked.{Walked}
-use Rattle.tally.specs.declared.Walked.TheVariants.{Good, Bad}
 use Rattle.tally.specs.Meet.{sizes, total, weight_of_entry}
-use Rattle.check_packet.specs.declared.Checked.{Checked}
-use Rattle.check_packet.specs.declared.Checked.TheVariants.{Fine, Wrong}
+use Rattle.check_packet.specs.declared.Checked as declared
+use Rattle.check_packet.specs.Checks.{Checked, Fine, Wrong}
 
 -- the sizes of a packet's sheet, of its rows, of its normal form and of the series' packs in that
 abbrev pub packet_sizes : Packet → Sizes
@@ -34,19 +32,17 @@ abbrev pub checked_of : Ans Packet → Checked
 checked_of (ok p) = Fine (packet_sizes p) (start p.form p.width)
 checked_of (refused n p) = Wrong n p
 
+-- the same, as the code has it
+abbrev pub check_of : declared.Checked → Checked
+check_of c = Fine c.sizes c.from
+
+abbrev pub checked : Result declared.Checked Fault → Checked
+checked (Ok c) = check_of c
+checked (Err e) = Wrong (number e.refusal) e.place
+
 -- how many bytes the outer length takes
-abbrev pub width_of : Num → Ans ℕ
-width_of (Value v n) = ok n
-width_of (Refused n) = refused n 0
-
--- a refusal passed up: of what opens a packet, and of a set that begins at k
-abbrev pub num_fault : Num → Checked
-num_fault (Value v n) = Wrong 0 0
-num_fault (Refused n) = Wrong n 0
-
-abbrev pub walk_fault : ℕ → Walked → Checked
-walk_fault k (Good a m) = Wrong 0 0
-walk_fault k (Bad n p) = Wrong n (k + p)
+abbrev pub opened : Result ℕ Refusal → Ans ℕ
+opened = told (λ n. n)
 
 -- a packet whose set has these sizes and begins at k
 abbrev pub fine_of : Sizes → ℕ → Checked
@@ -70,7 +66,6 @@ finish a k (refused n p) = Wrong n p
 abbrev pub closing_by : Form → List ℕ → Bool → Sizes → ℕ → Checked
 closing_by f s m a k = finish a k (sum_by f s m)
 
--- the head of an item of the set at p, if one was read
-abbrev pub HeadIf : List ℕ → ℕ → Head → Type 0
-HeadIf s p (heads.Whole k u w n) = (p < length s) × (item_head_of (heads.Whole k u w n) ≡ head_of set (drop p s))
-HeadIf s p (heads.Fault n) = Unit {0}
+-- the head of an item of the set at p, and the room of all that it heads
+abbrev pub HeadRead : List ℕ → ℕ → Head → Type 0
+HeadRead s p h = (p < length s) × (ok (item_head h) ≡ head_of set (drop p s)) × (p + h.used + h.width + h.size ≤ length s)

@@ -2,8 +2,8 @@
 use Rattle.std.specs.Prelude.{◌≡◌, ℕ, ◌+◌, ◌<◌, List, length, drop}
 use Rattle.format.specs.Table.{set}
 use Rattle.format.specs.Read.{head_of}
-use Rattle.heads.specs.declared.Head.TheVariants as heads
-use Rattle.heads.specs.Meet.{item_head_of}
+use Rattle.format.specs.Answer.{ok}
+use Rattle.heads.specs.Meet.{head, item_head}
 
 -- it stands at p, told to be new, and its packs from one place to another
 pub record SeriesNext (s : List ℕ) (p top from next : ℕ) : Type 0 where
@@ -11,7 +11,7 @@ pub record SeriesNext (s : List ℕ) (p top from next : ℕ) : Type 0 where
   pub width : ℕ
   pub size : ℕ
   pub here : p < length s
-  pub head : item_head_of (heads.Whole 101 used width size) ≡ head_of set (drop p s)
+  pub head : ok (item_head (head 101 used width size)) ≡ head_of set (drop p s)
   pub later : 0 < p
   pub new : top < 101
   pub some : 0 < size

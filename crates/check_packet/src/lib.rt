@@ -4,49 +4,48 @@
 ghost use Rattle.std.specs.Prelude.{◌≡◌, ◌≤◌, length};
 ghost use Rattle.format.specs.Table.{standalone};
 ghost use Rattle.format.specs.Read.{opening, start, parse};
-ghost use Rattle.items.specs.Meet.{form_of, glance_table};
-ghost use Rattle.tally.specs.Meet.{is_held, Within};
-ghost use Rattle.check_packet.specs.Meet.{checked_of, width_of, num_fault, walk_fault, closing_by, fine_of, sum_right};
+ghost use Rattle.items.specs.Meet.{form_of};
+ghost use Rattle.tally.specs.Meet.{is_held};
+ghost use Rattle.check_packet.specs.Meet.{check_of, checked, checked_of, opened, closing_by, fine_of, sum_right};
 
-use coding::Num;
-use tally::{Sizes, Walked};
+use coding::refusals::{Fault, Refusal, later, placed};
+use items::quick::Glances;
+use tally::Sizes;
 
-// The sizes of what a packet says, and where its set begins; or the refusal.
-#[derive(Clone, Copy)]
-pub enum Checked {
-    Fine { sizes: Sizes, from: usize },
-    Wrong { number: u64, place: usize },
+pub mod sets; // sets.rt: its set
+
+// The sizes of what a packet says, and where its set begins.
+#[derive(Clone, Copy, Debug, PartialEq, Eq)]
+pub struct Checked {
+    pub sizes: Sizes,
+    pub from: usize,
 }
 
 // ---- what opens it
 
-// The key and the outer length, which says how many bytes follow it: 2, 3, 5, 6.
-fn outer_of(s: &[u8]) -> Num
-    ensures { width_of result ≡ opening standalone s.now }
+// The key and the outer length, which says how many bytes follow it: 2, 3, 5, 6. How many bytes the length takes.
+fn outer_of(s: &[u8]) -> Result<usize, Refusal>
+    ensures { opened result ≡ opening standalone s.now }
 {
-    if coding::has_key(s) {
-        let b = coding::len_of(&s[16..]);
-        let Num::Value { value, used } = b else {
-            return b;
-        };
-        let from = 16 + used;
-        let size = value as usize;
-        if s.len() - from == size {
-            return Num::Value { value, used };
-        }
-        return Num::Refused(6);
+    if !coding::has_key(s) {
+        return Err(Refusal::NotTheKey);
     }
-    Num::Refused(2)
+    let length = coding::len_of(&s[16..])?;
+    let from = 16 + length.used;
+    if s.len() - from != length.value as usize {
+        return Err(Refusal::PastEnd);
+    }
+    Ok(length.used)
 }
 
 // An embedded packet has neither.
-fn opening_of(s: &[u8], alone: bool) -> Num
-    ensures { width_of result ≡ opening (form_of alone) s.now }
+fn opening_of(s: &[u8], alone: bool) -> Result<usize, Refusal>
+    ensures { opened result ≡ opening (form_of alone) s.now }
 {
     if alone {
         return outer_of(s);
     }
-    Num::Value { value: 0, used: 0 }
+    Ok(0)
 }
 
 // Where the set begins.
@@ -71,99 +70,42 @@ fn is_sealed(s: &[u8]) -> bool
 // Three bytes stand before the parts of a sheet.
 fn fine(a: Sizes, from: usize) -> Checked
     requires { a.sheet ≤ 40960 }
-    ensures { result ≡ fine_of a from }
+    ensures { check_of result ≡ fine_of a from }
 {
-    Checked::Fine {
+    Checked {
         sizes: Sizes {
             sheet: 3 + a.sheet,
-            rows: a.rows,
-            normal: a.normal,
-            inner: a.inner,
+            ..a
         },
         from,
     }
 }
 
 // Of a set of these sizes, that holds these tags and begins at `from`: 14, 15.
-fn closing_of(s: &[u8], alone: bool, held: u64, a: Sizes, from: usize) -> Checked
+fn closing_of(s: &[u8], alone: bool, held: u64, a: Sizes, from: usize) -> Result<Checked, Fault>
     requires { (start (form_of alone) 0 ≤ length s.now) × (length s.now ≤ 8192) × (a.sheet ≤ 40960) }
-    ensures { result ≡ closing_by (form_of alone) s.now (is_held 1 held) a from }
+    ensures { checked result ≡ closing_by (form_of alone) s.now (is_held 1 held) a from }
 {
     if alone {
         if !tally::is_held(1, held) {
-            return Checked::Wrong {
-                number: 14,
-                place: s.len(),
-            };
+            return Err(Refusal::Missing.at(s.len()));
         }
         if !is_sealed(s) {
-            return Checked::Wrong {
-                number: 15,
-                place: s.len() - 4,
-            };
+            return Err(Refusal::ChecksumDiffers.at(s.len() - 4));
         }
     }
-    fine(a, from)
-}
-
-// ---- refusals passed up
-
-fn wrong_num(a: Num) -> Checked
-    ensures { result ≡ num_fault a }
-{
-    match a {
-        Num::Value { value: _, used: _ } => Checked::Wrong {
-            number: 0,
-            place: 0,
-        },
-        Num::Refused(n) => Checked::Wrong {
-            number: n,
-            place: 0,
-        },
-    }
-}
-
-fn wrong_set(w: Walked, k: usize) -> Checked
-    requires { Within w 8192 × (k ≤ 8192) }
-    ensures { result ≡ walk_fault k w }
-{
-    match w {
-        Walked::Good { sizes: _, held: _ } => Checked::Wrong {
-            number: 0,
-            place: 0,
-        },
-        Walked::Bad { number, place } => Checked::Wrong {
-            number,
-            place: k + place,
-        },
-    }
+    Ok(fine(a, from))
 }
 
 // The sizes of what a packet says, and where its set begins; or the refusal: 1, what opens it, the set, what closes it.
-pub fn check(glances: &[u32], s: &[u8], alone: bool) -> Checked
-    requires { glances.now ≡ glance_table }
-    ensures { result ≡ checked_of (parse (form_of alone) s.now) }
+pub fn check(glances: &Glances, s: &[u8], alone: bool) -> Result<Checked, Fault>
+    ensures { checked result ≡ checked_of (parse (form_of alone) s.now) }
 {
     if 8192 < s.len() {
-        return Checked::Wrong {
-            number: 1,
-            place: 0,
-        };
+        return Err(Refusal::OverLimit.at(0));
     }
-    let a = opening_of(s, alone);
-    let Num::Value {
-        value: _,
-        used: width,
-    } = a
-    else {
-        return wrong_num(a);
-    };
+    let width = placed(opening_of(s, alone), 0)?;
     let from = start_of(alone, width);
-    let w = sets::set_walk(glances, &s[from..], alone);
-    let Walked::Good { sizes, held } = w else {
-        return wrong_set(w, from);
-    };
-    closing_of(s, alone, held, sizes, from)
+    let set = later(sets::set_walk(glances, &s[from..], alone), from)?;
+    closing_of(s, alone, set.held, set.sizes, from)
 }
-
-pub mod sets; // sets.rt: its set

@@ -1,8 +1,9 @@
 -- The turn over the series that stands next in the set: it is read as the walk over the set's records reads it.
 use mathlib.Core.Path.{◌≡◌, refl, sym, ap, ◌∙◌}
-use Prim.Native.Nat.{ℕ, ◌+◌, ◌≤◌, ◌<◌}
+use Prim.Native.Nat.{ℕ, ◌+◌, ◌≤◌}
 use native.Mathlib.Omega.{arith}
 use mathlib.Core.Bool.{true}
+use Rattle.std.proofs.Common.{Ok}
 use mathlib.Core.List.{List}
 use lib.ListN.{length, drop, length-drop}
 use lib.Dec.{eqb}
@@ -13,10 +14,10 @@ use Rattle.format.specs.Sheet.{IT, TS, TG, is}
 use Rattle.format.proofs.Sheets.Values.{mark_says}
 use Rattle.coding.proofs.Rooms.{tail_part}
 use Rattle.items.proofs.Tests.{standing_0}
-use Rattle.tally.specs.declared.Piece.TheVariants as piece
+use Rattle.tally.specs.Pieces as piece
 use Rattle.tally.specs.declared.stages.Stage.{Stage}
-use Rattle.tally.specs.declared.Walked.{Walked}
-use Rattle.tally.specs.declared.Walked.TheVariants.{Good}
+use Rattle.tally.specs.Pieces.{Walked}
+use Rattle.tally.specs.Pieces.{Good}
 use Rattle.tally.specs.Meet.{plus_sizes, series_sizes, series_from, Small, Within}
 use Rattle.tally.specs.Going.{stage_at}
 use Rattle.tally.proofs.Walks.{few_more}
@@ -29,7 +30,7 @@ use Rattle.tally_records.proofs.PartTurns.{ts_room, targets_at, PartAt, PartTold
 use Rattle.quick_records.specs.Going.{TargetsPassed}
 use Rattle.check_sheet.specs.Sets.{SetAsked, SeriesNext}
 
-module _ {f : Form} {glances s : List ℕ} {q : Stage} (k : SetAsked f glances s q) (n : SeriesNext s q) (bytes : Bytes s) where
+module _ {f : Form} {s : List ℕ} {q : Stage} (k : SetAsked f s q) (n : SeriesNext s q) (bytes : Bytes s) where
   pub room : q.at + 2 ≤ length s
   room = ts_room s q.at n.marked
 
@@ -46,7 +47,7 @@ module _ {f : Form} {glances s : List ℕ} {q : Stage} (k : SetAsked f glances s
   unfolding may_stand
   series_piece_lem seen past =
       part_series f seen (drop q.at s) {b = true} refl {x = is IT (drop q.at s)} refl (ap (is IT) (mark_says TS (drop q.at s) n.marked)) {y = is TS (drop q.at s)} refl n.marked
-      (series_whole_lem f s q.at {x = is TG (drop (q.at + 2) s)} refl seen n.opens 0
+      (series_whole_lem f s q.at {x = is TG (drop (q.at + 2) s)} refl seen n.opens {k = Ok tt}
       (standing_0 set f seen 101 true (sym (past.under 101 n.above)) refl (eqb q.at 0) (sym past.first) (sym (begun_later true f q.at 101 n.later))) refl)
 
   pub series_part : PartAt true f s q 101 2 0 0
@@ -54,9 +55,7 @@ module _ {f : Form} {glances s : List ℕ} {q : Stage} (k : SetAsked f glances s
     going = k.going;
     here = omega (arith, room);
     more = refl;
-    it = piece.Whole 101 2 0 0;
     told = series_piece_lem;
-    whole = refl;
     bytes = bytes;
     most = k.most;
   }

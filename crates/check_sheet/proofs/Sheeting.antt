@@ -7,8 +7,12 @@ use mathlib.Core.Bool.{Bool, true, false, not, ◌&&◌, ◌||◌}
 use mathlib.Core.List.{List, [], ◌∷◌, map}
 use lib.ListN.{length, take, drop, get_or, drop_of_length-le}
 use lib.Seq.{drop-cons}
+use mathlib.Core.Logic.{◌⊎◌, inl, inr}
 use lib.Dec.{eqb}
-use borrow.Author.Tests.{le-leb, lt-leb, ne_eqb, not-true, not-false}
+use borrow.Author.Tests.{le-leb, lt-leb, eq-eqb, ne_eqb}
+use Rattle.std.proofs.Common.{Result, Err}
+use Rattle.std.specs.Result.{IsErr, IsErrAnd}
+use Rattle.std.proofs.lemmas.Result.{err_from_is_err_and}
 use Rattle.format.specs.Answer.{Ans, ok, refused, Got, ◌>>=◌, need, after}
 use Rattle.format.specs.Coding.{Bytes}
 use Rattle.format.specs.Lists.{none?, flat_all}
@@ -23,18 +27,23 @@ use Rattle.format.proofs.Words.Answers.{after_ok, need_ok}
 use Rattle.format.proofs.Table.Tags.{nameable_set}
 use Rattle.format.proofs.Sheets.Sheets.{sheet_says}
 use Rattle.coding.proofs.Rooms.{tail_part}
+use Rattle.coding.specs.declared.refusals.Fault.{Fault}
+use Rattle.coding.specs.declared.refusals.Refusal.{Refusal}
+use Rattle.coding.specs.Refusals.{number, fault, later}
+use Rattle.coding.proofs.Tried.{later_err}
 use Rattle.items.specs.Meet.{form_of}
 use Rattle.items.proofs.Tests.{bind_so, bind_not, need_so, need_not}
 use Rattle.tally.specs.declared.Sizes.{Sizes}
-use Rattle.tally.specs.declared.Walked.{Walked}
-use Rattle.tally.specs.declared.Walked.TheVariants.{Good, Bad}
-use Rattle.tally.specs.Meet.{item_sizes, total, bit_of, weight_of_part, walked_of}
+use Rattle.tally.specs.Pieces.{Walked}
+use Rattle.tally.specs.Pieces.{Good, Bad}
+use Rattle.tally.specs.declared.Walked as walks
+use Rattle.tally.specs.Meet.{walked as walked_by, item_sizes, total, bit_of, weight_of_part, walked_of}
 use Rattle.tally.proofs.Totals.{NoSeal, parts_normal}
 use Rattle.tally.proofs.Series.{after_not}
-use Rattle.check_sheet.specs.declared.Sheeted.{Sheeted}
-use Rattle.check_sheet.specs.declared.Sheeted.TheVariants.{Fine, Wrong}
+use Rattle.check_sheet.specs.Sheets.{Sheeted, Fine, Wrong}
 use Rattle.tally_records.specs.Meet.{part_step, weight_at, records_walk}
-use Rattle.check_sheet.specs.Meet.{sheeted_of, parts_fault}
+use Rattle.check_sheet.specs.declared.Sheeted as code
+use Rattle.check_sheet.specs.Meet.{sheeted, sheeted_of}
 use Rattle.tally.proofs.Maps.{Walk, walked_good, walked_bad}
 
 -- ---- the form
@@ -93,6 +102,18 @@ walk_run : (f : Form) (t : List ℕ) → records_walk set f t ≡ walked_of weig
 unfolding records_walk part_step
 walk_run f t = ap (λ weight. walked_of weight (λ p. bit_of (tag_of_part p)) (parts_run f t)) weight_set
 
+or_true : (b : Bool) → b || true ≡ true
+or_true true = refl
+or_true false = refl
+
+-- ---- a refusal as the code says it
+
+pub wrong_at : {d : Fault} {x : Refusal} {p : ℕ} → d ≡ fault x p → Wrong (number d.refusal) d.place ≡ Wrong (number x) p
+wrong_at e = ap (λ (d : Fault). Wrong (number d.refusal) d.place) e
+
+pub sheeted_err : (r : Result code.Sheeted Fault) (d : Fault) → IsErr r × IsErrAnd r (λ e. e ≡ d) → sheeted r ≡ Wrong (number d.refusal) d.place
+sheeted_err r d h = let p = err_from_is_err_and r h.1 in rw (p.1, p.2)
+
 -- ---- 1, 17, the parts, 14
 
 need_no : (t : Bool) (n : ℕ) → t ≡ false → need t n ≡ refused n 0
@@ -129,12 +150,12 @@ module _ (s : List ℕ) where
         go false m = check_mark e m
 
     -- x: `PK` stands first
-    pub check_unmarked : {r : Sheeted} → r ≡ Wrong 17 0 → {x : Bool} → x ≡ is PK s → not x ≡ true → r ≡ sheeted_of (unsheet s)
-    check_unmarked e {x} ex tx = check_mark e (sym ex ∙ not-true x tx)
+    pub check_unmarked : {r : Sheeted} → r ≡ Wrong 17 0 → {x : Bool} → x ≡ is PK s → x ≡ false → r ≡ sheeted_of (unsheet s)
+    check_unmarked e {x} ex tx = check_mark e (sym ex ∙ tx)
 
-    module _ (h : 3 ≤ length s) {x : Bool} (ex : x ≡ is PK s) (tx : not x ≡ false) where
+    module _ (h : 3 ≤ length s) {x : Bool} (ex : x ≡ is PK s) (tx : x ≡ true) where
       m : is PK s ≡ true
-      m = sym ex ∙ not-false x tx
+      m = sym ex ∙ tx
 
       third : drop 2 s ≡ get_or s 2 0 ∷ drop 3 s
       third = drop-cons s 2 0 (omega arith)
@@ -154,10 +175,16 @@ module _ (s : List ℕ) where
           walked : w ≡ walked_of weight_of_part (λ p. bit_of (tag_of_part p)) (parts_run form (drop 3 s))
           walked = ew ∙ ap (records_walk set form) (tail_part 3 s) ∙ walk_run form (drop 3 s)
 
-          pub check_bad : {n q : ℕ} {r : Sheeted} → w ≡ Bad n q → r ≡ parts_fault w → r ≡ sheeted_of (unsheet s)
+          pub check_bad : {n q : ℕ} {r : Sheeted} → w ≡ Bad n q → r ≡ Wrong n (3 + q) → r ≡ sheeted_of (unsheet s)
           check_bad {n = n} {q = q} t e =
               let x = walked_bad weight_of_part _ (parts_run form (drop 3 s)) n q (sym t ∙ walked) in
-              e ∙ ap parts_fault t ∙ ap sheeted_of (sym (opened ∙ bind_not _ (ends form) n (3 + q) (after_not 3 _ n q x)))
+              e ∙ ap sheeted_of (sym (opened ∙ bind_not _ (ends form) n (3 + q) (after_not 3 _ n q x)))
+
+          -- as the code passes it on
+          pub check_stop : (y : Result walks.Walked Fault) → walked_by y ≡ w → {r : Result walks.Walked Fault} → r ≡ later 3 y → {d : Fault} → r ≡ Err d → Wrong (number d.refusal) d.place ≡ sheeted_of (unsheet s)
+          check_stop y ey er {d} t =
+              let (x, es, ed) = later_err 3 y (sym er ∙ t) in
+              check_bad (sym ey ∙ ap walked_by es) (ap (λ (e : Fault). Wrong (number e.refusal) e.place) (sym ed))
 
           module _ {z : Sizes} {c : ℕ} (t : w ≡ Good z c) where
             parts : Walk weight_of_part (λ p. bit_of (tag_of_part p)) (parts_run form (drop 3 s)) z c
@@ -166,25 +193,29 @@ module _ (s : List ℕ) where
             ended : unsheet s ≡ ends form parts.rs
             ended = opened ∙ bind_so _ (ends form) parts.rs (after_ok 3 _ parts.rs parts.ran)
 
-            -- v: no part is wanted, or there is one
-            module _ {v : Bool} (ev : v ≡ (not (eqb (get_or s 2 0) 1) || not (eqb z.rows 0))) where
-              some : v ≡ (not (is_alone form) || not (none? parts.rs.val))
-              some =
-                  let a : none? parts.rs.val ≡ eqb z.rows 0 = no_rows parts.rs.val ∙ ap (λ (y : Sizes). eqb y.rows 0) parts.weighs in
-                  ev ∙ sym (ap (λ x. not x || not (none? parts.rs.val)) (alone_is (eqb (get_or s 2 0) 1)) ∙ ap (λ x. not (eqb (get_or s 2 0) 1) || not x) a)
+            -- no part is wanted, or there is one
+            some : not (is_alone form) || not (none? parts.rs.val) ≡ not (eqb (get_or s 2 0) 1) || not (eqb z.rows 0)
+            some =
+                let a : none? parts.rs.val ≡ eqb z.rows 0 = no_rows parts.rs.val ∙ ap (λ (y : Sizes). eqb y.rows 0) parts.weighs in
+                ap (λ x. not x || not (none? parts.rs.val)) (alone_is (eqb (get_or s 2 0) 1)) ∙ ap (λ x. not (eqb (get_or s 2 0) 1) || not x) a
 
-              pub check_none : {r : Sheeted} → r ≡ Wrong 14 (length s) → v ≡ false → r ≡ sheeted_of (unsheet s)
-              check_none e tv =
-                  let x : unsheet s ≡ refused 14 (length s + 0) = ended ∙ bind_not _ _ 14 _ (after_not (length s) _ 14 0 (need_no _ 14 (sym some ∙ tv))) in
-                  e ∙ ap (Wrong 14) (sym (add-zero (length s))) ∙ ap sheeted_of (sym x)
+            pub check_none : {r : Sheeted} → r ≡ Wrong 14 (length s) → get_or s 2 0 ≡ 1 → z.rows ≡ 0 → r ≡ sheeted_of (unsheet s)
+            check_none e alone none =
+                let wanted : not (eqb (get_or s 2 0) 1) || not (eqb z.rows 0) ≡ false = rw (eq-eqb (get_or s 2 0) 1 alone, eq-eqb z.rows 0 none) in
+                let x : unsheet s ≡ refused 14 (length s + 0) = ended ∙ bind_not _ _ 14 _ (after_not (length s) _ 14 0 (need_no _ 14 (some ∙ wanted))) in
+                e ∙ ap (Wrong 14) (sym (add-zero (length s))) ∙ ap sheeted_of (sym x)
 
-              pub check_good : Bytes s → v ≡ true → Fine (eqb (get_or s 2 0) 1) z.normal z.inner ≡ sheeted_of (unsheet s)
-              check_good b tv =
-                  let u : Sheet = record { form = form; parts = parts.rs.val } in
-                  let x : unsheet s ≡ ok u = ended ∙ bind_so _ _ tt (after_ok (length s) _ tt (need_ok _ 14 (sym some ∙ tv))) in
-                  let valid = (sheet_says s u b x).1 in
-                  let n : length (flat_all flat_entry (map entry_of parts.rs.val)) ≡ z.normal
-                  = parts_normal parts.rs.val (no_seal form parts.rs.val valid.parts_valid.each) ∙ ap (λ (y : Sizes). y.normal) parts.weighs in
-                  let i : (total weight_of_part parts.rs.val).inner ≡ z.inner = ap (λ (y : Sizes). y.inner) parts.weighs in
-                  let y : sheeted_of (ok u) ≡ Fine (eqb (get_or s 2 0) 1) z.normal z.inner = λ j. Fine (alone_is (eqb (get_or s 2 0) 1) j) (n j) (i j) in
-                  sym (ap sheeted_of x ∙ y)
+            enough : ((get_or s 2 0 ≡ 1) × (z.rows ≡ 0 → ⊥)) ⊎ (get_or s 2 0 ≡ 1 → ⊥) → not (eqb (get_or s 2 0) 1) || not (eqb z.rows 0) ≡ true
+            enough (inl h) = ap (λ x. not (eqb (get_or s 2 0) 1) || not x) (ne_eqb z.rows 0 h.1) ∙ or_true (not (eqb (get_or s 2 0) 1))
+            enough (inr h) = ap (λ x. not x || not (eqb z.rows 0)) (ne_eqb (get_or s 2 0) 1 h)
+
+            pub check_good : Bytes s → ((get_or s 2 0 ≡ 1) × (z.rows ≡ 0 → ⊥)) ⊎ (get_or s 2 0 ≡ 1 → ⊥) → Fine (eqb (get_or s 2 0) 1) z.normal z.inner ≡ sheeted_of (unsheet s)
+            check_good b either =
+                let u : Sheet = record { form = form; parts = parts.rs.val } in
+                let x : unsheet s ≡ ok u = ended ∙ bind_so _ _ tt (after_ok (length s) _ tt (need_ok _ 14 (some ∙ enough either))) in
+                let valid = (sheet_says s u b x).1 in
+                let n : length (flat_all flat_entry (map entry_of parts.rs.val)) ≡ z.normal
+                = parts_normal parts.rs.val (no_seal form parts.rs.val valid.parts_valid.each) ∙ ap (λ (y : Sizes). y.normal) parts.weighs in
+                let i : (total weight_of_part parts.rs.val).inner ≡ z.inner = ap (λ (y : Sizes). y.inner) parts.weighs in
+                let y : sheeted_of (ok u) ≡ Fine (eqb (get_or s 2 0) 1) z.normal z.inner = λ j. Fine (alone_is (eqb (get_or s 2 0) 1) j) (n j) (i j) in
+                sym (ap sheeted_of x ∙ y)

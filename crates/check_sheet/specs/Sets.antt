@@ -2,12 +2,10 @@
 use Rattle.std.specs.Prelude.{◌≡◌, ℕ, ◌+◌, ◌≤◌, ◌<◌, true, List, length, drop}
 use Rattle.format.specs.Table.{Form}
 use Rattle.format.specs.Sheet.{TS, TG, is}
-use Rattle.items.specs.Meet.{glance_table}
 use Rattle.tally.specs.declared.stages.Stage.{Stage}
 use Rattle.tally_records.specs.Going.{RecordsFrom}
 
-pub record SetAsked (f : Form) (glances s : List ℕ) (q : Stage) : Type 0 where
-  pub glanced : glances ≡ glance_table
+pub record SetAsked (f : Form) (s : List ℕ) (q : Stage) : Type 0 where
   pub most : length s ≤ 65536
   pub going : RecordsFrom true f s q
 

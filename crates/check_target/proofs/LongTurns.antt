@@ -2,15 +2,15 @@
 use mathlib.Core.Path.{◌≡◌, refl, sym, ap, ◌∙◌}
 use Prim.Native.Nat.{ℕ, ◌+◌, ◌≤◌, ◌<◌}
 use native.Mathlib.Omega.{arith}
-use mathlib.Core.Bool.{true, false}
+use mathlib.Core.Bool.{Bool, true, false}
 use mathlib.Core.List.{List}
 use lib.ListN.{length, drop, length-drop}
 use lib.Bits.{bit_or}
 use Rattle.format.specs.Coding.{Bytes}
 use Rattle.format.specs.Table.{Form, pack}
 use Rattle.format.specs.Sheet.{TI, is}
-use Rattle.tally.specs.declared.Piece.{Piece}
-use Rattle.tally.specs.declared.Piece.TheVariants as piece
+use Rattle.tally.specs.Pieces.{Piece}
+use Rattle.tally.specs.Pieces as piece
 use Rattle.tally.specs.declared.Sizes.{Sizes}
 use Rattle.tally.specs.Meet.{no_sizes, item_sizes, plus_sizes, bit_of, Larger}
 use Rattle.tally.proofs.Turns.{turn_done, turn_over, turn_bad, turn_more}
@@ -19,9 +19,9 @@ use Rattle.tally_records.specs.Going.{RecordsGoing}
 use Rattle.tally_records.proofs.Opens.{part_next}
 use Rattle.tally_records.proofs.Parts.{part_fault, ValueStood, value_stood}
 use Rattle.tally_records.proofs.PartTurns.{PartReads, records_start, item_is_lem, told_item}
-use Rattle.check_target.specs.declared.Vals.{Vals}
-use Rattle.check_target.specs.declared.Vals.TheVariants as vals
-use Rattle.check_target.specs.Meet.{piece_fault, vals_of, ValsAs}
+use Rattle.check_target.specs.Vals.{Vals}
+use Rattle.check_target.specs.Vals as vals
+use Rattle.check_target.specs.Meet.{vals_of, ValsAs}
 use Rattle.check_target.proofs.Sums.{walk_bad, walk_short, walk_long}
 
 -- the walk, come to p, with the sizes of what was walked: as many bytes as were passed
@@ -39,19 +39,22 @@ module _ {f : Form} {s : List ℕ} {p held top low : ℕ} (b : Bytes s) (l : Lon
   long_done h e = walk_long f s b (turn_done l.going e).0 (omega (arith, l.passed, l.going.to)) h
 
   module _ (h : p < length s) where
-    -- at a record of another kind
-    pub long_over : is TI (drop p s) ≡ false → ValsAs (vals_of f s) (vals.Wrong 17)
-    long_over n = walk_short f s b (turn_over l.going h n).0 (λ e. omega (arith, l.passed, h, e))
+    -- at a record of another kind; x: a `TI` stands here
+    pub long_over : {x : Bool} → x ≡ is TI (drop p s) → x ≡ false → ValsAs (vals_of f s) (vals.Wrong 17)
+    long_over ex tx = walk_short f s b (turn_over l.going h (sym ex ∙ tx)).0 (λ e. omega (arith, l.passed, h, e))
 
     -- at a `TI` that was read
-    module _ (o : is TI (drop p s) ≡ true) {a : Piece} (ea : IsValue false f s p top low a) where
+    module _ {x : Bool} (ex : x ≡ is TI (drop p s)) (tx : x ≡ true) {a : Piece} (ea : IsValue false f s p top low a) where
+      o : is TI (drop p s) ≡ true
+      o = sym ex ∙ tx
+
       is_piece : a ≡ part_piece pack f l.going.seen (drop p s)
       is_piece = part_next false f l.going.seen (drop p s) {x = true} refl refl (ea l.going.seen l.going.past)
 
-      pub long_fault : {n : ℕ} → a ≡ piece.Fault n → {r : Vals} → r ≡ piece_fault a → ValsAs (vals_of f s) r
-      long_fault {n = n} t e =
+      pub long_fault : {n : ℕ} → a ≡ piece.Fault n → ValsAs (vals_of f s) (vals.Wrong n)
+      long_fault {n = n} t =
           let q = turn_bad l.going h o n 0 refl (part_fault f l.going.seen (drop p s) n false (sym t ∙ is_piece)) (omega arith) in
-          rw (e, t) (walk_bad f s b q.0)
+          walk_bad f s b q.0
 
       module _ {tag from size small : ℕ} (t : a ≡ piece.Whole tag from size small) where
         stood : ValueStood false f l.going.seen (drop p s) tag size

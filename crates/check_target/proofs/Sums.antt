@@ -16,15 +16,15 @@ use Rattle.format.specs.Sheet.{tag_of_val}
 use Rattle.format.specs.Calls.{item_of}
 use Rattle.items.proofs.Tests.{bind_so, bind_not, need_so, need_not}
 use Rattle.tally.specs.declared.Sizes.{Sizes}
-use Rattle.tally.specs.declared.Walked.{Walked}
-use Rattle.tally.specs.declared.Walked.TheVariants.{Good, Bad}
+use Rattle.tally.specs.Pieces.{Walked}
+use Rattle.tally.specs.Pieces.{Good, Bad}
 use Rattle.tally.specs.Meet.{bit_of}
 use Rattle.tally.proofs.Bits.{bits_map}
 use Rattle.tally.proofs.Totals.{vals_normal}
 use Rattle.tally_records.specs.Meet.{records_walk}
 use Rattle.tally_records.proofs.Runs.{ValsRun, vals_good, vals_bad, vals_used, slim_vals, vals_dense}
-use Rattle.check_target.specs.declared.Vals.{Vals}
-use Rattle.check_target.specs.declared.Vals.TheVariants as vals
+use Rattle.check_target.specs.Vals.{Vals}
+use Rattle.check_target.specs.Vals as vals
 use Rattle.check_target.specs.Meet.{walk_vals, vals_of, held_by, Measures, ValsAs}
 
 -- a size that is exact

@@ -17,9 +17,9 @@ use Rattle.coding.proofs.Rooms.{tail_part}
 use Rattle.items.proofs.Tests.{need_so, need_not}
 use Rattle.tally.proofs.Totals.{vals_normal, target_normal_lem}
 use Rattle.tally_records.proofs.Parts.{need_bind}
-use Rattle.check_target.specs.declared.Vals.{Vals}
-use Rattle.check_target.specs.declared.Vals.TheVariants as vals
-use Rattle.check_target.specs.declared.Told.TheVariants as told
+use Rattle.check_target.specs.Vals.{Vals}
+use Rattle.check_target.specs.Vals as vals
+use Rattle.check_target.specs.Tolds as told
 use Rattle.check_target.specs.Meet.{vals_of, Measures, ValsAs, ToldAs}
 
 -- a pack's bytes are measured where its items' are
@@ -38,22 +38,23 @@ module _ (f : Form) (r : List ℕ) where
       says : new_target f r ≡ refused 17 0
       says = unfold new_target in need_not _ _ _ e
 
-  pub target_unmarked : is TG r ≡ false → ToldAs (new_target f r) (told.Wrong 17)
-  target_unmarked m = unopened (rw m)
+  -- x: a `TG` stands there
+  pub target_unmarked : {x : Bool} → x ≡ is TG r → x ≡ false → ToldAs (new_target f r) (told.Wrong 17)
+  target_unmarked ex tx = let m : is TG r ≡ false = sym ex ∙ tx in unopened (rw m)
 
   pub target_cut : length r < 10 → ToldAs (new_target f r) (told.Wrong 17)
   target_cut h = go (is TG r) refl
     where
       go : (b : Bool) → is TG r ≡ b → ToldAs (new_target f r) (told.Wrong 17)
       go true m = unopened (rw (m, lt-leb 10 (length r) h))
-      go false m = target_unmarked m
+      go false m = target_unmarked refl m
 
-  module _ (ten : 10 ≤ length r) (mark : is TG r ≡ true) {i : ℕ} (ei : i ≡ bytes_number (take 8 (take (length r - 2) (drop 2 r)))) where
+  module _ (ten : 10 ≤ length r) {x : Bool} (ex : x ≡ is TG r) (tx : x ≡ true) {i : ℕ} (ei : i ≡ bytes_number (take 8 (take (length r - 2) (drop 2 r)))) where
     id_is : bytes_number (take 8 (drop 2 r)) ≡ i
     id_is = ap (λ t. bytes_number (take 8 t)) (sym (tail_part 2 r)) ∙ sym ei
 
     opens : is TG r && leb 10 (length r) ≡ true
-    opens = rw (mark, le-leb 10 (length r) ten)
+    opens = let mark : is TG r ≡ true = sym ex ∙ tx in rw (mark, le-leb 10 (length r) ten)
 
     pub target_high : 9223372036854775807 < i → ToldAs (new_target f r) (told.Wrong 17)
     target_high h = rw says

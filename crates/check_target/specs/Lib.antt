@@ -1,1 +1,3 @@
+pub mod Vals
+pub mod Tolds
 pub mod Meet

@@ -1,5 +1,5 @@
 -- Where the check of a new target's records meets document 02: what its answers mean.
-use Rattle.std.specs.Prelude.{◌≡◌, ℕ, ◌≤◌, ◌<◌, true, false, List, map, length, eqb}
+use Rattle.std.specs.Prelude.{◌≡◌, ℕ, Result, Ok, Err, ◌≤◌, ◌<◌, true, false, List, map, length, eqb}
 use Rattle.format.specs.Answer.{Ans, ok, refused, need, ◌>>=◌}
 use Rattle.format.specs.Lists.{flat_all}
 use Rattle.format.specs.Run.{run}
@@ -7,19 +7,25 @@ use Rattle.format.specs.Table.{Form, pack}
 use Rattle.format.specs.Packet.{flat_item, flat_pack}
 use Rattle.format.specs.Sheet.{Val, Target, tag_of_val, TI, is, value_at}
 use Rattle.format.specs.Calls.{item_of, pack_of}
-use Rattle.tally.specs.declared.Piece.{Piece}
-use Rattle.tally.specs.declared.Piece.TheVariants as piece
-use Rattle.tally.specs.declared.Walked.{Walked}
-use Rattle.tally.specs.declared.Walked.TheVariants.{Good, Bad}
+use Rattle.coding.specs.declared.refusals.Refusal.{Refusal}
+use Rattle.coding.specs.Refusals.{number}
+use Rattle.tally.specs.Pieces.{Walked, Good, Bad}
 use Rattle.tally.specs.Meet.{bits, bit_of}
-use Rattle.check_target.specs.declared.Vals.{Vals}
-use Rattle.check_target.specs.declared.Vals.TheVariants as vals
-use Rattle.check_target.specs.declared.Told.{Told}
-use Rattle.check_target.specs.declared.Told.TheVariants as told
+use Rattle.check_target.specs.declared.Vals as code
+use Rattle.check_target.specs.declared.Told as codes
+use Rattle.check_target.specs.Vals.{Vals}
+use Rattle.check_target.specs.Vals as vals
+use Rattle.check_target.specs.Tolds.{Told}
+use Rattle.check_target.specs.Tolds as told
 
-abbrev pub piece_fault : Piece → Vals
-piece_fault (piece.Whole t f n s) = vals.Wrong 0
-piece_fault (piece.Fault n) = vals.Wrong n
+-- as the code has them
+abbrev pub vals_told : Result code.Vals Refusal → Vals
+vals_told (Ok v) = vals.Fine v.held v.normal
+vals_told (Err r) = vals.Wrong (number r)
+
+abbrev pub target_told : Result codes.Told Refusal → Told
+target_told (Ok t) = told.Fine t.id t.held t.size
+target_told (Err r) = told.Wrong (number r)
 
 -- what a walk over records of so many bytes says of them all
 abbrev pub walk_vals : Walked → ℕ → Vals

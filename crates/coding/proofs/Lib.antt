@@ -6,3 +6,4 @@ pub mod TheKey
 pub mod Sums
 pub mod Counts
 pub mod Alikes
+pub mod Tried

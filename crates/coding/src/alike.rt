@@ -18,10 +18,8 @@ fn some_alike(masks: &[u8], a: &[u8], b: &[u8]) -> bool
     ensures { result ≡ true → AlikeTo masks.now a.now b.now 32 }
 {
     let mut alike = true;
-    let mut i: usize = 0;
-    while i < 32 {
+    for i in 0..32 {
         alike = super::both(alike, is_alike(masks[i], a[i], b[i]));
-        i += 1;
     }
     alike
 }
@@ -65,10 +63,8 @@ pub fn mask_item(masks: &mut [u8; 160], p: usize, k: usize, first: u8)
     requires { (p + k < 160) × (length masks.old ≡ 160) }
     ensures { ItemMasked masks.old masks.new p k first }
 {
-    let mut i: usize = 0;
-    while i < k {
+    for i in 0..k {
         masks[p + i] = 2;
-        i += 1;
     }
     masks[p + k] = first;
 }

@@ -5,13 +5,18 @@ ghost use Rattle.std.specs.Prelude.{◌≡◌, ◌+◌, ◌-◌, ◌*◌, ◌%�
 ghost use Rattle.format.specs.Coding.{bytes_number, len_of, oid_go, oid, tag_of, id_of};
 ghost use Rattle.format.specs.Lists.{same};
 ghost use Rattle.format.specs.Packet.{the_key, checksum};
+ghost use Rattle.coding.specs.Refusals.{number};
 ghost use Rattle.coding.specs.Code.{num_of, LenIf};
 
-// A value and how many bytes it took; or the number of a refusal, which stands where the reading began.
-#[derive(Clone, Copy)]
-pub enum Num {
-    Value { value: u64, used: usize },
-    Refused(u64),
+pub mod refusals; // refusals.rt: why something is refused, and where
+
+use refusals::Refusal;
+
+// A value and how many bytes it took.
+#[derive(Clone, Copy, Debug, PartialEq, Eq)]
+pub struct Spelled {
+    pub value: u64,
+    pub used: usize,
 }
 
 // A byte as a number.
@@ -27,10 +32,8 @@ pub fn number_of(s: &[u8], k: usize) -> u64
     ensures { result ≡ bytes_number (take k s.now) }
 {
     let mut n: u64 = 0;
-    let mut i: usize = 0;
-    while i < k {
-        n = n * 256 + wide(s[i]);
-        i += 1;
+    for b in &s[..k] {
+        n = n * 256 + wide(*b);
     }
     n
 }
@@ -44,46 +47,46 @@ pub fn eight_of(s: &[u8]) -> u64
 }
 
 // The length at the start of s.
-pub fn len_of(s: &[u8]) -> Num
+pub fn len_of(s: &[u8]) -> Result<Spelled, Refusal>
     ensures { num_of result ≡ len_of s.now }
 {
     if s.len() == 0 {
-        return Num::Refused(3);
+        return Err(Refusal::CutOff);
     }
     let b = wide(s[0]);
     if b < 128 {
-        return Num::Value { value: b, used: 1 };
+        return Ok(Spelled { value: b, used: 1 });
     }
     let k = (b - 128) as usize;
     if k == 0 {
-        return Num::Refused(5);
+        return Err(Refusal::BadLength);
     }
     if 4 < k {
-        return Num::Refused(5);
+        return Err(Refusal::BadLength);
     }
     if s.len() - 1 < k {
-        return Num::Refused(3);
+        return Err(Refusal::CutOff);
     }
     let value = number_of(&s[1..], k);
-    Num::Value { value, used: k + 1 }
+    Ok(Spelled { value, used: k + 1 })
 }
 
-// The same for a length in one byte or two, with no loop over its bytes. It knows neither longer ones nor any refusal: one says nothing.
-pub fn closer_len(s: &[u8]) -> Num
+// The same for a length in one byte or two, with no loop over its bytes. It knows neither longer ones nor any refusal: `None` says nothing.
+pub fn closer_len(s: &[u8]) -> Option<Spelled>
     ensures { LenIf result s.now }
 {
     if s.len() < 2 {
-        return Num::Refused(0);
+        return None;
     }
     let b = wide(s[0]);
     if b < 128 {
-        return Num::Value { value: b, used: 1 };
+        return Some(Spelled { value: b, used: 1 });
     }
     if b != 129 {
-        return Num::Refused(0);
+        return None;
     }
     let value = wide(s[1]);
-    Num::Value { value, used: 2 }
+    Some(Spelled { value, used: 2 })
 }
 
 // Seven bits more at the low end.
@@ -103,63 +106,55 @@ pub fn two7(a: u64, b: u64) -> u64
 }
 
 // The bytes of a tag or an id: k at most, the last without its high bit.
-fn oid_bytes(s: &[u8], k: usize, bad: u64) -> Num
+fn oid_bytes(s: &[u8], k: usize, bad: Refusal) -> Result<Spelled, Refusal>
     requires { k ≤ 9 }
-    ensures { num_of result ≡ oid_go k bad 0 0 s.now }
+    ensures { num_of result ≡ oid_go k (number bad) 0 0 s.now }
 {
     let mut v: u64 = 0;
-    let mut i: usize = 0;
-    while i < k {
+    for i in 0..k {
         if s.len() <= i {
-            return Num::Refused(3);
+            return Err(Refusal::CutOff);
         }
         let b = wide(s[i]);
         v = push7(v, b);
         if b < 128 {
-            return Num::Value {
+            return Ok(Spelled {
                 value: v,
                 used: i + 1,
-            };
+            });
         }
-        i += 1;
     }
-    Num::Refused(bad)
+    Err(bad)
 }
 
 // A first byte of 80 is refused.
-fn oid_of(s: &[u8], k: usize, bad: u64) -> Num
+fn oid_of(s: &[u8], k: usize, bad: Refusal) -> Result<Spelled, Refusal>
     requires { k ≤ 9 }
-    ensures { num_of result ≡ oid k bad s.now }
+    ensures { num_of result ≡ oid k (number bad) s.now }
 {
-    let a = oid_bytes(s, k, bad);
-    let Num::Value { value, used } = a else {
-        return a;
-    };
+    let oid = oid_bytes(s, k, bad)?;
     if s[0] == 128 {
-        return Num::Refused(bad);
+        return Err(bad);
     }
-    Num::Value { value, used }
+    Ok(oid)
 }
 
 // The tag at the start of s.
-pub fn tag_of(s: &[u8]) -> Num
+pub fn tag_of(s: &[u8]) -> Result<Spelled, Refusal>
     ensures { num_of result ≡ tag_of s.now }
 {
-    let a = oid_of(s, 2, 4);
-    let Num::Value { value, used } = a else {
-        return a;
-    };
-    if value == 0 {
-        return Num::Refused(4);
+    let tag = oid_of(s, 2, Refusal::BadTag)?;
+    if tag.value == 0 {
+        return Err(Refusal::BadTag);
     }
-    Num::Value { value, used }
+    Ok(tag)
 }
 
 // The id at the start of s.
-pub fn id_of(s: &[u8]) -> Num
+pub fn id_of(s: &[u8]) -> Result<Spelled, Refusal>
     ensures { num_of result ≡ id_of s.now }
 {
-    oid_of(s, 9, 8)
+    oid_of(s, 9, Refusal::BadId)
 }
 
 const KEY: [u8; 16] = [6, 14, 43, 52, 2, 11, 1, 1, 14, 1, 3, 3, 6, 0, 0, 0];
@@ -192,10 +187,8 @@ pub fn has_key(s: &[u8]) -> bool
         return false;
     }
     let mut alike = true;
-    let mut i: usize = 0;
-    while i < 16 {
+    for i in 0..16 {
         alike = both(alike, s[i] == KEY[i]);
-        i += 1;
     }
     alike
 }
@@ -207,13 +200,11 @@ pub fn sum_of(s: &[u8], n: usize) -> u64
     ensures { result ≡ checksum (take n s.now) }
 {
     let mut t: u16 = 0;
-    let mut i: usize = 0;
-    while i < n {
+    for i in 0..n {
         let weight = 256 - 255 * ((i % 2) as u16);
-        t = std::num::wrapping_add_u16(t, (s[i] as u16) * weight);
-        i += 1;
+        t = t.wrapping_add(u16::from(s[i]) * weight);
     }
-    t as u64
+    u64::from(t)
 }
 
 pub mod widths; // widths.rt: how many bytes what is coded takes

@@ -12,8 +12,8 @@ use Rattle.format.specs.Room.{leaves}
 use Rattle.format.specs.Edit.{Holder, Changes, edit_entries, edit}
 use Rattle.items.specs.Meet.{level_of}
 use Rattle.items.proofs.Tests.{bind_so, bind_not}
-use Rattle.check_packet.specs.declared.Checked.{Checked}
-use Rattle.check_packet.specs.declared.Checked.TheVariants.{Wrong}
+use Rattle.check_packet.specs.Checks.{Checked}
+use Rattle.check_packet.specs.Checks.{Wrong}
 use Rattle.check_packet.specs.Meet.{checked_of}
 use Rattle.check_packet.proofs.Parsing.{wrong_parsed}
 use Rattle.find.specs.Places.{holder_of, kept_of}
@@ -21,7 +21,7 @@ use Rattle.edit_rules.specs.declared.Cuts.{Cuts}
 use Rattle.edit_rules.specs.Meet.{set_edited, Stops, Passes}
 use Rattle.edit_rules.specs.Cuts.{Cutting, cut_bytes}
 use Rattle.edit_rules.proofs.Callers.{long_low, long_high}
-use Rattle.answers.specs.declared.Answer.{Answer}
+use Rattle.answers.specs.Meet.{Answer}
 use Rattle.answers.specs.Meet.{left_of, answer_of, refusal_of}
 use Rattle.answers.proofs.Leaving.{left_refused}
 use Rattle.answers.proofs.Entries.{entries_over}

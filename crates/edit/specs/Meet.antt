@@ -9,7 +9,7 @@ use Rattle.format.specs.Room.{leaves}
 use Rattle.edit_rules.specs.declared.Cuts.{Cuts}
 use Rattle.edit_rules.specs.Meet.{set_edited}
 use Rattle.edit_rules.specs.Cuts.{cut_bytes}
-use Rattle.answers.specs.declared.Answer.{Answer}
+use Rattle.answers.specs.Meet.{Answer}
 use Rattle.answers.specs.Meet.{left_of}
 
 -- there are entries that lie flat as the set's bytes with what the cuts put

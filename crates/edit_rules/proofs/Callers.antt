@@ -19,8 +19,8 @@ use Rattle.format.proofs.Sheets.Content.{content_valid}
 use Rattle.items.proofs.Tests.{bind_so}
 use Rattle.tally.specs.declared.Sizes.{Sizes}
 use Rattle.tally.proofs.Parsed.{Parsed}
-use Rattle.check_packet.specs.declared.Checked.{Checked}
-use Rattle.check_packet.specs.declared.Checked.TheVariants.{Fine}
+use Rattle.check_packet.specs.Checks.{Checked}
+use Rattle.check_packet.specs.Checks.{Fine}
 use Rattle.check_packet.specs.Meet.{checked_of}
 use Rattle.check_packet.proofs.Opened.{fine, opened, lent_set, lent_is}
 use Rattle.find.specs.declared.Place.{Place}

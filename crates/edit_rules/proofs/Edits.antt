@@ -29,8 +29,7 @@ use Rattle.edit_rules.specs.declared.Change as told
 use Rattle.edit_rules.specs.declared.Cut.{Cut}
 use Rattle.edit_rules.specs.declared.Cuts.{Cuts}
 use Rattle.edit_rules.specs.declared.two.Judged.{Judged}
-use Rattle.edit_rules.specs.declared.two.Judged.TheVariants.{Fine, Wrong}
-use Rattle.edit_rules.specs.Meet.{change_of, one_of, edited_of, short_of, item_bytes, cut_of, TurnAt, cuts_of, in_order}
+use Rattle.edit_rules.specs.Meet.{change_of, one_of, edited_of, short_of, item_bytes, cut_of, TurnAt, cuts_of, judged, in_order}
 use Rattle.edit_rules.specs.Cuts.{item_put, with_two, no_cut, one_cut, low_of, Cutting, cut_bytes}
 use Rattle.edit_rules.proofs.Levels.{has_spot, alone, made_bytes, one_swap, two_swapped, Two}
 use Rattle.edit_rules.proofs.Items.{put_is, cut_says, no_cut_says}
@@ -104,13 +103,12 @@ CutAt f b id cs s k v w = Cutting (level_of b) s k v w × (edited_of f (holder_o
 
 -- of a target, the lower first
 abbrev pub CutIf : Form → ℕ → Changes → List ℕ → List ℕ → List ℕ → Judged → Type 0
-CutIf f id cs s v w (Fine k t) = CutAt f false id cs s k (low_of t v w) (low_of t w v)
-CutIf f id cs s v w (Wrong n) = Unit {0}
+CutIf f id cs s v w j = CutAt f false id cs s j.cuts (low_of j.turned v w) (low_of j.turned w v)
 
-pub as_asked : (p : Place) (x y : Cut) → ltb y.at x.at ≡ false → in_order p x y ≡ Fine (cuts_of p x y) false
+pub as_asked : (p : Place) (x y : Cut) → ltb y.at x.at ≡ false → in_order p x y ≡ judged (cuts_of p x y) false
 as_asked p x y e = rw (e, in_order)
 
-pub turned_round : (p : Place) (x y : Cut) → ltb y.at x.at ≡ true → in_order p x y ≡ Fine (cuts_of p y x) true
+pub turned_round : (p : Place) (x y : Cut) → ltb y.at x.at ≡ true → in_order p x y ≡ judged (cuts_of p y x) true
 turned_round p x y e = rw (e, in_order)
 
 -- ---- by the place

@@ -5,13 +5,16 @@ use native.Mathlib.Omega.{arith}
 use mathlib.Core.Bool.{Bool, true, false, not, ◌||◌}
 use mathlib.Core.List.{List}
 use lib.Dec.{eqb, ltb}
-use borrow.Author.Tests.{eqb-true, eq-eqb, ne_eqb, not-true, not-false}
+use borrow.Author.Tests.{eqb-true, not-true, not-false}
+use Rattle.std.specs.Prelude.{Result, Err}
 use Rattle.format.specs.Answer.{ok, refused, need}
 use Rattle.format.specs.Lists.{has}
 use Rattle.format.specs.Table.{Form, Level, embedded, standalone, is_alone, alike, ended}
 use Rattle.format.specs.Edit.{ending}
 use Rattle.format.proofs.Words.Answers.{no_bool, need_then, need_last}
-use Rattle.items.specs.Meet.{form_of, level_of, answer_of}
+use Rattle.coding.specs.declared.refusals.Refusal.{Refusal}
+use Rattle.coding.specs.declared.refusals.Refusal.TheVariants.{HalfCentroid}
+use Rattle.items.specs.Meet.{form_of, level_of, answered}
 use Rattle.items.proofs.Tests.{need_so, need_not}
 use Rattle.edit_rules.specs.declared.Cut.{Cut}
 use Rattle.edit_rules.specs.Meet.{left_by, pair_of, parted_by, lost_by, EndsAs}
@@ -25,20 +28,11 @@ alike_self : (x : Bool) → alike x x ≡ true
 alike_self true = refl
 alike_self false = refl
 
-not_not : (x : Bool) → not (not x) ≡ x
-not_not true = refl
-not_not false = refl
-
 -- a tag that is not cut
 untouched : (c : Cut) (k : ℕ) (x : Bool) → eqb c.tag k ≡ false → left_by c k x ≡ x
 untouched c k x e = rw (e, left_by)
 
 -- ---- 14
-
-lost_need : (x : Bool) → answer_of (elim x [ true ↦ 0 | false ↦ 14 ]) ≡ need x 14
-unfolding need
-lost_need true = refl
-lost_need false = refl
 
 -- what stood, and so stands by the cuts
 stood_so : (f : Form) (stood : Bool) (g : Bool → Bool) → not (is_alone f) || stood ≡ true → not (is_alone f) || g true ≡ not (is_alone f) || g stood
@@ -46,10 +40,9 @@ stood_so embedded stood g e = refl
 stood_so standalone stood g e = ap g (sym e)
 
 module _ (f : Form) (a b : Cut) (tags left : List ℕ) (by : (k : ℕ) → 0 < k → has k left ≡ left_by b k (left_by a k (has k tags))) where
-  lost_is : (k : ℕ) → 0 < k → not (is_alone f) || has k tags ≡ true → answer_of (lost_by f a b k) ≡ need (not (is_alone f) || has k left) 14
+  lost_is : (k : ℕ) → 0 < k → not (is_alone f) || has k tags ≡ true → lost_by f a b k ≡ need (not (is_alone f) || has k left) 14
   lost_is k l e =
-      lost_need (not (is_alone f) || left_by b k (left_by a k true))
-      ∙ ap (λ x. need x 14) (stood_so f (has k tags) (λ x. left_by b k (left_by a k x)) e ∙ ap (λ x. not (is_alone f) || x) (sym (by k l)))
+      ap (λ x. need x 14) (stood_so f (has k tags) (λ x. left_by b k (left_by a k x)) e ∙ ap (λ x. not (is_alone f) || x) (sym (by k l)))
 
   -- ---- 20
 
@@ -90,7 +83,7 @@ module _ (f : Form) (a b : Cut) (tags left : List ℕ) (by : (k : ℕ) → 0 < k
         go false x false ey false ez false eu = neither x ey ez eu
 
     -- 14 after 20
-    pack_ends : not (is_alone f) || has 17 tags ≡ true → (parted_by a b ≡ true → refused 20 0 ≡ ended f left) × (parted_by a b ≡ false → answer_of (lost_by f a b 17) ≡ ended f left)
+    pack_ends : not (is_alone f) || has 17 tags ≡ true → (parted_by a b ≡ true → refused 20 0 ≡ ended f left) × (parted_by a b ≡ false → lost_by f a b 17 ≡ ended f left)
     unfolding ended
     pack_ends e = (
       λ z. sym (need_not _ _ _ (not-true _ (sym parted_is ∙ z))),
@@ -104,52 +97,35 @@ unfolding ended
 stood_pack f tags e = need_then _ _ _ _ e λ p e₁. (alike_same (has 19 tags) (has 20 tags) p, need_last _ _ _ e₁)
 
 module _ (f : Form) (a b : Cut) where
-  pub set_end : {b' : Bool} → b' ≡ true → {n : ℕ} → n ≡ lost_by f a b 2 → EndsAs f (level_of b') a b n
+  pub set_end : {b' : Bool} → b' ≡ true → (r : Result (Unit {0}) Refusal) → answered r ≡ lost_by f a b 2 → EndsAs f (level_of b') a b r
   unfolding ending
-  set_end eb en tags left st sa sb by = rw eb (ap answer_of en ∙ lost_is f a b tags left by 2 (omega arith) (need_last _ _ _ (rw eb at st)))
+  set_end eb r er tags left st sa sb by = rw eb (er ∙ lost_is f a b tags left by 2 (omega arith) (need_last _ _ _ (rw eb at st)))
 
   module _ {b' : Bool} (eb : b' ≡ false) {x : Bool} (ex : x ≡ parted_by a b) where
-    pub pack_parts : x ≡ true → EndsAs f (level_of b') a b 20
+    pub pack_parts : x ≡ true → EndsAs f (level_of b') a b (Err HalfCentroid)
     unfolding ending
     pack_parts z tags left st sa sb by = let (e, l) = stood_pack f tags (rw eb at st) in rw eb ((pack_ends f a b tags left by e sa sb l).0 (sym ex ∙ z))
 
-    pub pack_stays : x ≡ false → {n : ℕ} → n ≡ lost_by f a b 17 → EndsAs f (level_of b') a b n
+    pub pack_stays : x ≡ false → (r : Result (Unit {0}) Refusal) → answered r ≡ lost_by f a b 17 → EndsAs f (level_of b') a b r
     unfolding ending
-    pack_stays z en tags left st sa sb by = let (e, l) = stood_pack f tags (rw eb at st) in rw eb (ap answer_of en ∙ (pack_ends f a b tags left by e sa sb l).1 (sym ex ∙ z))
+    pack_stays z r er tags left st sa sb by = let (e, l) = stood_pack f tags (rw eb at st) in rw eb (er ∙ (pack_ends f a b tags left by e sa sb l).1 (sym ex ∙ z))
 
 -- by cuts that are these
-pub ends_by : (f : Form) (l : Level) (n : ℕ) {a a' b b' : Cut} → a ≡ a' → b ≡ b' → EndsAs f l a b n → EndsAs f l a' b' n
-ends_by f l n {a = a} {b' = b'} ea eb e = subst (λ x. EndsAs f l x b' n) ea (subst (λ y. EndsAs f l a y n) eb e)
+pub ends_by : (f : Form) (l : Level) (r : Result (Unit {0}) Refusal) {a a' b b' : Cut} → a ≡ a' → b ≡ b' → EndsAs f l a b r → EndsAs f l a' b' r
+ends_by f l r {a = a} {b' = b'} ea eb e = subst (λ x. EndsAs f l x b' r) ea (subst (λ y. EndsAs f l a y r) eb e)
 
 -- ---- as the code asks it
 
-module _ (a b : Cut) where
-  pub pair_19 : a.tag ≡ 19 → ltb a.at a.next ≡ pair_of a b
-  pair_19 e = rw (eq-eqb _ _ e, pair_of)
+module _ (a b : Cut) (tag : ℕ) (alone : Bool) where
+  pub lost_none : alone ≡ false → ok tt ≡ lost_by (form_of alone) a b tag
+  unfolding need
+  lost_none e = rw e
 
-  pub pair_20 : (a.tag ≡ 19 → ⊥) → a.tag ≡ 20 → ltb a.at a.next ≡ pair_of a b
-  pair_20 n e = rw (ne_eqb _ _ n, eq-eqb _ _ e, pair_of)
+  module _ (e : alone ≡ true) {x : Bool} (ex : x ≡ left_by a tag true) {y : Bool} (ey : y ≡ left_by b tag x) where
+    pub lost_kept : y ≡ true → ok tt ≡ lost_by (form_of alone) a b tag
+    unfolding need
+    lost_kept z = rw e (ap (λ w. need w 14) (sym z ∙ ey ∙ ap (left_by b tag) ex))
 
-  pub pair_other : (a.tag ≡ 19 → ⊥) → (a.tag ≡ 20 → ⊥) → ltb b.at b.next ≡ pair_of a b
-  pair_other n m = rw (ne_eqb _ _ n, ne_eqb _ _ m, pair_of)
-
-  module _ {x : Bool} (ex : x ≡ pair_of a b) {r₁ : Bool} (e₁ : r₁ ≡ left_by a 19 x) {r : Bool} (er : r ≡ left_by b 19 r₁) {c₁ : Bool} (d₁ : c₁ ≡ left_by a 20 x) {c : Bool} (ec : c ≡ left_by b 20 c₁) where
-    parted_so : not (alike r c) ≡ parted_by a b
-    parted_so = rw (er, e₁, ec, d₁, ex)
-
-    pub parted_row : r ≡ true → not c ≡ parted_by a b
-    parted_row z = ap (λ y. not (alike y c)) (sym z) ∙ parted_so
-
-    pub parted_column : r ≡ false → c ≡ parted_by a b
-    parted_column z = sym (not_not c) ∙ ap (λ y. not (alike y c)) (sym z) ∙ parted_so
-
-  module _ (tag : ℕ) (alone : Bool) where
-    pub lost_none : alone ≡ false → 0 ≡ lost_by (form_of alone) a b tag
-    lost_none e = rw e
-
-    module _ (e : alone ≡ true) {x : Bool} (ex : x ≡ left_by a tag true) {y : Bool} (ey : y ≡ left_by b tag x) where
-      pub lost_kept : y ≡ true → 0 ≡ lost_by (form_of alone) a b tag
-      lost_kept z = rw e (ap (λ w. elim w [ true ↦ 0 | false ↦ 14 ]) (sym z ∙ ey ∙ ap (left_by b tag) ex))
-
-      pub lost_gone : y ≡ false → 14 ≡ lost_by (form_of alone) a b tag
-      lost_gone z = rw e (ap (λ w. elim w [ true ↦ 0 | false ↦ 14 ]) (sym z ∙ ey ∙ ap (left_by b tag) ex))
+    pub lost_gone : y ≡ false → refused 14 0 ≡ lost_by (form_of alone) a b tag
+    unfolding need
+    lost_gone z = rw e (ap (λ w. need w 14) (sym z ∙ ey ∙ ap (left_by b tag) ex))

@@ -1,11 +1,12 @@
 -- The rules of an edit of one or two changes: each in its turn, then what is left of the level.
 use mathlib.Core.Path.{◌≡◌, refl, sym, ap, ◌∙◌, subst}
-use Prim.Native.Nat.{ℕ, zero, suc, ◌<◌}
+use Prim.Native.Nat.{ℕ, ◌<◌}
 use native.Mathlib.Omega.{arith}
 use mathlib.Core.Bool.{Bool, true, false, not, ◌&&◌, ◌||◌}
 use mathlib.Core.List.{List, [], ◌∷◌, map}
-use lib.Dec.{eqb, ltb}
+use lib.Dec.{eqb}
 use borrow.Author.Tests.{eq-eqb, ne_eqb}
+use Rattle.std.specs.Prelude.{Result, Ok, Err}
 use Rattle.format.specs.Answer.{Ans, ok, refused, need, ◌>>=◌}
 use Rattle.format.specs.Coding.{Bytes}
 use Rattle.format.specs.Lists.{has}
@@ -18,23 +19,22 @@ use Rattle.format.specs.Valid.{Once, SheetValid}
 use Rattle.format.proofs.Words.Answers.{ok_inj}
 use Rattle.format.proofs.Words.Changes.{changed_keys, is_put, once_changed, has_other, has_changed}
 use Rattle.format.proofs.Edits.Levels.{level_valid}
-use Rattle.items.specs.Meet.{level_of, answer_of}
+use Rattle.coding.specs.declared.refusals.Refusal.{Refusal}
+use Rattle.coding.specs.declared.refusals.Refusal.TheVariants.{NotEditable}
+use Rattle.coding.specs.Refusals.{number}
+use Rattle.items.specs.Meet.{level_of, answered}
 use Rattle.items.proofs.Tests.{bind_so, bind_not, need_so, need_not}
 use Rattle.find.specs.declared.Place.{Place}
 use Rattle.find.specs.Places.{holder_of, SetOf, kept_of}
 use Rattle.edit_rules.specs.declared.Change as told
-use Rattle.edit_rules.specs.declared.Cut.{Cut}
 use Rattle.edit_rules.specs.declared.Asked.{Asked}
-use Rattle.edit_rules.specs.declared.Valued.TheVariants.{Size, Fault}
 use Rattle.edit_rules.specs.declared.one.Judged as One
-use Rattle.edit_rules.specs.declared.one.Judged.TheVariants as one
 use Rattle.edit_rules.specs.declared.two.Judged as Two
-use Rattle.edit_rules.specs.declared.two.Judged.TheVariants as two
 use Rattle.edit_rules.specs.Cuts.{no_cut}
 use Rattle.edit_rules.specs.Meet.{change_of, one_of, two_of, sheet_of, cut_of, turn_rules, TurnAt, TurnStops, left_by, EndsAs, Stops, OneAs, ended_one, LeftAs, TwoAs, in_order, SetStops, TurnedAs}
 use Rattle.edit_rules.proofs.Sets.{set_tags}
-use Rattle.edit_rules.proofs.Edits.{CutIf, as_asked, turned_round, one_cut_lem, two_cuts}
-use Rattle.edit_rules.proofs.Rules.{number, turn_is, unnamed}
+use Rattle.edit_rules.proofs.Edits.{one_cut_lem, two_cuts}
+use Rattle.edit_rules.proofs.Rules.{turn_is, unnamed}
 
 pub level_is : (b : Bool) (id : ℕ) → Edit.level_of (holder_of b id) ≡ level_of b
 level_is true id = refl
@@ -146,7 +146,7 @@ module _ (f : Form) (b : Bool) (id : ℕ) (c d : told.Change) (v w s : List ℕ)
 
   -- ---- the end
 
-  module _ {p : Place} {m : ℕ} (t : TurnAt f b id c v s p m) (sv : SheetValid (sheet_of f s)) (n : ℕ) where
+  module _ {p : Place} {m : ℕ} (t : TurnAt f b id c v s p m) (sv : SheetValid (sheet_of f s)) (n : Result (Unit {0}) Refusal) where
     once : Once t.tags
     once = (level_valid h (sheet_of f s) t.tags sv t.tags_are).0
 
@@ -159,14 +159,14 @@ module _ (f : Form) (b : Bool) (id : ℕ) (c d : told.Change) (v w s : List ℕ)
     right : (cs : Changes) → turns f h [] (one_of c v ∷ cs) at ≡ turns f h (c.tag ∷ []) cs (ok left)
     right = first_right t.tags t.tags_are t.named t.ruled
 
-    pub one_ends : (a : ℕ) → EndsAs f (level_of b) (cut_of c p m) (no_cut a) n → answer_of n ≡ edit_rules (holder_of b id) (one_of c v ∷ []) (sheet_of f s)
+    pub one_ends : (a : ℕ) → EndsAs f (level_of b) (cut_of c p m) (no_cut a) n → answered n ≡ edit_rules (holder_of b id) (one_of c v ∷ []) (sheet_of f s)
     unfolding edit_rules turns
     one_ends a e =
         e t.tags left stood (λ _. t.stands) (λ l. absurd (omega (arith, l))) (λ j l. left_is c v p m j t.tags once ∙ sym (left_none a j (left_by (cut_of c p m) j (has j t.tags)) l))
         ∙ ap (λ l. ending f l left) (sym (level_is b id)) ∙ sym (bind_so _ _ left (right []))
 
     pub two_ends : {p' : Place} {m' : ℕ} → TurnAt f b id d w s p' m' → may_follow (holder_of b id) (c.tag ∷ []) d.tag ≡ true → eqb c.tag d.tag ≡ false
-        → EndsAs f (level_of b) (cut_of c p m) (cut_of d p' m') n → answer_of n ≡ edit_rules (holder_of b id) (two_of c d v w) (sheet_of f s)
+        → EndsAs f (level_of b) (cut_of c p m) (cut_of d p' m') n → answered n ≡ edit_rules (holder_of b id) (two_of c d v w) (sheet_of f s)
     unfolding edit_rules turns
     two_ends {p' = p'} {m' = m'} t' y o e =
         let g = change_of d.removal w in
@@ -182,26 +182,18 @@ module _ (f : Form) (b : Bool) (id : ℕ) (c d : told.Change) (v w s : List ℕ)
 
 -- ---- one change
 
-pub one_stops : (f : Form) (a : Asked) (v s : List ℕ) (n : ℕ) → TurnStops f a.set a.id a.change v s n → OneAs f a v s (one.Wrong n)
-one_stops f a v s n e = first_wrong f a.set a.id a.change a.change v v s [] n e
-
-pub ended_fine : {n : ℕ} → n ≡ 0 → (p : Place) (m : ℕ) → one.Fine p m ≡ ended_one n p m
-ended_fine {n = zero} e p m = refl
-ended_fine {n = suc n} e p m = absurd (omega (arith, e))
-
-pub ended_wrong : {n : ℕ} → (n ≡ 0 → ⊥) → (p : Place) (m : ℕ) → one.Wrong n ≡ ended_one n p m
-ended_wrong {n = zero} e p m = absurd (e refl)
-ended_wrong {n = suc n} e p m = refl
+pub one_stops : (f : Form) (a : Asked) (v s : List ℕ) (x : Refusal) → TurnStops f a.set a.id a.change v s (number x) → OneAs f a v s (Err x)
+one_stops f a v s x e = first_wrong f a.set a.id a.change a.change v v s [] (number x) e
 
 pub one_left : (f : Form) (a : Asked) (v s : List ℕ) → Bytes s → SetOf f s → SheetValid (sheet_of f s) → {p : Place} {m : ℕ} → TurnAt f a.set a.id a.change v s p m
-    → {r : One.Judged} → LeftAs f a p m r → OneAs f a v s r
+    → {r : Result One.Judged Refusal} → LeftAs f a p m r → OneAs f a v s r
 one_left f a v s hb k sv {p = p} {m = m} t (n, en, e) = subst (OneAs f a v s) (sym e) (go n en)
   where
-    go : (n : ℕ) → EndsAs f (level_of a.set) (cut_of a.change p m) (no_cut p.next) n → OneAs f a v s (ended_one n p m)
-    go zero en =
+    go : (n : Result (Unit {0}) Refusal) → EndsAs f (level_of a.set) (cut_of a.change p m) (no_cut p.next) n → OneAs f a v s (ended_one n p m)
+    go (Ok u) en =
         let (q, r) = one_cut_lem f s hb k a.set a.id a.change v p t in
-        record { passed = sym (one_ends f a.set a.id a.change a.change v v s t sv 0 p.next en); cutting = q; edited = r }
-    go (suc n) en = sym (one_ends f a.set a.id a.change a.change v v s t sv (suc n) p.next en)
+        record { passed = sym (one_ends f a.set a.id a.change a.change v v s t sv (Ok u) p.next en); cutting = q; edited = r }
+    go (Err x) en = sym (one_ends f a.set a.id a.change a.change v v s t sv (Err x) p.next en)
 
 -- ---- two changes of the set
 
@@ -211,11 +203,11 @@ module _ (f : Form) (c : told.Change) (v s : List ℕ) where
 
   -- the tag stands in it, or not
   module _ (n : nameable set c.tag ≡ true) {stands : Bool} (st : has c.tag (map tag_of_entry (kept_of f s)) ≡ stands) where
-    pub set_first : (j : ℕ) → TurnedAs f set c v stands (Fault j) → SetStops f c v s j
-    set_first j q id d w =
-        first_wrong f true id c d v w s (one_of d w ∷ []) j (turn_is f set c.tag (change_of c.removal v) n _ (set_tags (kept_of f s)) ∙ sym (q _ st))
+    pub set_first : (x : Refusal) → TurnedAs f set c v stands (Err x) → SetStops f c v s (number x)
+    set_first x q id d w =
+        first_wrong f true id c d v w s (one_of d w ∷ []) (number x) (turn_is f set c.tag (change_of c.removal v) n _ (set_tags (kept_of f s)) ∙ sym (q _ st))
 
-    pub set_second : (m : ℕ) → TurnedAs f set c v stands (Size m) → SetStops f c v s 19
+    pub set_second : (m : ℕ) → TurnedAs f set c v stands (Ok m) → SetStops f c v s 19
     set_second m q id d w = second_not f true id c d v w s _ (set_tags (kept_of f s)) n (sym (q.0 _ st)) refl
 
 -- ---- two changes of a target
@@ -225,39 +217,27 @@ module _ (f : Form) (id : ℕ) (c d : told.Change) (v w s : List ℕ) where
   unfolding has
   may_follow_is n = let e = ne_eqb c.tag d.tag n in (ap (λ x. not (x || false)) e, e)
 
-  pub two_first : (n : ℕ) → TurnStops f false id c v s n → TwoAs f id c d v w s (two.Wrong n)
-  two_first n e = first_wrong f false id c d v w s (one_of d w ∷ []) n e
+  pub two_first : (x : Refusal) → TurnStops f false id c v s (number x) → TwoAs f id c d v w s (Err x)
+  two_first x e = first_wrong f false id c d v w s (one_of d w ∷ []) (number x) e
 
   module _ {p : Place} {m : ℕ} (t : TurnAt f false id c v s p m) where
-    pub two_same : c.tag ≡ d.tag → TwoAs f id c d v w s (two.Wrong 19)
+    pub two_same : c.tag ≡ d.tag → TwoAs f id c d v w s (Err NotEditable)
     unfolding has
     two_same e = second_not f false id c d v w s t.tags t.tags_are t.named t.ruled (ap (λ x. not (x || false)) (eq-eqb c.tag d.tag e))
 
     module _ (o : c.tag ≡ d.tag → ⊥) where
-      pub two_second : (n : ℕ) → TurnStops f false id d w s n → TwoAs f id c d v w s (two.Wrong n)
-      two_second n e = second_wrong f false id c d v w s t.tags t.tags_are t.named t.ruled (may_follow_is o).0 (may_follow_is o).1 n e
+      pub two_second : (x : Refusal) → TurnStops f false id d w s (number x) → TwoAs f id c d v w s (Err x)
+      two_second x e = second_wrong f false id c d v w s t.tags t.tags_are t.named t.ruled (may_follow_is o).0 (may_follow_is o).1 (number x) e
 
-      module _ {q : Place} {k : ℕ} (t' : TurnAt f false id d w s q k) (sv : SheetValid (sheet_of f s)) (n : ℕ) (en : EndsAs f pack (cut_of c p m) (cut_of d q k) n) where
-        ends : answer_of n ≡ edit_rules (target id) (two_of c d v w) (sheet_of f s)
-        ends = two_ends f false id c d v w s t sv n t' (may_follow_is o).0 (may_follow_is o).1 en
+      module _ {q : Place} {k : ℕ} (t' : TurnAt f false id d w s q k) (sv : SheetValid (sheet_of f s)) where
+        ends : (n : Result (Unit {0}) Refusal) → EndsAs f pack (cut_of c p m) (cut_of d q k) n → answered n ≡ edit_rules (target id) (two_of c d v w) (sheet_of f s)
+        ends n en = two_ends f false id c d v w s t sv n t' (may_follow_is o).0 (may_follow_is o).1 en
 
-        pub two_left : (n ≡ 0 → ⊥) → TwoAs f id c d v w s (two.Wrong n)
-        two_left z = sym (number n z ∙ ends)
+        pub two_left : (x : Refusal) → EndsAs f pack (cut_of c p m) (cut_of d q k) (Err x) → TwoAs f id c d v w s (Err x)
+        two_left x en = sym (ends (Err x) en)
 
         -- they are let through, at two cuts
-        through : (x y : Cut) → n ≡ 0 → CutIf f id (two_of c d v w) s v w (in_order p x y) → TwoAs f id c d v w s (in_order p x y)
-        through x y z ci = go (ltb y.at x.at) refl
-          where
-            ok_is : edit_rules (target id) (two_of c d v w) (sheet_of f s) ≡ ok tt
-            ok_is = sym (ap answer_of (sym z) ∙ ends)
-
-            go : (u : Bool) → ltb y.at x.at ≡ u → TwoAs f id c d v w s (in_order p x y)
-            go true e =
-                let (a, b) = subst (CutIf f id (two_of c d v w) s v w) (turned_round p x y e) ci in
-                subst (TwoAs f id c d v w s) (sym (turned_round p x y e)) (record { passed = ok_is; cutting = a; edited = b })
-            go false e =
-                let (a, b) = subst (CutIf f id (two_of c d v w) s v w) (as_asked p x y e) ci in
-                subst (TwoAs f id c d v w s) (sym (as_asked p x y e)) (record { passed = ok_is; cutting = a; edited = b })
-
-        pub two_fine : Bytes s → SetOf f s → n ≡ 0 → {r : Two.Judged} → r ≡ in_order p (cut_of c p m) (cut_of d q k) → TwoAs f id c d v w s r
-        two_fine hb kk z e = subst (TwoAs f id c d v w s) (sym e) (through (cut_of c p m) (cut_of d q k) z (two_cuts f s hb kk id c d v w p q t t' (may_follow_is o).1))
+        pub two_fine : EndsAs f pack (cut_of c p m) (cut_of d q k) (Ok tt) → Bytes s → SetOf f s → {j : Two.Judged} → j ≡ in_order p (cut_of c p m) (cut_of d q k) → TwoAs f id c d v w s (Ok j)
+        two_fine en hb kk e =
+            let (a, b) = two_cuts f s hb kk id c d v w p q t t' (may_follow_is o).1 in
+            subst (λ x. TwoAs f id c d v w s (Ok x)) (sym e) (record { passed = sym (ends (Ok tt) en); cutting = a; edited = b })

@@ -7,19 +7,23 @@ use mathlib.Core.List.{List}
 use lib.ListN.{length, get_or}
 use lib.Dec.{ltb}
 use borrow.Author.Tests.{lt-ltb, le-ltb}
+use Rattle.std.specs.Prelude.{Result, Ok, Err}
+use Rattle.std.specs.Result.{IsErr, IsErrAnd}
+use Rattle.std.proofs.lemmas.Result.{err_from_is_err_and}
 use Rattle.format.specs.Answer.{Ans, ok, refused, need}
 use Rattle.format.specs.Coding.{Bytes}
 use Rattle.format.specs.Table.{Form, Level, Rule, rule_of, nameable, may_stand, valued, short}
 use Rattle.format.specs.Edit.{Change, put, change_rules}
-use Rattle.items.specs.Meet.{level_of, answer_of}
+use Rattle.coding.specs.declared.refusals.Refusal.{Refusal}
+use Rattle.coding.specs.declared.refusals.Refusal.TheVariants.{EmptyValue, MayNotStand, Absent}
+use Rattle.coding.specs.Refusals.{number}
+use Rattle.items.specs.Meet.{level_of}
 use Rattle.items.specs.Quick.{Glanced}
 use Rattle.items.proofs.Glances.{as_same}
 use Rattle.items.proofs.Tests.{bind_so, bind_not, need_so, need_not}
 use Rattle.find.specs.declared.Place.{Place}
 use Rattle.find.specs.Places.{holder_of, SetOf, Placed, Unheld}
 use Rattle.edit_rules.specs.declared.Change as told
-use Rattle.edit_rules.specs.declared.Valued.{Valued}
-use Rattle.edit_rules.specs.declared.Valued.TheVariants.{Size, Fault}
 use Rattle.edit_rules.specs.Meet.{change_of, turn_rules, ValuedAs, RuledAs, TurnedAs, TurnAt, TurnStops}
 use Rattle.edit_rules.proofs.Edits.{level_at, level_none}
 
@@ -28,20 +32,19 @@ pub some_of : (n : ℕ) → (n ≡ 0 → ⊥) → 0 < n
 some_of zero h = absurd (h refl)
 some_of (suc n) h = omega arith
 
--- a number that is not 0 is a refusal's
-pub number : (k : ℕ) → (k ≡ 0 → ⊥) → ◌≡◌ {A = Ans (Unit {0})} (refused k 0) (answer_of k)
-number zero z = absurd (z refl)
-number (suc k) z = refl
+-- what a `?` hands back
+pub err_is : {A E : Type 0} (r : Result A E) (e : E) → IsErr r × IsErrAnd r (λ d. d ≡ e) → r ≡ Err e
+err_is r e h = let p = err_from_is_err_and r h.1 in p.1 ∙ ap Err p.2
 
 -- ---- a put
 
 module _ (f : Form) (l : Level) (tag : ℕ) (v : List ℕ) where
-  pub put_7 : length v ≡ 0 → ValuedAs f l tag v (Fault 7)
+  pub put_7 : length v ≡ 0 → ValuedAs f l tag v (Err EmptyValue)
   unfolding change_rules
   put_7 h tags = sym (need_not _ _ _ (le-ltb 0 (length v) (omega arith)))
 
   module _ (h : 0 < length v) where
-    pub put_13 : may_stand l f tag true ≡ false → ValuedAs f l tag v (Fault 13)
+    pub put_13 : may_stand l f tag true ≡ false → ValuedAs f l tag v (Err MayNotStand)
     unfolding change_rules
     put_13 g tags = sym (need_so _ _ _ (lt-ltb 0 (length v) h) ∙ need_not _ _ _ g)
 
@@ -50,19 +53,19 @@ module _ (f : Form) (l : Level) (tag : ℕ) (v : List ℕ) where
       unfolding change_rules
       put_value tags q = q ∙ sym (need_so _ _ _ (lt-ltb 0 (length v) h) ∙ need_so _ _ _ g)
 
-      -- k is the answer on the value, by the rule r
-      module _ {r : Rule} (er : r ≡ rule_of l tag) (k : ℕ) (ek : answer_of k ≡ valued r v) where
-        said : answer_of k ≡ valued (rule_of l tag) v
-        said = ek ∙ ap (λ x. valued x v) er
+      -- by the rule r
+      module _ {r : Rule} (er : r ≡ rule_of l tag) where
+        said : {m : Ans (Unit {0})} → m ≡ valued r v → m ≡ valued (rule_of l tag) v
+        said e = e ∙ ap (λ x. valued x v) er
 
-        pub put_sized : k ≡ 0 → {m : ℕ} → m ≡ length (short r v) → ValuedAs f l tag v (Size m)
-        put_sized z em = ((λ tags. put_value tags (ap answer_of (sym z) ∙ said)), em ∙ ap (λ x. length (short x v)) er)
+        pub put_sized : ok tt ≡ valued r v → {m : ℕ} → m ≡ length (short r v) → ValuedAs f l tag v (Ok m)
+        put_sized e em = ((λ tags. put_value tags (said e)), em ∙ ap (λ x. length (short x v)) er)
 
-        pub put_fault : (k ≡ 0 → ⊥) → ValuedAs f l tag v (Fault k)
-        put_fault z tags = put_value tags (number k z ∙ said)
+        pub put_fault : (x : Refusal) → refused (number x) 0 ≡ valued r v → ValuedAs f l tag v (Err x)
+        put_fault x e tags = put_value tags (said e)
 
   -- a value that is told at a glance
-  pub put_told : Glanced l f tag (length v) (get_or v 0 0) → ValuedAs f l tag v (Size (length v))
+  pub put_told : Glanced l f tag (length v) (get_or v 0 0) → ValuedAs f l tag v (Ok (length v))
   put_told q = ((λ tags. put_value q.some (q.stands true) tags (sym (q.allowed v refl (as_same _ _ refl)))), sym (ap length (q.shortest v refl (as_same _ _ refl))))
 
 -- ---- a change, where its tag stands or not
@@ -73,17 +76,17 @@ module _ (f : Form) (l : Level) (c : told.Change) (v : List ℕ) where
     unfolding change_rules
     removal_is stands tags e = rw (r, e)
 
-    pub removed : {stands : Bool} → stands ≡ true → TurnedAs f l c v stands (Size 0)
+    pub removed : {stands : Bool} → stands ≡ true → TurnedAs f l c v stands (Ok 0)
     unfolding need
     removed {stands = stands} e = ((λ tags h. ap (λ y. need y 18) (sym e) ∙ removal_is stands tags h), rw r)
 
-    pub absent : {stands : Bool} → stands ≡ false → TurnedAs f l c v stands (Fault 18)
+    pub absent : {stands : Bool} → stands ≡ false → TurnedAs f l c v stands (Err Absent)
     unfolding need
     absent {stands = stands} e = λ tags h. ap (λ y. need y 18) (sym e) ∙ removal_is stands tags h
 
-  pub put_turned : c.removal ≡ false → (stands : Bool) (x : Valued) → ValuedAs f l c.tag v x → TurnedAs f l c v stands x
-  put_turned r stands (Size m) (q, em) = ((λ tags h. rw r (q tags)), rw r em)
-  put_turned r stands (Fault n) q = λ tags h. rw r (q tags)
+  pub put_turned : c.removal ≡ false → (stands : Bool) (x : Result ℕ Refusal) → ValuedAs f l c.tag v x → TurnedAs f l c v stands x
+  put_turned r stands (Ok m) (q, em) = ((λ tags h. rw r (q tags)), rw r em)
+  put_turned r stands (Err x) q = λ tags h. rw r (q tags)
 
 -- ---- a change in its turn
 
@@ -110,12 +113,12 @@ module _ (f : Form) (b : Bool) (id : ℕ) (c : told.Change) (v s : List ℕ) whe
     unheld u = turn_18 f (level_of b) c.tag _ n _ (level_none f s b id u)
 
     module _ (h : Bytes s) (k : SetOf f s) (p : Place) (t : Placed f (holder_of b id) c.tag s p) where
-      pub turn_fine : {m : ℕ} → TurnedAs f (level_of b) c v (ltb p.at p.next) (Size m) → TurnAt f b id c v s p m
+      pub turn_fine : {m : ℕ} → TurnedAs f (level_of b) c v (ltb p.at p.next) (Ok m) → TurnAt f b id c v s p m
       turn_fine (q, em) =
           let (tags, et, st) = level_at f s h k b id c.tag n p t in
           record { placed = t; tags = tags; tags_are = et; stands = st; named = n; ruled = sym (q tags st); size_is = em }
 
-      pub turn_stops : {j : ℕ} → TurnedAs f (level_of b) c v (ltb p.at p.next) (Fault j) → TurnStops f b id c v s j
-      turn_stops q =
+      pub turn_stops : (x : Refusal) → TurnedAs f (level_of b) c v (ltb p.at p.next) (Err x) → TurnStops f b id c v s (number x)
+      turn_stops x q =
           let (tags, et, st) = level_at f s h k b id c.tag n p t in
           turn_is f (level_of b) c.tag (change_of c.removal v) n _ et ∙ sym (q tags st)

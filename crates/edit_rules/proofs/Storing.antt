@@ -19,7 +19,7 @@ use Rattle.stores.proofs.Puts.{Puts, puts_then, puts_sized}
 use Rattle.store_coded.specs.Fronts.{series_front}
 use Rattle.edit_rules.specs.declared.Cut.{Cut}
 use Rattle.edit_rules.specs.declared.Cuts.{Cuts}
-use Rattle.edit_rules.specs.Cuts.{last_of, cut_put, cut_size, no_cut, one_cut, part, body_size, packs_size, to_pack, head_of, with_two, Small, Putting, put_size, cut_bytes, StoredAt}
+use Rattle.edit_rules.specs.Cuts.{last_of, cut_put, cut_size, part, body_size, packs_size, to_pack, head_of, with_two, Small, Putting, put_size, cut_bytes, StoredAt}
 use Rattle.edit_rules.proofs.Items.{put_long}
 use Rattle.edit_rules.proofs.Sizes.{spans_more, body_few, low_long, high_long, sizes_are, bytes_long}
 
@@ -130,21 +130,6 @@ module _ {l : Level} {s v w : List ℕ} {k : Cuts} {n : ℕ} (o : List ℕ) (g :
                 (puts_then o 0 head (first ++ (i ++ (mid ++ (j ++ rest)))) e₁
                 (puts_then o₁ a first (i ++ (mid ++ (j ++ rest))) e₂
                 (puts_then o₂ b i (mid ++ (j ++ rest)) e₃ (puts_then o₃ c mid (j ++ rest) e₄ (puts_then o₄ d j rest e₅ e₆)))))
-
--- one cut: the higher puts nothing, and nothing stands between them
-module _ {l : Level} {s v w : List ℕ} {p : Place} {c : Cut} {n : ℕ} (o : List ℕ) (g : Entering l s (one_cut p c) v w n o) {a : ℕ} {o₁ : List ℕ} (e₁ : Puts o 0 (head_of l s p n) a o₁)
-    {b : ℕ} {o₂ : List ℕ} (e₂ : Puts o₁ a (part s p.body c.at) b o₂) {d : ℕ} {o₃ : List ℕ} (e₃ : Puts o₂ b (cut_put c v) d o₃) where
-  no_mid : Puts o₃ d (part s c.next c.next) d o₃
-  no_mid = part_none s c.next c.next (omega arith) o₃ d
-
-  no_high : Puts o₃ d (cut_put (no_cut c.next) w) d o₃
-  no_high = none_stored (no_cut c.next) w refl o₃ d
-
-  pub one_asked : (c.next ≤ p.stop) × (p.stop ≤ length s) × (d + length (part s c.next p.stop) ≤ length o₃)
-  one_asked = rest_asked o g e₁ e₂ e₃ no_mid no_high
-
-  pub one_stored : {r : ℕ} {o₄ : List ℕ} → Puts o₃ d (part s c.next p.stop) r o₄ → StoredAt o 0 (cut_bytes l s (one_cut p c) v w) r o₄
-  one_stored e₄ = all_stored o g e₁ e₂ e₃ no_mid no_high e₄
 
 -- ---- what stands before the level's own bytes
 

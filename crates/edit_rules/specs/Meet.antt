@@ -1,5 +1,5 @@
 -- Where the code that judges an edit meets document 01: what is asked, a change in its turn, what is left of the level, and what is judged.
-use Rattle.std.specs.Prelude.{◌≡◌, ℕ, zero, suc, ◌<◌, Bool, true, false, not, ◌||◌, List, [], ◌∷◌, map, length, ltb, eqb}
+use Rattle.std.specs.Prelude.{◌≡◌, ℕ, ◌<◌, Bool, true, false, not, ◌||◌, Result, Ok, Err, List, [], ◌∷◌, map, length, ltb, eqb}
 use Rattle.format.specs.Answer.{Ans, ok, refused, need, ◌>>=◌}
 use Rattle.format.specs.Coding.{Bytes}
 use Rattle.format.specs.Lists.{has, flat_all}
@@ -9,19 +9,17 @@ use Rattle.format.specs.Sheet.{Sheet, part_of}
 use Rattle.format.specs.Calls.{item_of, packed}
 use Rattle.format.specs.Edit.{Holder, Change, put, remove, Changes, val_with, tags_at, change_rules, ending, edit_rules, edit_entries}
 use Rattle.format.specs.Valid.{SheetValid}
-use Rattle.items.specs.Meet.{level_of, answer_of}
+use Rattle.coding.specs.declared.refusals.Refusal.{Refusal}
+use Rattle.coding.specs.Refusals.{number}
+use Rattle.items.specs.Meet.{level_of, answered}
 use Rattle.find.specs.declared.Place.{Place}
 use Rattle.find.specs.Places.{holder_of, SetOf, kept_of, Placed}
 use Rattle.edit_rules.specs.declared.Change as told
 use Rattle.edit_rules.specs.declared.Asked.{Asked}
 use Rattle.edit_rules.specs.declared.Cut.{Cut}
 use Rattle.edit_rules.specs.declared.Cuts.{Cuts}
-use Rattle.edit_rules.specs.declared.Valued.{Valued}
-use Rattle.edit_rules.specs.declared.Valued.TheVariants.{Size, Fault}
 use Rattle.edit_rules.specs.declared.one.Judged as One
-use Rattle.edit_rules.specs.declared.one.Judged.TheVariants as one
 use Rattle.edit_rules.specs.declared.two.Judged as Two
-use Rattle.edit_rules.specs.declared.two.Judged.TheVariants as two
 use Rattle.edit_rules.specs.Cuts.{no_cut, one_cut, low_of, Cutting, cut_bytes}
 
 -- ---- what is asked
@@ -70,17 +68,17 @@ item_bytes l tag remove = []
 -- ---- a change in its turn
 
 -- the rules on a put, whatever tags its level has
-abbrev pub ValuedAs : Form → Level → ℕ → List ℕ → Valued → Type 0
-ValuedAs f l tag v (Size m) = ((tags : List ℕ) → ok tt ≡ change_rules f l tag tags (put v)) × (m ≡ short_of l tag (put v))
-ValuedAs f l tag v (Fault n) = (tags : List ℕ) → refused n 0 ≡ change_rules f l tag tags (put v)
+abbrev pub ValuedAs : Form → Level → ℕ → List ℕ → Result ℕ Refusal → Type 0
+ValuedAs f l tag v (Ok m) = ((tags : List ℕ) → ok tt ≡ change_rules f l tag tags (put v)) × (m ≡ short_of l tag (put v))
+ValuedAs f l tag v (Err r) = (tags : List ℕ) → refused (number r) 0 ≡ change_rules f l tag tags (put v)
 
 -- the rules on a change, where its level has the tag or not
 abbrev pub RuledAs : Form → Level → told.Change → List ℕ → Bool → Ans (Unit {0}) → Type 0
 RuledAs f l c v stands r = (tags : List ℕ) → has c.tag tags ≡ stands → r ≡ change_rules f l c.tag tags (change_of c.removal v)
 
-abbrev pub TurnedAs : Form → Level → told.Change → List ℕ → Bool → Valued → Type 0
-TurnedAs f l c v stands (Size m) = RuledAs f l c v stands (ok tt) × (m ≡ short_of l c.tag (change_of c.removal v))
-TurnedAs f l c v stands (Fault n) = RuledAs f l c v stands (refused n 0)
+abbrev pub TurnedAs : Form → Level → told.Change → List ℕ → Bool → Result ℕ Refusal → Type 0
+TurnedAs f l c v stands (Ok m) = RuledAs f l c v stands (ok tt) × (m ≡ short_of l c.tag (change_of c.removal v))
+TurnedAs f l c v stands (Err r) = RuledAs f l c v stands (refused (number r) 0)
 
 -- the cut of a change at its place
 abbrev pub cut_of : told.Change → Place → ℕ → Cut
@@ -121,16 +119,16 @@ abbrev pub parted_by : Cut → Cut → Bool
 parted_by a b = not (alike (left_by b 19 (left_by a 19 (pair_of a b))) (left_by b 20 (left_by a 20 (pair_of a b))))
 
 -- 14 where a standalone level has lost the tag
-abbrev pub lost_by : Form → Cut → Cut → ℕ → ℕ
-lost_by f a b tag = elim (not (is_alone f) || left_by b tag (left_by a tag true)) [ true ↦ 0 | false ↦ 14 ]
+abbrev pub lost_by : Form → Cut → Cut → ℕ → Ans (Unit {0})
+lost_by f a b tag = need (not (is_alone f) || left_by b tag (left_by a tag true)) 14
 
--- what stood with these tags has stood right, and at the cuts; n is the answer on those that the cuts leave
-abbrev pub EndsAs : Form → Level → Cut → Cut → ℕ → Type 0
-EndsAs f l a b n =
+-- what stood with these tags has stood right, and at the cuts; r is the answer on those that the cuts leave
+abbrev pub EndsAs : Form → Level → Cut → Cut → Result (Unit {0}) Refusal → Type 0
+EndsAs f l a b r =
     (tags left : List ℕ) → ending f l tags ≡ ok tt
     → (0 < a.tag → has a.tag tags ≡ ltb a.at a.next) → (0 < b.tag → has b.tag tags ≡ ltb b.at b.next)
     → ((k : ℕ) → 0 < k → has k left ≡ left_by b k (left_by a k (has k tags)))
-    → answer_of n ≡ ending f l left
+    → answered r ≡ ending f l left
 
 -- ---- what is judged
 
@@ -146,33 +144,36 @@ pub record Passes (f : Form) (b : Bool) (id : ℕ) (cs : Changes) (s : List ℕ)
 
 -- ---- one change
 
-abbrev pub OneAs : Form → Asked → List ℕ → List ℕ → One.Judged → Type 0
-OneAs f a v s (one.Fine p m) = Passes f a.set a.id (changes_of a v) s (one_cut p (cut_of a.change p m)) v v
-OneAs f a v s (one.Wrong n) = Stops f (asked_holder a) (changes_of a v) s n
+abbrev pub OneAs : Form → Asked → List ℕ → List ℕ → Result One.Judged Refusal → Type 0
+OneAs f a v s (Ok j) = Passes f a.set a.id (changes_of a v) s (one_cut j.place (cut_of a.change j.place j.size)) v v
+OneAs f a v s (Err r) = Stops f (asked_holder a) (changes_of a v) s (number r)
 
--- with n for what it leaves
-abbrev pub ended_one : ℕ → Place → ℕ → One.Judged
-ended_one zero p m = one.Fine p m
-ended_one (suc n) p m = one.Wrong (suc n)
+-- with e for what it leaves
+abbrev pub ended_one : Result (Unit {0}) Refusal → Place → ℕ → Result One.Judged Refusal
+ended_one (Ok u) p m = Ok (record { place = p; size = m })
+ended_one (Err r) p m = Err r
 
-abbrev pub LeftAs : Form → Asked → Place → ℕ → One.Judged → Type 0
-LeftAs f a p m r = (n : ℕ) × EndsAs f (level_of a.set) (cut_of a.change p m) (no_cut p.next) n × (r ≡ ended_one n p m)
+abbrev pub LeftAs : Form → Asked → Place → ℕ → Result One.Judged Refusal → Type 0
+LeftAs f a p m r = (e : Result (Unit {0}) Refusal) × EndsAs f (level_of a.set) (cut_of a.change p m) (no_cut p.next) e × (r ≡ ended_one e p m)
 
 -- ---- two changes of a target
 
-abbrev pub TwoAs : Form → ℕ → told.Change → told.Change → List ℕ → List ℕ → List ℕ → Two.Judged → Type 0
-TwoAs f id c d v w s (two.Fine k t) = Passes f false id (two_of c d v w) s k (low_of t v w) (low_of t w v)
-TwoAs f id c d v w s (two.Wrong n) = Stops f (holder_of false id) (two_of c d v w) s n
+abbrev pub TwoAs : Form → ℕ → told.Change → told.Change → List ℕ → List ℕ → List ℕ → Result Two.Judged Refusal → Type 0
+TwoAs f id c d v w s (Ok j) = Passes f false id (two_of c d v w) s j.cuts (low_of j.turned v w) (low_of j.turned w v)
+TwoAs f id c d v w s (Err r) = Stops f (holder_of false id) (two_of c d v w) s (number r)
 
 abbrev pub cuts_of : Place → Cut → Cut → Cuts
 cuts_of p x y = record { place = p; lo = x; hi = y }
 
+abbrev pub judged : Cuts → Bool → Two.Judged
+judged k t = record { cuts = k; turned = t }
+
 -- the lower first; as they were asked, where they stand at the same end
 abbrev pub in_order : Place → Cut → Cut → Two.Judged
-in_order p x y = elim (ltb y.at x.at) [ true ↦ two.Fine (cuts_of p y x) true | false ↦ two.Fine (cuts_of p x y) false ]
+in_order p x y = elim (ltb y.at x.at) [ true ↦ judged (cuts_of p y x) true | false ↦ judged (cuts_of p x y) false ]
 
 -- after a first change of m bytes, which may be made, where the second has its place
-abbrev pub RestAs : Form → told.Change → told.Change → List ℕ → Place → Place → ℕ → Two.Judged → Type 0
+abbrev pub RestAs : Form → told.Change → told.Change → List ℕ → Place → Place → ℕ → Result Two.Judged Refusal → Type 0
 RestAs f c d w p q m r =
     (id : ℕ) (v s : List ℕ) → Bytes s → SetOf f s → SheetValid (sheet_of f s)
     → TurnAt f false id c v s p m → Placed f (holder_of false id) d.tag s q

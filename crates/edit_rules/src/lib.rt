@@ -3,15 +3,18 @@
 #![tactic(auto)]
 
 ghost use Rattle.std.specs.Prelude.{◌≡◌, true, length, get_or};
-ghost use Rattle.items.specs.Meet.{form_of, level_of, glance_table};
+ghost use Rattle.items.specs.Meet.{form_of, level_of, answered};
 ghost use Rattle.items.specs.Quick.{Glanced};
-ghost use Rattle.edit_rules.specs.Cuts.{no_cut};
+ghost use Rattle.edit_rules.specs.Cuts.{no_cut, one_cut};
 ghost use Rattle.edit_rules.specs.Meet.{cut_of, ValuedAs, left_by, pair_of, parted_by, lost_by, EndsAs};
 
 pub mod one;
 pub mod two;
 
+use coding::refusals::Refusal;
 use find::Place;
+use items::Table;
+use items::quick::Glances;
 
 // ---- what is asked
 
@@ -77,53 +80,48 @@ fn no_cut(at: usize) -> Cut
     }
 }
 
-// ---- a put
-
-// How many bytes of a value are put: those of its shortest form; or 7, 13, 11, 12.
-#[derive(Clone, Copy)]
-pub enum Valued {
-    Size(usize),
-    Fault(u64),
+// One cut, and nothing after it.
+pub fn one_cut(place: Place, cut: Cut) -> Cuts
+    ensures { result ≡ one_cut place cut }
+{
+    Cuts {
+        place,
+        lo: cut,
+        hi: no_cut(cut.next),
+    }
 }
+
+// ---- a put
 
 // Whether a value is told at a glance to be one that may be put as it stands. It does not know what the row of the tag leaves to the
 // item table: a value that a number's zeros begin, or a tag with no row.
-fn is_told(glances: &[u32], alone: bool, set: bool, tag: u64, v: &[u8]) -> bool
-    requires { glances.now ≡ glance_table }
+fn is_told(glances: &Glances, alone: bool, set: bool, tag: u64, v: &[u8]) -> bool
     ensures { result ≡ true → Glanced (level_of set) (form_of alone) tag (length v.now) (get_or v.now 0 0) }
 {
-    if v.len() == 0 {
-        return false;
-    }
-    items::quick::is_glanced(glances, set, alone, tag, v.len() as u64, v[0])
+    v.len() != 0 && items::quick::is_glanced(glances, set, alone, tag, v.len() as u64, v[0])
 }
 
-// The value of a put, by the item table.
-fn plain_size(alone: bool, set: bool, tag: u64, v: &[u8]) -> Valued
+// How many bytes of a value are put, those of its shortest form, by the item table: 7, 13, 11, 12.
+fn plain_size(alone: bool, set: bool, tag: u64, v: &[u8]) -> Result<usize, Refusal>
     ensures { ValuedAs (form_of alone) (level_of set) tag v.now result }
 {
     if v.len() == 0 {
-        return Valued::Fault(7);
+        return Err(Refusal::EmptyValue);
     }
     if !items::stands(set, alone, tag, true) {
-        return Valued::Fault(13);
+        return Err(Refusal::MayNotStand);
     }
-    let table = items::table();
-    let rule = items::rule_of(&table, set, tag);
-    let n = items::valued_of(rule, v);
-    if n == 0 {
-        return Valued::Size(items::short_size(rule, v));
-    }
-    Valued::Fault(n)
+    let rule = items::rule_of(&Table::new(), set, tag);
+    items::valued_of(rule, v)?;
+    Ok(items::short_size(rule, v))
 }
 
-// The value of a put. One that is told at a glance is put as it stands.
-fn put_size(glances: &[u32], alone: bool, set: bool, tag: u64, v: &[u8]) -> Valued
-    requires { glances.now ≡ glance_table }
+// The same. A value that is told at a glance is put as it stands.
+fn put_size(glances: &Glances, alone: bool, set: bool, tag: u64, v: &[u8]) -> Result<usize, Refusal>
     ensures { ValuedAs (form_of alone) (level_of set) tag v.now result }
 {
     if is_told(glances, alone, set, tag, v) {
-        return Valued::Size(v.len());
+        return Ok(v.len());
     }
     plain_size(alone, set, tag, v)
 }
@@ -141,10 +139,7 @@ fn left_by(c: Cut, tag: u64, stands: bool) -> bool
 fn pair_stood(a: Cut, b: Cut) -> bool
     ensures { result ≡ pair_of a b }
 {
-    if a.tag == 19 {
-        return a.at < a.next;
-    }
-    if a.tag == 20 {
+    if a.tag == 19 || a.tag == 20 {
         return a.at < a.next;
     }
     b.at < b.next
@@ -157,31 +152,28 @@ fn parted(a: Cut, b: Cut) -> bool
     let pair = pair_stood(a, b);
     let row = left_by(b, 19, left_by(a, 19, pair));
     let column = left_by(b, 20, left_by(a, 20, pair));
-    if row { !column } else { column }
+    row != column
 }
 
-// 14 where they leave a level of a standalone packet without the tag that it had, or 0.
-fn lost_fault(alone: bool, a: Cut, b: Cut, tag: u64) -> u64
-    ensures { result ≡ lost_by (form_of alone) a b tag }
+// 14 where they leave a level of a standalone packet without the tag that it had.
+fn lost_fault(alone: bool, a: Cut, b: Cut, tag: u64) -> Result<(), Refusal>
+    ensures { answered result ≡ lost_by (form_of alone) a b tag }
 {
-    if !alone {
-        return 0;
+    if !alone || left_by(b, tag, left_by(a, tag, true)) {
+        return Ok(());
     }
-    if left_by(b, tag, left_by(a, tag, true)) {
-        return 0;
-    }
-    14
+    Err(Refusal::Missing)
 }
 
-// On the result of both changes 20 and 14, or 0, without a look at the level: what the packet had, and the cuts, tell it all.
-fn ending_fault(alone: bool, set: bool, a: Cut, b: Cut) -> u64
+// On the result of both changes 20 and 14, without a look at the level: what the packet had, and the cuts, tell it all.
+fn ending_fault(alone: bool, set: bool, a: Cut, b: Cut) -> Result<(), Refusal>
     ensures { EndsAs (form_of alone) (level_of set) a b result }
 {
     if set {
         return lost_fault(alone, a, b, 2);
     }
     if parted(a, b) {
-        return 20;
+        return Err(Refusal::HalfCentroid);
     }
     lost_fault(alone, a, b, 17)
 }

@@ -1,58 +1,65 @@
 // Two changes: each in its turn 19, 18, then for a put 7, 13, 11, 12; then 20 and 14 on the result of both. They are of one target: a second
 // change to the set is 19 in its turn.
 ghost use Rattle.std.specs.Prelude.{◌≡◌};
+ghost use Rattle.coding.specs.Refusals.{number};
 ghost use Rattle.format.specs.Valid.{SheetValid};
 ghost use Rattle.format.specs.Table.{pack};
-ghost use Rattle.items.specs.Meet.{form_of, glance_table};
+ghost use Rattle.items.specs.Meet.{form_of};
 ghost use Rattle.find.specs.Places.{SetOf};
 ghost use Rattle.edit_rules.specs.Meet.{sheet_of, TurnedAs, in_order, RestAs, TwoAs, SetStops};
 
-use super::{Change, Cut, Cuts, Valued, cut_of, ending_fault, plain_size, put_size};
-use find::{Both, Place};
+use super::{Change, Cut, Cuts, cut_of, ending_fault, plain_size, put_size};
+use coding::refusals::Refusal;
+use find::Place;
+use items::quick::Glances;
 
-// The cuts of an edit, `turned` where the second change is the lower; or the number of a refusal.
+// The cuts of an edit, `turned` where the second change is the lower.
 #[derive(Clone, Copy)]
-pub enum Judged {
-    Fine { cuts: Cuts, turned: bool },
-    Wrong(u64),
+pub struct Judged {
+    pub cuts: Cuts,
+    pub turned: bool,
 }
 
 // ---- of the set
 
-// Two changes to the set, whatever the second is: the first in its turn, then 19. It is never let through, so no glance is taken.
-pub fn set_fault(s: &[u8], alone: bool, c: Change, v: &[u8]) -> u64
+// Why two changes to the set are refused, whatever the second is: the first in its turn, then 19. They are never let through, so no glance is taken.
+pub fn set_fault(s: &[u8], alone: bool, c: Change, v: &[u8]) -> Refusal
     requires { SetOf (form_of alone) s.now }
-    ensures { SetStops (form_of alone) c v.now s.now result }
+    ensures { SetStops (form_of alone) c v.now s.now (number result) }
 {
     if !items::nameable_of(true, c.tag) {
-        return 19;
+        return Refusal::NotEditable;
     }
     if c.removal {
         let a = find::item_spot(s, true, c.tag);
         if a.at < a.next {
-            return 19;
+            return Refusal::NotEditable;
         }
-        return 18;
+        return Refusal::Absent;
     }
-    let x = plain_size(alone, true, c.tag, v);
-    match x {
-        Valued::Size(_) => 19,
-        Valued::Fault(n) => n,
+    match plain_size(alone, true, c.tag, v) {
+        Ok(_) => Refusal::NotEditable,
+        Err(refusal) => refusal,
     }
 }
 
 // ---- of a target
 
 // A change to a target, in which its item stands or not: how many bytes are put; or 18 for a removal, for a put 7, 13, 11, 12.
-fn turn_of(glances: &[u32], alone: bool, c: Change, stands: bool, v: &[u8]) -> Valued
-    requires { glances.now ≡ glance_table }
+fn turn_of(
+    glances: &Glances,
+    alone: bool,
+    c: Change,
+    stands: bool,
+    v: &[u8],
+) -> Result<usize, Refusal>
     ensures { TurnedAs (form_of alone) pack c v.now stands result }
 {
     if c.removal {
         if stands {
-            return Valued::Size(0);
+            return Ok(0);
         }
-        return Valued::Fault(18);
+        return Err(Refusal::Absent);
     }
     put_size(glances, alone, false, c.tag, v)
 }
@@ -82,14 +89,14 @@ fn in_order(place: Place, first: Cut, second: Cut) -> Judged
             lo: b,
             hi: a,
         };
-        return Judged::Fine { cuts, turned: true };
+        return Judged { cuts, turned: true };
     }
     let cuts = Cuts {
         place,
         lo: a,
         hi: b,
     };
-    Judged::Fine {
+    Judged {
         cuts,
         turned: false,
     }
@@ -98,7 +105,7 @@ fn in_order(place: Place, first: Cut, second: Cut) -> Judged
 // What follows the first change, of m bytes at p: the second in its turn, at q, as the packet has its level, which the first does not change for
 // another tag; then 20 and 14 on the result of both.
 fn judge_rest(
-    glances: &[u32],
+    glances: &Glances,
     alone: bool,
     c: Change,
     d: Change,
@@ -106,34 +113,22 @@ fn judge_rest(
     q: Place,
     m: usize,
     w: &[u8],
-) -> Judged
-    requires { glances.now ≡ glance_table }
+) -> Result<Judged, Refusal>
     ensures { RestAs (form_of alone) c d w.now p q m result }
 {
-    if c.tag == d.tag {
-        return Judged::Wrong(19);
+    if c.tag == d.tag || !items::nameable_of(false, d.tag) {
+        return Err(Refusal::NotEditable);
     }
-    if !items::nameable_of(false, d.tag) {
-        return Judged::Wrong(19);
-    }
-    let y = turn_of(glances, alone, d, q.at < q.next, w);
-    match y {
-        Valued::Size(k) => {
-            let first = cut_of(c, p, m);
-            let second = cut_of(d, q, k);
-            let n = ending_fault(alone, false, first, second);
-            if n == 0 {
-                return in_order(p, first, second);
-            }
-            Judged::Wrong(n)
-        }
-        Valued::Fault(own) => Judged::Wrong(own),
-    }
+    let k = turn_of(glances, alone, d, q.at < q.next, w)?;
+    let first = cut_of(c, p, m);
+    let second = cut_of(d, q, k);
+    ending_fault(alone, false, first, second)?;
+    Ok(in_order(p, first, second))
 }
 
 // Two changes to the target with an id, in a packet's set: the first in its turn, then what follows it.
 pub fn judge(
-    glances: &[u32],
+    glances: &Glances,
     s: &[u8],
     alone: bool,
     id: u64,
@@ -141,20 +136,16 @@ pub fn judge(
     d: Change,
     v: &[u8],
     w: &[u8],
-) -> Judged
-    requires { (glances.now ≡ glance_table) × SetOf (form_of alone) s.now × SheetValid (sheet_of (form_of alone) s.now) }
+) -> Result<Judged, Refusal>
+    requires { SetOf (form_of alone) s.now × SheetValid (sheet_of (form_of alone) s.now) }
     ensures { TwoAs (form_of alone) id c d v.now w.now s.now result }
 {
     if !items::nameable_of(false, c.tag) {
-        return Judged::Wrong(19);
+        return Err(Refusal::NotEditable);
     }
-    let f = find::places_of(s, alone, id, c.tag, d.tag);
-    let Both::There { first, second } = f else {
-        return Judged::Wrong(18);
+    let Some((first, second)) = find::places_of(s, alone, id, c.tag, d.tag) else {
+        return Err(Refusal::Absent);
     };
-    let x = turn_of(glances, alone, c, first.at < first.next, v);
-    match x {
-        Valued::Size(m) => judge_rest(glances, alone, c, d, first, second, m, w),
-        Valued::Fault(n) => Judged::Wrong(n),
-    }
+    let m = turn_of(glances, alone, c, first.at < first.next, v)?;
+    judge_rest(glances, alone, c, d, first, second, m, w)
 }

@@ -24,14 +24,13 @@ use Rattle.format.proofs.Coding.Oids.{oid_some}
 use Rattle.format.proofs.Reading.Packs.{pack_head_says}
 use Rattle.coding.proofs.Rooms.{tail_part}
 use Rattle.heads.specs.declared.Head.{Head}
-use Rattle.heads.specs.declared.Head.TheVariants as heads
-use Rattle.heads.specs.Meet.{pack_head_of}
+use Rattle.heads.specs.Meet.{pack_head_from}
 use Rattle.tally.specs.Runs.{Ran, series_run}
 use Rattle.find.specs.Spots.{Missed, has_id, packs_of, pack_lead}
-use Rattle.find.specs.Series.{LeadOf, PacksTo, OtherLead, PassedOn, id_spot}
+use Rattle.find.specs.Series.{LeadOf, InWidth, PacksTo, OtherLead, PassedOn, id_spot}
 use Rattle.find.proofs.Splices.{missed_spot, grown_spot, all_snoc}
 use Rattle.find.proofs.Seeks.{Seeking, long, Next, next_here, seek_more}
-use Rattle.find.proofs.Packs.{packs_read, PackAt, all_read, headed}
+use Rattle.find.proofs.Packs.{packs_read, PackTurn, all_read, headed}
 use Rattle.find.proofs.Passes.{few_packs, none, PackPass, none_yet, one_yet}
 
 none_hit : (xs : List Pack) → Missed none xs
@@ -65,6 +64,16 @@ module _ (s : List ℕ) (p size : ℕ) where
       let q : suc p ≡ p + 1 = omega arith in
       let z : drop (suc p) s ≡ size ∷ drop (suc (p + 1)) s = ap (λ n. drop n s) q ∙ drop-cons s (p + 1) 0 h ∙ ap (λ x. x ∷ drop (suc (p + 1)) s) g in
       ap len_of (drop-cons s p 0 (omega arith) ∙ ap (λ x. x ∷ drop (suc p) s) e ∙ ap (λ x. 129 ∷ x) z) ∙ long_len size (drop (suc (p + 1)) s)
+
+  -- in so many bytes, as the code reads it
+  module _ {w : ℕ} (i : InWidth w size) (h : p + 2 < length s) where
+    pub len_short : w ≡ 1 → get_or s (p + w - 1) 0 ≡ size → len_of (drop p s) ≡ ok (got size w)
+    len_short e g = rw e (len_one (i.2 e) (omega arith) (ap (λ n. get_or s n 0) (omega arith) ∙ g))
+
+    pub len_wide : (w ≡ 1 → ⊥) → get_or s p 0 ≡ 129 → get_or s (p + w - 1) 0 ≡ size → len_of (drop p s) ≡ ok (got size w)
+    len_wide n e g =
+        let two : w ≡ 2 = omega arith in
+        rw two (len_two (omega arith) e (ap (λ n. get_or s n 0) (omega arith) ∙ g))
 
 -- the byte after it is the first of the id
 first_here : (s : List ℕ) (p : ℕ) (h : Read.PackHead) → Bytes (drop p s) → pack_head (drop p s) ≡ ok h → (get_or (oid_bytes h.id) 0 0 ≡ get_or s (p + h.width) 0) × (h.id < 2 ^ 63)
@@ -145,10 +154,10 @@ passed_none {before = before} t =
 -- ---- the loop over all packs, past those
 
 -- a length in one byte
-pub pack_low : {f : Form} {s : List ℕ} {p : ℕ} {h : Head} → PackAt f none s p h → {key used width size : ℕ} → h ≡ heads.Whole key used width size → width ≡ 1 → size < 128
-pack_low {s = s} {p = p} i {key = key} {used = used} {width = width} {size = size} t e =
-    let eh : pack_head (drop p s) ≡ ok (record { width = width; size = size; id = key; used = used }) = sym (rw tail_part at i.reads) ∙ ap pack_head_of t in
-    subst (λ w. Holds w size) e (pack_head_says (drop p s) (record { width = width; size = size; id = key; used = used }) (bytes_drop p s i.turn.bytes) eh).coded
+pub pack_low : {f : Form} {s : List ℕ} {p : ℕ} → PackTurn f none s p → (h : Head) → ok (pack_head_from h) ≡ pack_head (take (length s - p) (drop p s)) → h.width ≡ 1 → h.size < 128
+pack_low {s = s} {p = p} i h e w =
+    let eh : pack_head (drop p s) ≡ ok (pack_head_from h) = sym (rw tail_part at e) in
+    subst (λ n. Holds n h.size) w (pack_head_says (drop p s) (pack_head_from h) (bytes_drop p s i.bytes) eh).coded
 
 -- none of them has the id
 passed_missed : (id lead : ℕ) → LeadOf id lead → (xs : List Pack) → All (OtherLead lead) xs → Missed (has_id id) xs

@@ -20,11 +20,11 @@ use Rattle.tally.specs.Runs.{Ran, series_run}
 use Rattle.find.specs.declared.Spot.{Spot}
 use Rattle.find.specs.declared.around.Packs.{Packs}
 use Rattle.find.specs.declared.around.Series.{Series}
-use Rattle.find.specs.Spots.{no_spot, Missed, Hit, has_tag, has_id, entries_of, packs_of, entry_lead, pack_lead, entry_spot}
+use Rattle.find.specs.Spots.{no_spot, inside, Missed, Hit, has_tag, has_id, entries_of, packs_of, entry_lead, pack_lead, entry_spot}
 use Rattle.find.specs.Places.{SetOf, kept_of}
 use Rattle.find.specs.Series.{tag_spot, id_spot, packs_spot, spot_within, series_in, InOrder}
 use Rattle.find.proofs.Splices.{place, hit_spot, missed_spot, spot_present, spot_absent, spot_room, spot_lead, spot_from, has_hit, has_absent, narrowed, absent_too, grown_spot, spots_apart}
-use Rattle.find.proofs.Seeks.{inside, inside_long, inside_bytes}
+use Rattle.find.proofs.Seeks.{inside_long, inside_bytes}
 use Rattle.find.proofs.Entries.{entry_some, entry_lead_lem, other_kind}
 use Rattle.find.proofs.Packs.{pack_some, packs_flat}
 use Rattle.find.proofs.Passes.{few_packs}

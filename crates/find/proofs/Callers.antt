@@ -13,8 +13,8 @@ use Rattle.format.proofs.Words.Answers.{bind_then, ok_inj}
 use Rattle.tally.specs.declared.Sizes.{Sizes}
 use Rattle.tally.specs.Runs.{level_run}
 use Rattle.tally.proofs.Parsed.{Sealing, Parsed}
-use Rattle.check_packet.specs.declared.Checked.{Checked}
-use Rattle.check_packet.specs.declared.Checked.TheVariants.{Fine}
+use Rattle.check_packet.specs.Checks.{Checked}
+use Rattle.check_packet.specs.Checks.{Fine}
 use Rattle.check_packet.specs.Meet.{checked_of}
 use Rattle.check_packet.proofs.Opened.{fine, opened, lent_set, lent_is}
 use Rattle.find.specs.Spots.{things_of, entries_of}

@@ -7,7 +7,8 @@ use mathlib.Core.List.{List, [], ◌∷◌, ◌++◌, map}
 use lib.ListN.{length, take, drop, length-drop}
 use lib.Dec.{eqb}
 use borrow.Author.Tests.{eqb-true, eq-eqb, ne_eqb}
-use Rattle.format.specs.Answer.{ok, Got, got}
+use Rattle.std.specs.Prelude.{Ok, Err}
+use Rattle.format.specs.Answer.{ok, refused, Got, got}
 use Rattle.format.specs.Coding.{Bytes, oid_bytes}
 use Rattle.format.specs.Lists.{flat_all}
 use Rattle.format.specs.Table.{Form, Level, set, pack, is_set}
@@ -23,16 +24,18 @@ use Rattle.format.proofs.Reading.Runs.{Faithful}
 use Rattle.format.proofs.Reading.Items.{item_at, length_item, head_says, item_says}
 use Rattle.format.proofs.Reading.Entries.{series_item, series_flat, plain_flat, entry_says}
 use Rattle.coding.proofs.Rooms.{tail_part}
+use Rattle.coding.specs.declared.refusals.Refusal.{Refusal}
+use Rattle.coding.specs.Refusals.{number}
 use Rattle.heads.specs.declared.Head.{Head}
-use Rattle.heads.specs.declared.Head.TheVariants as heads
-use Rattle.heads.specs.Meet.{item_head_of}
+use Rattle.heads.specs.Meet.{head, item_head}
 use Rattle.tally.specs.Meet.{deepen_at, step_at}
 use Rattle.tally.specs.Runs.{Ran, level_run, series_run}
 use Rattle.tally.proofs.Steps.{EntryHere, entry_here, no_head_entry}
 use Rattle.find.specs.declared.Spot.{Spot}
-use Rattle.find.specs.Spots.{spot, no_spot, spot_in, things_of, has_item, has_tag, entries_of, item_lead, entry_lead, item_spot, entry_spot, Missed, Hit}
+use Rattle.find.specs.Spots.{spot, no_spot, spot_in, things_of, inside, has_item, has_tag, entries_of, item_lead, entry_lead, item_spot, entry_spot, Missed, Hit}
+use Rattle.find.specs.Places.{TagFound}
 use Rattle.find.proofs.Splices.{spot_present, spot_absent, spot_room, spot_from}
-use Rattle.find.proofs.Seeks.{ran_ok, Stands, ReadAll, read_all, Seeking, seek_start, Next, next_here, seek_done, seek_found, seek_more, Standing, standing, inside, part_at}
+use Rattle.find.proofs.Seeks.{ran_ok, Stands, ReadAll, read_all, Seeking, seek_start, Next, next_here, seek_done, seek_found, seek_more, Standing, standing, part_at}
 
 -- ---- what a level's run read
 
@@ -100,12 +103,12 @@ here_keys l f u key used width size r k = go (is_set l && eqb key 101) refl
         (ap tag_of_entry (k.packs z).1 ∙ e, ap entry_lead (k.packs z).1 ∙ ap (λ n. length (oid_bytes n) + width) e ∙ ap (λ n. n + width) k.oid)
     go false z = (ap tag_of_entry (k.one z), ap entry_lead (k.one z) ∙ ap (λ n. n + width) k.oid)
 
-module _ (l : Level) (f : Form) (s : List ℕ) (a : ℕ) (x : Entry) (w : EntryStands l f s a x) (h : Head) (eh : item_head_of h ≡ head_of l (take (length s - a) (drop a s))) where
-  no_head : {X : Type 0} {n : ℕ} → h ≡ heads.Fault n → X
-  no_head t = no_head_entry l f w.seen (drop a s) (got x (length (flat_entry x))) w.read h (rw tail_part at eh) t
+module _ (l : Level) (f : Form) (s : List ℕ) (a : ℕ) (x : Entry) (w : EntryStands l f s a x) where
+  no_head : {X : Type 0} (r : Refusal) → refused (number r) 0 ≡ head_of l (take (length s - a) (drop a s)) → X
+  no_head r eh = no_head_entry l f w.seen (drop a s) (got x (length (flat_entry x))) w.read (Err r) (rw tail_part at eh) refl
 
-  head_here : Bytes s → {key used width size : ℕ} → h ≡ heads.Whole key used width size → EntryHere l f (drop a s) key used width size (got x (length (flat_entry x)))
-  head_here b t = entry_here l f w.seen (drop a s) (bytes_drop a s b) (got x (length (flat_entry x))) w.read h (rw tail_part at eh) t
+  head_here : Bytes s → (h : Head) → ok (item_head h) ≡ head_of l (take (length s - a) (drop a s)) → EntryHere l f (drop a s) h.key h.used h.width h.size (got x (length (flat_entry x)))
+  head_here b h eh = entry_here l f w.seen (drop a s) (bytes_drop a s b) (got x (length (flat_entry x))) w.read (Ok h) (rw tail_part at eh) refl
 
 -- ---- the loop
 
@@ -121,12 +124,6 @@ pub record EntryTurn (l : Level) (f : Form) (tag : ℕ) (s : List ℕ) (p : ℕ)
 pub entry_start : (l : Level) (f : Form) (tag : ℕ) (s : List ℕ) → Bytes s → (length s ≤ 8192) × Ran (level_run l f s) → EntryTurn l f tag s 0
 entry_start l f tag s b h = record { going = seek_start tag_of_entry (step_at l f) flat_entry (has_tag tag) (entries_of l f s); bytes = b; asked = h }
 
--- the code read h at p
-pub record EntryAt (l : Level) (f : Form) (tag : ℕ) (s : List ℕ) (p : ℕ) (h : Head) : Type 0 where
-  pub turn : EntryTurn l f tag s p
-  pub here : p < length s
-  pub reads : item_head_of h ≡ head_of l (take (length s - p) (drop p s))
-
 module _ {l : Level} {f : Form} {tag : ℕ} {s : List ℕ} {p : ℕ} (i : EntryTurn l f tag s p) where
   all_read : EntriesRead l f s
   all_read = entries_read l f s i.bytes i.asked.1
@@ -134,37 +131,38 @@ module _ {l : Level} {f : Form} {tag : ℕ} {s : List ℕ} {p : ℕ} (i : EntryT
   pub entry_done : length s ≤ p → no_spot p ≡ entry_spot l f tag s
   entry_done h = seek_done tag_of_entry (step_at l f) flat_entry (has_tag tag) all_read i.going entry_lead entry_lead h
 
-module _ {l : Level} {f : Form} {tag : ℕ} {s : List ℕ} {p : ℕ} {h : Head} (i : EntryAt l f tag s p h) where
-  next : Next tag_of_entry (step_at l f) flat_entry (has_tag tag) (all_read i.turn) i.turn.going
-  next = next_here tag_of_entry (step_at l f) flat_entry (has_tag tag) (all_read i.turn) i.turn.going i.here
+  -- the code read a refusal at p, which cannot be, or a head
+  module _ (here : p < length s) where
+    entry_next : Next tag_of_entry (step_at l f) flat_entry (has_tag tag) all_read i.going
+    entry_next = next_here tag_of_entry (step_at l f) flat_entry (has_tag tag) all_read i.going here
 
-  pub entry_fault : {X : Type 0} {n : ℕ} → h ≡ heads.Fault n → X
-  entry_fault t = no_head l f s p next.it next.here h i.reads t
+    pub entry_fault : {X : Type 0} (r : Refusal) → refused (number r) 0 ≡ head_of l (take (length s - p) (drop p s)) → X
+    entry_fault r e = no_head l f s p entry_next.it entry_next.here r e
 
-  module _ {key used width size : ℕ} (t : h ≡ heads.Whole key used width size) where
-    stood : EntryHere l f (drop p s) key used width size (got next.it (length (flat_entry next.it)))
-    stood = head_here l f s p next.it next.here h i.reads i.turn.bytes t
+    module _ (h : Head) (e : ok (item_head h) ≡ head_of l (take (length s - p) (drop p s))) where
+      stood : EntryHere l f (drop p s) h.key h.used h.width h.size (got entry_next.it (length (flat_entry entry_next.it)))
+      stood = head_here l f s p entry_next.it entry_next.here i.bytes h e
 
-    keys : (tag_of_entry next.it ≡ key) × (entry_lead next.it ≡ used + width)
-    keys = here_keys l f (drop p s) key used width size _ stood
+      keys : (tag_of_entry entry_next.it ≡ h.key) × (entry_lead entry_next.it ≡ h.used + h.width)
+      keys = here_keys l f (drop p s) h.key h.used h.width h.size _ stood
 
-    pub entry_room : (p + used + width + size ≤ length s) × (0 < used) × (length s ≤ 8192)
-    entry_room = (omega (arith, stood.room, length-drop p s, i.here), stood.head, i.turn.asked.0)
+      pub entry_room : (p + h.used + h.width + h.size ≤ length s) × (0 < h.used) × (length s ≤ 8192)
+      entry_room = (omega (arith, stood.room, length-drop p s, here), stood.head, i.asked.0)
 
-    next_is : p + used + width + size ≡ p + length (flat_entry next.it)
-    next_is = omega (arith, stood.used_is)
+      next_is : p + h.used + h.width + h.size ≡ p + length (flat_entry entry_next.it)
+      next_is = omega (arith, stood.used_is)
 
-    pub entry_found : key ≡ tag → spot p (p + used + width) (p + used + width) (p + used + width + size) ≡ entry_spot l f tag s
-    entry_found e =
-        let from : p + used + width ≡ p + entry_lead next.it = omega (arith, keys.1) in
-        seek_found tag_of_entry (step_at l f) flat_entry (has_tag tag) (all_read i.turn) i.turn.going entry_lead entry_lead next (eq-eqb _ _ (keys.0 ∙ e)) from from next_is
+      pub entry_found : h.key ≡ tag → spot p (p + h.used + h.width) (p + h.used + h.width) (p + h.used + h.width + h.size) ≡ entry_spot l f tag s
+      entry_found t =
+          let from : p + h.used + h.width ≡ p + entry_lead entry_next.it = omega (arith, keys.1) in
+          seek_found tag_of_entry (step_at l f) flat_entry (has_tag tag) all_read i.going entry_lead entry_lead entry_next (eq-eqb _ _ (keys.0 ∙ t)) from from next_is
 
-    pub entry_more : (key ≡ tag → ⊥) → EntryTurn l f tag s (p + used + width + size)
-    entry_more n = record {
-      going = seek_more tag_of_entry (step_at l f) flat_entry (has_tag tag) (all_read i.turn) i.turn.going next (ne_eqb _ _ (λ e. n (sym keys.0 ∙ e))) next_is;
-      bytes = i.turn.bytes;
-      asked = i.turn.asked;
-    }
+      pub entry_more : (h.key ≡ tag → ⊥) → EntryTurn l f tag s (p + h.used + h.width + h.size)
+      entry_more n = record {
+        going = seek_more tag_of_entry (step_at l f) flat_entry (has_tag tag) all_read i.going entry_next (ne_eqb _ _ (λ t. n (sym keys.0 ∙ t))) next_is;
+        bytes = i.bytes;
+        asked = i.asked;
+      }
 
 -- ---- what stands at a tag's spot
 
@@ -176,13 +174,6 @@ module _ (l : Level) (f : Form) (tag : ℕ) (s : List ℕ) {a : Spot} (e : a ≡
 
   pub tag_absent : a.next ≤ a.at → Missed (has_tag tag) (entries_of l f s)
   tag_absent h = spot_absent (has_tag tag) flat_entry entry_lead entry_lead (entries_of l f s) e entry_some h
-
--- the code found a
-pub record TagFound (l : Level) (f : Form) (tag : ℕ) (s : List ℕ) (a : Spot) : Type 0 where
-  pub bytes : Bytes s
-  pub ran : Ran (level_run l f s)
-  pub spot_is : a ≡ entry_spot l f tag s
-  pub some : a.at ≡ a.next → ⊥
 
 -- the head of what a step read
 record Headed (l : Level) (f : Form) (u : List ℕ) (r : Got Entry) : Type 0 where
@@ -204,7 +195,7 @@ headed l f seen u b r e =
       used = h.from - h.width;
       width = h.width;
       size = h.size;
-      here = entry_here l f seen u b r e (heads.Whole h.tag (h.from - h.width) h.width h.size) (ap (λ n. ok (record { tag = h.tag; width = h.width; from = n; size = h.size })) z ∙ sym eh) refl;
+      here = entry_here l f seen u b r e (Ok (head h.tag (h.from - h.width) h.width h.size)) (ap (λ n. ok (record { tag = h.tag; width = h.width; from = n; size = h.size })) z ∙ sym eh) refl;
     }
 
 module _ {l : Level} {f : Form} {tag : ℕ} {s : List ℕ} {a : Spot} (i : TagFound l f tag s a) where

@@ -5,6 +5,7 @@ use native.Mathlib.Omega.{arith}
 use mathlib.Core.Bool.{Bool, true, false}
 use mathlib.Core.List.{List, [], ◌∷◌, ◌++◌}
 use lib.ListN.{length}
+use Rattle.std.specs.Prelude.{Option, Some}
 use Rattle.format.specs.Coding.{Bytes}
 use Rattle.format.specs.Lists.{flat_all}
 use Rattle.format.specs.Table.{Form, set, pack}
@@ -14,15 +15,13 @@ use Rattle.format.proofs.Words.Answers.{no_bool}
 use Rattle.tally.specs.Runs.{Ran, level_run, series_run}
 use Rattle.find.specs.declared.Spot.{Spot}
 use Rattle.find.specs.declared.Place.{Place}
-use Rattle.find.specs.declared.Found.{Found}
-use Rattle.find.specs.declared.Found.TheVariants.{There}
-use Rattle.find.specs.Spots.{no_spot, Missed, Hit, things_of, has_id, packs_of, entry_lead, entry_spot, pack_spot}
+use Rattle.find.specs.Spots.{no_spot, Missed, Hit, things_of, inside, has_id, packs_of, entry_lead, entry_spot, pack_spot}
 use Rattle.format.specs.Targets.{packs_in}
-use Rattle.find.specs.Places.{holder_of, seal_size, SetOf, kept_of, place_in, SetPlaced, Sums, place_under, TargetPlaced, FoundIs}
+use Rattle.find.specs.Places.{holder_of, seal_size, SetOf, kept_of, place_in, SetPlaced, SeriesFound, PackFound, Sums, place_under, TargetPlaced, FoundIs}
 use Rattle.find.proofs.Splices.{hit_spot, narrowed, absent_too}
-use Rattle.find.proofs.Seeks.{ran_ok, inside, inside_long, inside_bytes}
-use Rattle.find.proofs.Entries.{items_flat, items_spot, tag_within, TagFound, tag_hit, tag_at, tag_from, tag_room, tag_series, series_hit, no_series}
-use Rattle.find.proofs.Packs.{packs_flat, id_absent, IdFound, id_hit, id_at, id_pack}
+use Rattle.find.proofs.Seeks.{ran_ok, inside_long, inside_bytes}
+use Rattle.find.proofs.Entries.{items_flat, items_spot, tag_within, tag_hit, tag_at, tag_from, tag_room, tag_series, series_hit, no_series}
+use Rattle.find.proofs.Packs.{packs_flat, id_absent, id_hit, id_at, id_pack}
 use Rattle.find.proofs.Sets.{rest_of, the_rest, seal_room, set_stop, rest_plain}
 
 -- ---- an item of the set
@@ -49,16 +48,6 @@ packs_past (plain i ∷ es) later w ps m = packs_past es later w ps m.1
 packs_past (series v qs ∷ es) later w ps m = no_bool (sym m.0)
 
 -- ---- an item of a target
-
--- in a set that was checked the series stands at a
-pub record SeriesFound (f : Form) (s : List ℕ) (a : Spot) : Type 0 where
-  pub checked : SetOf f s
-  pub found : TagFound set f 101 s a
-
--- and the pack stands at c in its packs
-pub record PackFound (f : Form) (id : ℕ) (s : List ℕ) (a c : Spot) : Type 0 where
-  pub within : SeriesFound f s a
-  pub found : IdFound f id (inside s a) c
 
 -- e, here and below, is what the search ensures that gave a, c or d
 module _ {f : Form} {s : List ℕ} (b : Bytes s) (k : SetOf f s) {a : Spot} (e : Ran (level_run set f s) → a ≡ entry_spot set f 101 s) where
@@ -161,8 +150,8 @@ module _ {f : Form} {id : ℕ} {s : List ℕ} {a c : Spot} (w : PackFound f id s
 
 -- ---- by what holds the item
 
-pub of_set : (f : Form) {b : Bool} (id tag : ℕ) (s : List ℕ) (p : Place) → b ≡ true → SetPlaced f tag s p → FoundIs f (holder_of b id) tag s (There p)
+pub of_set : (f : Form) {b : Bool} (id tag : ℕ) (s : List ℕ) (p : Place) → b ≡ true → SetPlaced f tag s p → FoundIs f (holder_of b id) tag s (Some p)
 of_set f id tag s p e h = rw e h
 
-pub of_target : (f : Form) {b : Bool} (id tag : ℕ) (s : List ℕ) (x : Found) → b ≡ false → FoundIs f (target id) tag s x → FoundIs f (holder_of b id) tag s x
+pub of_target : (f : Form) {b : Bool} (id tag : ℕ) (s : List ℕ) (x : Option Place) → b ≡ false → FoundIs f (target id) tag s x → FoundIs f (holder_of b id) tag s x
 of_target f id tag s x e h = rw e h

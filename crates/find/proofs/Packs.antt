@@ -7,7 +7,8 @@ use mathlib.Core.List.{List, [], map}
 use lib.ListN.{length, take, drop, length-append, length-drop}
 use lib.Seq.{drop-drop}
 use borrow.Author.Tests.{eqb-true, eq-eqb, ne_eqb}
-use Rattle.format.specs.Answer.{ok, Got, got}
+use Rattle.std.specs.Prelude.{Ok, Err}
+use Rattle.format.specs.Answer.{ok, refused, Got, got}
 use Rattle.format.specs.Coding.{Bytes, oid_bytes}
 use Rattle.format.specs.Lists.{flat_all}
 use Rattle.format.specs.Table.{Form, pack}
@@ -19,16 +20,19 @@ use Rattle.format.proofs.Words.Bytes.{bytes_drop}
 use Rattle.format.proofs.Coding.Oids.{oid_some}
 use Rattle.format.proofs.Reading.Packs.{length_pack, pack_faithful}
 use Rattle.coding.proofs.Rooms.{tail_part}
+use Rattle.coding.specs.declared.refusals.Refusal.{Refusal}
+use Rattle.coding.specs.Refusals.{number}
 use Rattle.heads.specs.declared.Head.{Head}
-use Rattle.heads.specs.declared.Head.TheVariants as heads
-use Rattle.heads.specs.Meet.{pack_head_of}
+use Rattle.heads.specs.Meet as heads
+use Rattle.heads.specs.Meet.{pack_head_from}
 use Rattle.tally.specs.Runs.{Ran, level_run, series_run}
 use Rattle.tally.proofs.PackTurns.{drop_take}
 use Rattle.tally.proofs.Steps.{PackHere, pack_here, no_head_pack}
 use Rattle.find.specs.declared.Spot.{Spot}
-use Rattle.find.specs.Spots.{spot, no_spot, has_id, packs_of, pack_lead, pack_spot, Missed, Hit}
+use Rattle.find.specs.Spots.{spot, no_spot, inside, has_id, packs_of, pack_lead, pack_spot, Missed, Hit}
+use Rattle.find.specs.Places.{IdFound}
 use Rattle.find.proofs.Splices.{spot_present, spot_absent}
-use Rattle.find.proofs.Seeks.{Stands, ReadAll, read_all, Seeking, seek_start, Next, next_here, seek_end, seek_done, seek_found, seek_more, Standing, standing, inside, part_at}
+use Rattle.find.proofs.Seeks.{Stands, ReadAll, read_all, Seeking, seek_start, Next, next_here, seek_end, seek_done, seek_found, seek_more, Standing, standing, part_at}
 
 -- ---- what a series' run read
 
@@ -51,12 +55,12 @@ packs_flat f s b h = sym (packs_read f s b h).bytes
 abbrev PackStands : Form → List ℕ → ℕ → Pack → Type 0
 PackStands f s a x = Stands id_of_pack (one_pack f) flat_pack s a x
 
-module _ (f : Form) (s : List ℕ) (a : ℕ) (x : Pack) (w : PackStands f s a x) (h : Head) (eh : pack_head_of h ≡ pack_head (take (length s - a) (drop a s))) where
-  no_head : {X : Type 0} {n : ℕ} → h ≡ heads.Fault n → X
-  no_head t = no_head_pack f w.seen (drop a s) (got x (length (flat_pack x))) w.read h (rw tail_part at eh) t
+module _ (f : Form) (s : List ℕ) (a : ℕ) (x : Pack) (w : PackStands f s a x) where
+  no_head : {X : Type 0} (r : Refusal) → refused (number r) 0 ≡ pack_head (take (length s - a) (drop a s)) → X
+  no_head r eh = no_head_pack f w.seen (drop a s) (got x (length (flat_pack x))) w.read (Err r) (rw tail_part at eh) refl
 
-  head_here : Bytes s → {key used width size : ℕ} → h ≡ heads.Whole key used width size → PackHere f (drop a s) key used width size (got x (length (flat_pack x)))
-  head_here b t = pack_here f w.seen (drop a s) (bytes_drop a s b) (got x (length (flat_pack x))) w.read h (rw tail_part at eh) t
+  head_here : Bytes s → (h : Head) → ok (pack_head_from h) ≡ pack_head (take (length s - a) (drop a s)) → PackHere f (drop a s) h.key h.used h.width h.size (got x (length (flat_pack x)))
+  head_here b h eh = pack_here f w.seen (drop a s) (bytes_drop a s b) (got x (length (flat_pack x))) w.read (Ok h) (rw tail_part at eh) refl
 
 -- ---- the loop
 
@@ -72,12 +76,6 @@ pub record PackTurn (f : Form) (hit : Pack → Bool) (s : List ℕ) (p : ℕ) : 
 abbrev pub pack_start : (f : Form) (hit : Pack → Bool) (s : List ℕ) → Bytes s → (length s ≤ 8192) × Ran (series_run f s) → PackTurn f hit s 0
 pack_start f hit s b h = record { going = seek_start id_of_pack (one_pack f) flat_pack hit (packs_of f s); bytes = b; asked = h }
 
--- the code read h at p
-pub record PackAt (f : Form) (hit : Pack → Bool) (s : List ℕ) (p : ℕ) (h : Head) : Type 0 where
-  pub turn : PackTurn f hit s p
-  pub here : p < length s
-  pub reads : pack_head_of h ≡ pack_head (take (length s - p) (drop p s))
-
 module _ {f : Form} {hit : Pack → Bool} {s : List ℕ} {p : ℕ} (i : PackTurn f hit s p) where
   pub all_read : PacksRead f s
   all_read = packs_read f s i.bytes i.asked.1
@@ -86,65 +84,63 @@ module _ {f : Form} {hit : Pack → Bool} {s : List ℕ} {p : ℕ} (i : PackTurn
   pub pack_end : length s ≤ p → i.going.rest ≡ []
   pack_end h = seek_end id_of_pack (one_pack f) flat_pack hit all_read i.going h
 
-pub pack_done : {f : Form} (id : ℕ) {s : List ℕ} {p : ℕ} → PackTurn f (has_id id) s p → length s ≤ p → no_spot p ≡ pack_spot f id s
-pack_done {f = f} id i h = seek_done id_of_pack (one_pack f) flat_pack (has_id id) (all_read i) i.going (λ q. q.width) pack_lead h
+  -- the code read a refusal at p, which cannot be, or a head
+  module _ (here : p < length s) where
+    pub pack_next : Next id_of_pack (one_pack f) flat_pack hit all_read i.going
+    pack_next = next_here id_of_pack (one_pack f) flat_pack hit all_read i.going here
 
-module _ {f : Form} {hit : Pack → Bool} {s : List ℕ} {p : ℕ} {h : Head} (i : PackAt f hit s p h) where
-  pub pack_next : Next id_of_pack (one_pack f) flat_pack hit (all_read i.turn) i.turn.going
-  pack_next = next_here id_of_pack (one_pack f) flat_pack hit (all_read i.turn) i.turn.going i.here
+    pub pack_fault : {X : Type 0} (r : Refusal) → refused (number r) 0 ≡ pack_head (take (length s - p) (drop p s)) → X
+    pack_fault r e = no_head f s p pack_next.it pack_next.here r e
 
-  pub pack_fault : {X : Type 0} {n : ℕ} → h ≡ heads.Fault n → X
-  pack_fault t = no_head f s p pack_next.it pack_next.here h i.reads t
+    module _ (h : Head) (e : ok (pack_head_from h) ≡ pack_head (take (length s - p) (drop p s))) where
+      stood : PackHere f (drop p s) h.key h.used h.width h.size (got pack_next.it (length (flat_pack pack_next.it)))
+      stood = head_here f s p pack_next.it pack_next.here i.bytes h e
 
-  module _ {key used width size : ℕ} (t : h ≡ heads.Whole key used width size) where
-    stood : PackHere f (drop p s) key used width size (got pack_next.it (length (flat_pack pack_next.it)))
-    stood = head_here f s p pack_next.it pack_next.here h i.reads i.turn.bytes t
+      pub pack_key : id_of_pack pack_next.it ≡ h.key
+      pack_key = ap id_of_pack stood.it_is
 
-    pub pack_key : id_of_pack pack_next.it ≡ key
-    pack_key = ap id_of_pack stood.it_is
+      pub pack_room : (p + h.width + h.size ≤ length s) × (h.used ≤ h.size) × (0 < h.width) × (length s ≤ 8192)
+      pack_room = (omega (arith, stood.room, length-drop p s, here), stood.body, stood.len, i.asked.0)
 
-    pub pack_room : (p + width + size ≤ length s) × (used ≤ size) × (0 < width) × (length s ≤ 8192)
-    pack_room = (omega (arith, stood.room, length-drop p s, i.here), stood.body, stood.len, i.turn.asked.0)
+      pub pack_ends : p + h.width + h.size ≡ p + length (flat_pack pack_next.it)
+      pack_ends = omega (arith, stood.used_is)
 
-    pub pack_ends : p + width + size ≡ p + length (flat_pack pack_next.it)
-    pack_ends = omega (arith, stood.used_is)
-
-    abbrev pub pack_past : hit pack_next.it ≡ false → PackTurn f hit s (p + width + size)
-    pack_past z = record {
-      going = seek_more id_of_pack (one_pack f) flat_pack hit (all_read i.turn) i.turn.going pack_next z pack_ends;
-      bytes = i.turn.bytes;
-      asked = i.turn.asked;
-    }
+      abbrev pub pack_past : hit pack_next.it ≡ false → PackTurn f hit s (p + h.width + h.size)
+      pack_past z = record {
+        going = seek_more id_of_pack (one_pack f) flat_pack hit all_read i.going pack_next z pack_ends;
+        bytes = i.bytes;
+        asked = i.asked;
+      }
 
 -- the loop that ends at an id
-module _ {f : Form} (id : ℕ) {s : List ℕ} {p : ℕ} {h : Head} (i : PackAt f (has_id id) s p h) {key used width size : ℕ} (t : h ≡ heads.Whole key used width size) where
-  pub pack_found : key ≡ id → spot p (p + width) (p + width + used) (p + width + size) ≡ pack_spot f id s
-  pack_found e =
-      let n = pack_next i in
-      let w : n.it.width ≡ width = ap (λ q. q.width) (stood i t).it_is in
-      let oid : length (oid_bytes n.it.id) ≡ used = ap (λ n. length (oid_bytes n)) (pack_key i t) ∙ (stood i t).oid in
-      seek_found id_of_pack (one_pack f) flat_pack (has_id id) (all_read i.turn) i.turn.going (λ q. q.width) pack_lead n (eq-eqb _ _ (pack_key i t ∙ e)) (omega (arith, w)) (omega (arith, w, oid)) (pack_ends i t)
+module _ {f : Form} (id : ℕ) {s : List ℕ} {p : ℕ} (i : PackTurn f (has_id id) s p) where
+  pub pack_done : length s ≤ p → no_spot p ≡ pack_spot f id s
+  pack_done h = seek_done id_of_pack (one_pack f) flat_pack (has_id id) (all_read i) i.going (λ q. q.width) pack_lead h
 
-  pub pack_more : (key ≡ id → ⊥) → PackTurn f (has_id id) s (p + width + size)
-  pack_more n = pack_past i t (ne_eqb _ _ (λ e. n (sym (pack_key i t) ∙ e)))
+  module _ (here : p < length s) (h : Head) (e : ok (pack_head_from h) ≡ pack_head (take (length s - p) (drop p s))) where
+    pub pack_found : h.key ≡ id → spot p (p + h.width) (p + h.width + h.used) (p + h.width + h.size) ≡ pack_spot f id s
+    pack_found t =
+        let n = pack_next i here in
+        let k = stood i here h e in
+        let w : n.it.width ≡ h.width = ap (λ q. q.width) k.it_is in
+        let oid : length (oid_bytes n.it.id) ≡ h.used = ap (λ n. length (oid_bytes n)) (pack_key i here h e) ∙ k.oid in
+        let body : p + h.width ≡ p + n.it.width = omega (arith, w) in
+        let from : p + h.width + h.used ≡ p + pack_lead n.it = omega (arith, w, oid) in
+        seek_found id_of_pack (one_pack f) flat_pack (has_id id) (all_read i) i.going (λ q. q.width) pack_lead n (eq-eqb _ _ (pack_key i here h e ∙ t)) body from (pack_ends i here h e)
+
+    pub pack_more : (h.key ≡ id → ⊥) → PackTurn f (has_id id) s (p + h.width + h.size)
+    pack_more n = pack_past i here h e (ne_eqb _ _ (λ t. n (sym (pack_key i here h e) ∙ t)))
 
 -- ---- what stands at an id's spot
 
 pub id_absent : (f : Form) (id : ℕ) (s : List ℕ) {a : Spot} → a ≡ pack_spot f id s → a.next ≤ a.at → Missed (has_id id) (packs_of f s)
 id_absent f id s e h = spot_absent (has_id id) flat_pack (λ q. q.width) pack_lead (packs_of f s) e pack_some h
 
--- the code found a
-pub record IdFound (f : Form) (id : ℕ) (s : List ℕ) (a : Spot) : Type 0 where
-  pub bytes : Bytes s
-  pub ran : Ran (series_run f s)
-  pub spot_is : a ≡ pack_spot f id s
-  pub some : a.at ≡ a.next → ⊥
-
 -- the head of what a step read
 pub headed : (f : Form) (seen u : List ℕ) → Bytes u → (r : Got Pack) → one_pack f seen u ≡ ok r
     → (h : Read.PackHead) × PackHere f u h.id h.used h.width h.size r × (pack_head u ≡ ok h)
 unfolding one_pack
-headed f seen u b r e = bind_then _ _ _ e λ h eh _. (h, pack_here f seen u b r e (heads.Whole h.id h.used h.width h.size) (sym eh) refl, eh)
+headed f seen u b r e = bind_then _ _ _ e λ h eh _. (h, pack_here f seen u b r e (Ok (heads.head h.id h.used h.width h.size)) (sym eh) refl, eh)
 
 module _ {f : Form} {id : ℕ} {s : List ℕ} {a : Spot} (i : IdFound f id s a) where
   pub id_hit : Hit (has_id id) (packs_of f s)

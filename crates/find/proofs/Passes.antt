@@ -11,16 +11,16 @@ use Rattle.format.specs.Lists.{flat_all}
 use Rattle.format.specs.Table.{Form}
 use Rattle.format.specs.Packet.{Pack, flat_pack}
 use Rattle.format.specs.Read.{pack_head}
+use Rattle.format.specs.Answer.{ok}
 use Rattle.heads.specs.declared.Head.{Head}
-use Rattle.heads.specs.declared.Head.TheVariants as heads
-use Rattle.heads.specs.Meet.{pack_head_of}
+use Rattle.heads.specs.Meet.{pack_head_from}
 use Rattle.tally.specs.Runs.{Ran, series_run}
 use Rattle.find.specs.declared.Spot.{Spot}
 use Rattle.find.specs.declared.around.Packs.{Packs}
 use Rattle.find.specs.Spots.{spot_in, Missed, Hit, has_id, packs_of, pack_lead}
 use Rattle.find.specs.Series.{id_spot, packs_spot}
 use Rattle.find.proofs.Splices.{spot_present, spot_absent, grown_spot, snoc_hit, snoc_missed}
-use Rattle.find.proofs.Packs.{pack_some, PackTurn, pack_start, PackAt, pack_end, pack_next, pack_key, pack_ends, pack_past}
+use Rattle.find.proofs.Packs.{pack_some, PackTurn, pack_start, pack_end, pack_next, pack_key, pack_ends, pack_past}
 
 -- each has at least one byte
 pub few_packs : (ps : List Pack) → length ps ≤ length (flat_all flat_pack ps)
@@ -70,39 +70,30 @@ module _ {f : Form} {id : ℕ} {s : List ℕ} {p at next count : ℕ} (i : PackP
   one_yet n = spot_present (has_id id) flat_pack (λ q. q.width) pack_lead before refl (λ e. n (i.at_is ∙ e ∙ sym i.next_is))
 
 -- the code read h at p
-pub record PassAt (f : Form) (id : ℕ) (s : List ℕ) (p at next count : ℕ) (h : Head) : Type 0 where
-  pub pass : PackPass f id s p at next count
-  pub here : p < length s
-  pub reads : pack_head_of h ≡ pack_head (take (length s - p) (drop p s))
-
-module _ {f : Form} {id : ℕ} {s : List ℕ} {p at next count : ℕ} {h : Head} (i : PassAt f id s p at next count h) where
-  abbrev pub pass_at : PackAt f none s p h
-  pass_at = record { turn = i.pass.turn; here = i.here; reads = i.reads }
-
+module _ {f : Form} {id : ℕ} {s : List ℕ} {p at next count : ℕ} (i : PackPass f id s p at next count) (here : p < length s)
+    (h : Head) (e : ok (pack_head_from h) ≡ pack_head (take (length s - p) (drop p s))) where
   abbrev it : Pack
-  it = (pack_next pass_at).it
+  it = (pack_next i.turn here).it
 
-  module _ {key used width size : ℕ} (t : h ≡ heads.Whole key used width size) where
-    -- past it, with what is kept then
-    past : {at₁ next₁ : ℕ} (a : Spot) → id_spot id (before i.pass ++ (it ∷ [])) ≡ a → at₁ ≡ a.at → next₁ ≡ a.next → PackPass f id s (p + width + size) at₁ next₁ (count + 1)
-    past a e ea en = record {
-      turn = pack_past pass_at t refl;
-      at_is = ea ∙ sym (ap (λ x. x.at) e);
-      next_is = en ∙ sym (ap (λ x. x.next) e);
-      count_is = omega (arith, i.pass.count_is, length-append (before i.pass) (it ∷ []));
-    }
+  -- past it, with what is kept then
+  past : {at₁ next₁ : ℕ} (a : Spot) → id_spot id (before i ++ (it ∷ [])) ≡ a → at₁ ≡ a.at → next₁ ≡ a.next → PackPass f id s (p + h.width + h.size) at₁ next₁ (count + 1)
+  past a ez ea en = record {
+    turn = pack_past i.turn here h e refl;
+    at_is = ea ∙ sym (ap (λ x. x.at) ez);
+    next_is = en ∙ sym (ap (λ x. x.next) ez);
+    count_is = omega (arith, i.count_is, length-append (before i) (it ∷ []));
+  }
 
-    pub pass_found : at ≡ next → key ≡ id → PackPass f id s (p + width + size) p (p + width + size) (count + 1)
-    pass_found m e =
-        past _ (snoc_hit (has_id id) flat_pack (λ q. q.width) pack_lead (before i.pass) it (none_yet i.pass m) (eq-eqb _ _ (pack_key pass_at t ∙ e)) p i.pass.turn.going.p_is) refl (pack_ends pass_at t)
+  pub pass_found : at ≡ next → h.key ≡ id → PackPass f id s (p + h.width + h.size) p (p + h.width + h.size) (count + 1)
+  pass_found m t =
+      let hits = eq-eqb _ _ (pack_key i.turn here h e ∙ t) in
+      past _ (snoc_hit (has_id id) flat_pack (λ q. q.width) pack_lead (before i) it (none_yet i m) hits p i.turn.going.p_is) refl (pack_ends i.turn here h e)
 
-    pub pass_missed : at ≡ next → (key ≡ id → ⊥) → PackPass f id s (p + width + size) (p + width + size) (p + width + size) (count + 1)
-    pass_missed m n =
-        past
-        _
-        (snoc_missed (has_id id) flat_pack (λ q. q.width) pack_lead (before i.pass) it (none_yet i.pass m) (ne_eqb _ _ (λ e. n (sym (pack_key pass_at t) ∙ e))) p i.pass.turn.going.p_is)
-        (pack_ends pass_at t)
-        (pack_ends pass_at t)
+  pub pass_missed : at ≡ next → (h.key ≡ id → ⊥) → PackPass f id s (p + h.width + h.size) (p + h.width + h.size) (p + h.width + h.size) (count + 1)
+  pass_missed m n =
+      let other = ne_eqb _ _ (λ t. n (sym (pack_key i.turn here h e) ∙ t)) in
+      let z = snoc_missed (has_id id) flat_pack (λ q. q.width) pack_lead (before i) it (none_yet i m) other p i.turn.going.p_is in
+      past _ z (pack_ends i.turn here h e) (pack_ends i.turn here h e)
 
-    pub pass_kept : (at ≡ next → ⊥) → PackPass f id s (p + width + size) at next (count + 1)
-    pass_kept n = past _ (grown_spot (has_id id) (before i.pass) (it ∷ []) refl flat_pack (λ q. q.width) pack_lead (one_yet i.pass n)) i.pass.at_is i.pass.next_is
+  pub pass_kept : (at ≡ next → ⊥) → PackPass f id s (p + h.width + h.size) at next (count + 1)
+  pass_kept n = past _ (grown_spot (has_id id) (before i) (it ∷ []) refl flat_pack (λ q. q.width) pack_lead (one_yet i n)) i.at_is i.next_is

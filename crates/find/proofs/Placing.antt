@@ -16,7 +16,7 @@ use Rattle.format.proofs.Coding.Lengths.{length_len}
 use Rattle.format.proofs.Reading.Items.{length_item}
 use Rattle.find.specs.declared.Place.{Place}
 use Rattle.find.specs.Spots.{has_item, has_id, item_lead, entry_spot}
-use Rattle.find.specs.Places.{SetOf, kept_of, SetPlaced, TargetPlaced, Placed, Ordered}
+use Rattle.find.specs.Places.{SetOf, kept_of, TargetPlaced, Placed, Ordered}
 use Rattle.find.proofs.Splices.{hit_flat, spot_room, spot_from}
 use Rattle.find.proofs.Entries.{tag_within}
 use Rattle.find.proofs.Sets.{set_long}

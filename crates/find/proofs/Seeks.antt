@@ -15,16 +15,12 @@ use Rattle.format.proofs.Words.Flats.{flat_append, flat_snoc}
 use Rattle.format.proofs.Reading.Runs.{Along, Faithful, ReadsAt, RanAll, all_says}
 use Rattle.tally.specs.Runs.{Ran}
 use Rattle.find.specs.declared.Spot.{Spot}
-use Rattle.find.specs.Spots.{spot, no_spot, spot_in, things_of, Missed, Hit}
+use Rattle.find.specs.Spots.{spot, no_spot, spot_in, things_of, inside, Missed, Hit}
 use Rattle.find.proofs.Splices.{all_snoc, spot_past, spot_hit, hit_spot}
 
 -- a run that came to its end
 pub ran_ok : {X : Type 0} (m : Ans (Got (List X))) {rs : Got (List X)} → m ≡ ok rs → Ran m
 ran_ok m e = rw e tt
-
--- the bytes of a thing's value or items, as they are lent
-abbrev pub inside : List ℕ → Spot → List ℕ
-inside s a = take (a.next - a.from) (drop a.from s)
 
 module _ (s : List ℕ) (a : Spot) where
   pub inside_long : (a.from ≤ a.next) × (a.next ≤ length s) → length (inside s a) ≡ a.next - a.from

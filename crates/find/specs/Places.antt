@@ -1,21 +1,18 @@
 -- What a place says: of the entries of a packet's set, and of an item that the set holds, or the target with an id.
-use Rattle.std.specs.Prelude.{◌≡◌, ℕ, ◌+◌, ◌≤◌, ◌<◌, Bool, true, false, List, [], ◌∷◌, ◌++◌, length}
-use Rattle.format.specs.Coding.{oid_bytes}
+use Rattle.std.specs.Prelude.{◌≡◌, ℕ, ◌+◌, ◌≤◌, ◌<◌, Bool, true, false, Option, Some, None, List, [], ◌∷◌, ◌++◌, length}
+use Rattle.format.specs.Coding.{Bytes, oid_bytes}
 use Rattle.format.specs.Lists.{flat_all}
-use Rattle.format.specs.Table.{Form, embedded, standalone, set}
+use Rattle.format.specs.Table.{Form, Level, embedded, standalone, set}
 use Rattle.format.specs.Packet.{Item, Pack, Entry, plain, series, flat_item, flat_pack, flat_entry}
 use Rattle.format.specs.Read.{unsealed}
 use Rattle.format.specs.Rows.{seal_item}
 use Rattle.format.specs.Edit.{Holder, the_set, target, is_series}
 pub use Rattle.format.specs.Targets.{packs_in}
-use Rattle.tally.specs.Runs.{Ran, level_run}
+use Rattle.tally.specs.Runs.{Ran, level_run, series_run}
 use Rattle.find.specs.declared.Spot.{Spot}
 use Rattle.find.specs.declared.Place.{Place}
-use Rattle.find.specs.declared.Found.{Found}
-use Rattle.find.specs.declared.Found.TheVariants.{There, Nowhere}
-use Rattle.find.specs.declared.Both.{Both}
-use Rattle.find.specs.declared.Both.TheVariants as both
-use Rattle.find.specs.Spots.{no_spot, Missed, Hit, entries_of, has_id, item_spot, entry_spot}
+use Rattle.find.specs.declared.Held.{Held}
+use Rattle.find.specs.Spots.{no_spot, Missed, Hit, entries_of, inside, has_id, item_spot, entry_spot, pack_spot}
 
 abbrev pub holder_of : Bool → ℕ → Holder
 holder_of true id = the_set
@@ -54,6 +51,41 @@ pub record SetPlaced (f : Form) (tag : ℕ) (s : List ℕ) (p : Place) : Type 0 
   pub stop_is : stop ≡ length (flat_all flat_entry (kept_of f s))
   pub there : (entry_spot set f tag s).at < (entry_spot set f tag s).next → p ≡ place_in (entry_spot set f tag s) stop
   pub added : (entry_spot set f tag s).next ≤ (entry_spot set f tag s).at → p ≡ place_in (no_spot stop) stop
+
+-- ---- the series, and a pack of it
+
+-- there is no such target
+abbrev pub Unheld : Form → Holder → List ℕ → Type 0
+Unheld f the_set s = ⊥
+Unheld f (target id) s = Missed (has_id id) (packs_in (kept_of f s))
+
+-- an entry with this tag stands at a
+pub record TagFound (l : Level) (f : Form) (tag : ℕ) (s : List ℕ) (a : Spot) : Type 0 where
+  pub bytes : Bytes s
+  pub ran : Ran (level_run l f s)
+  pub spot_is : a ≡ entry_spot l f tag s
+  pub some : a.at ≡ a.next → ⊥
+
+-- a pack with this id stands at a
+pub record IdFound (f : Form) (id : ℕ) (s : List ℕ) (a : Spot) : Type 0 where
+  pub bytes : Bytes s
+  pub ran : Ran (series_run f s)
+  pub spot_is : a ≡ pack_spot f id s
+  pub some : a.at ≡ a.next → ⊥
+
+-- in a set that was checked the series stands at a
+pub record SeriesFound (f : Form) (s : List ℕ) (a : Spot) : Type 0 where
+  pub checked : SetOf f s
+  pub found : TagFound set f 101 s a
+
+-- and the pack stands at c in its packs
+pub record PackFound (f : Form) (id : ℕ) (s : List ℕ) (a c : Spot) : Type 0 where
+  pub within : SeriesFound f s a
+  pub found : IdFound f id (inside s a) c
+
+abbrev pub HeldIs : Form → ℕ → List ℕ → Option Held → Type 0
+HeldIs f id s (Some h) = PackFound f id s h.series h.pack
+HeldIs f id s None = Unheld f (target id) s
 
 -- ---- an item of a target
 
@@ -110,19 +142,14 @@ abbrev pub Placed : Form → Holder → ℕ → List ℕ → Place → Type 0
 Placed f the_set tag s p = SetPlaced f tag s p
 Placed f (target id) tag s p = TargetPlaced f id tag s p
 
--- there is no such target
-abbrev pub Unheld : Form → Holder → List ℕ → Type 0
-Unheld f the_set s = ⊥
-Unheld f (target id) s = Missed (has_id id) (packs_in (kept_of f s))
-
-abbrev pub FoundIs : Form → Holder → ℕ → List ℕ → Found → Type 0
-FoundIs f h tag s (There p) = Placed f h tag s p
-FoundIs f h tag s Nowhere = Unheld f h s
+abbrev pub FoundIs : Form → Holder → ℕ → List ℕ → Option Place → Type 0
+FoundIs f h tag s (Some p) = Placed f h tag s p
+FoundIs f h tag s None = Unheld f h s
 
 -- of two items of one target
-abbrev pub BothAre : Form → ℕ → ℕ → ℕ → List ℕ → Both → Type 0
-BothAre f id tag other s (both.There p q) = TargetPlaced f id tag s p × TargetPlaced f id other s q
-BothAre f id tag other s both.Nowhere = Unheld f (target id) s
+abbrev pub BothAre : Form → ℕ → ℕ → ℕ → List ℕ → Option (Place × Place) → Type 0
+BothAre f id tag other s (Some p) = TargetPlaced f id tag s p.0 × TargetPlaced f id other s p.1
+BothAre f id tag other s None = Unheld f (target id) s
 
 -- ---- the numbers of a place
 

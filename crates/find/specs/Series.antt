@@ -25,6 +25,10 @@ packs_spot id ps = record { at = (id_spot id ps).at; next = (id_spot id ps).next
 
 -- ---- packs passed
 
+-- a length of one byte or of two
+abbrev pub InWidth : ℕ → ℕ → Type 0
+InWidth w n = (1 ≤ w) × (w ≤ 2) × (w ≡ 1 → n < 128)
+
 -- the first byte of an id that a pack may have
 abbrev pub LeadOf : ℕ → ℕ → Type 0
 LeadOf id lead = id < 2 ^ 63 → lead ≡ get_or (oid_bytes id) 0 0

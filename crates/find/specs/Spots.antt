@@ -1,5 +1,5 @@
 -- Where something stands in a list that lies flat, and what stands there exchanged; where the code that looks for it meets document 01.
-use Rattle.std.specs.Prelude.{◌≡◌, ℕ, ◌+◌, Bool, true, false, List, [], ◌∷◌, ◌++◌, length, take, drop, eqb}
+use Rattle.std.specs.Prelude.{◌≡◌, ℕ, ◌+◌, ◌-◌, Bool, true, false, List, [], ◌∷◌, ◌++◌, length, take, drop, eqb}
 use Rattle.format.specs.Answer.{Ans, ok, refused, Got}
 use Rattle.format.specs.Coding.{oid_bytes}
 use Rattle.format.specs.Table.{Form, Level}
@@ -31,6 +31,10 @@ pub record Hit {X : Type 0} (hit : X → Bool) (xs : List X) : Type 0 where
   pub list_is : xs ≡ before ++ it ∷ later
   pub missed : Missed hit before
   pub hits : hit it ≡ true
+
+-- the bytes of a thing's value or items, as they are lent
+abbrev pub inside : List ℕ → Spot → List ℕ
+inside s a = take (a.next - a.from) (drop a.from s)
 
 -- the bytes of b from a to n exchanged
 unfoldable pub splice : List ℕ → ℕ → ℕ → List ℕ → List ℕ

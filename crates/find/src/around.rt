@@ -1,14 +1,15 @@
 // Where a target would be added or dropped: the series, the pack with an id in it, how many packs there are, and the set's tag 6.
-ghost use Rattle.std.specs.Prelude.{◌≡◌, ◌≤◌, ◌<◌, length};
+ghost use Rattle.std.specs.Prelude.{◌≡◌, ◌+◌, ◌≤◌, ◌<◌, true, length, drop};
+ghost use Rattle.format.specs.Answer.{ok, got};
+ghost use Rattle.format.specs.Coding.{len_of};
 ghost use Rattle.format.specs.Table.{Form};
 ghost use Rattle.items.specs.Meet.{form_of};
 ghost use Rattle.tally.specs.Runs.{Ran, series_run};
 ghost use Rattle.find.specs.Spots.{packs_of};
 ghost use Rattle.find.specs.Places.{SetOf, kept_of};
-ghost use Rattle.find.specs.Series.{LeadOf, AlikeAsked, AlikePassed, packs_spot, spot_within, series_in};
+ghost use Rattle.find.specs.Series.{LeadOf, InWidth, AlikeAsked, AlikePassed, packs_spot, spot_within, series_in};
 
 use super::{Spot, item_spot, no_spot, stop_of};
-use heads::Head;
 
 // In the bytes of a series: where the pack with an id begins, what follows it, and how many packs there are. Where there is no such pack,
 // both are the end.
@@ -56,44 +57,23 @@ fn lead_of(id: u64) -> u8
     (128 + m) as u8
 }
 
-// Past the packs whose length is `size` in one byte, up to one whose id begins with `lead`. Where the next begins waits for no load.
-fn alike_one(s: &[u8], from: usize, size: usize, lead: u8) -> Run
-    requires { (size < 128) × AlikeAsked s.now from }
-    ensures { AlikePassed s.now from lead result }
+// Whether the length at p is `size`, in WIDTH bytes: the first of two is 129.
+fn is_length<const WIDTH: usize>(s: &[u8], p: usize, size: usize) -> bool
+    requires { InWidth WIDTH size × (p + 2 < length s.now) }
+    ensures { result ≡ true → len_of (drop p s.now) ≡ ok (got size WIDTH) }
 {
-    let mut p = from;
-    let mut count: usize = 0;
-    while p + 2 < s.len() {
-        if s[p] as usize != size {
-            return Run { at: p, count };
-        }
-        if s[p + 1] == lead {
-            return Run { at: p, count };
-        }
-        p = p + 1 + size;
-        count += 1;
-    }
-    Run { at: p, count }
+    (WIDTH == 1 || s[p] == 129) && s[p + WIDTH - 1] as usize == size
 }
 
-// The same for a length of two bytes.
-fn alike_two(s: &[u8], from: usize, size: usize, lead: u8) -> Run
-    requires { AlikeAsked s.now from }
+// Past the packs with this length in WIDTH bytes, up to one whose id begins with `lead`. Where the next begins waits for no load.
+fn alike_in<const WIDTH: usize>(s: &[u8], from: usize, size: usize, lead: u8) -> Run
+    requires { InWidth WIDTH size × AlikeAsked s.now from }
     ensures { AlikePassed s.now from lead result }
 {
     let mut p = from;
     let mut count: usize = 0;
-    while p + 2 < s.len() {
-        if s[p] != 129 {
-            return Run { at: p, count };
-        }
-        if s[p + 1] as usize != size {
-            return Run { at: p, count };
-        }
-        if s[p + 2] == lead {
-            return Run { at: p, count };
-        }
-        p = p + 2 + size;
+    while p + 2 < s.len() && is_length::<WIDTH>(s, p, size) && s[p + WIDTH] != lead {
+        p = p + WIDTH + size;
         count += 1;
     }
     Run { at: p, count }
@@ -104,13 +84,11 @@ fn alike(s: &[u8], from: usize, width: usize, size: usize, lead: u8) -> Run
     requires { (width ≡ 1 → size < 128) × AlikeAsked s.now from }
     ensures { AlikePassed s.now from lead result }
 {
-    if width == 1 {
-        return alike_one(s, from, size, lead);
+    match width {
+        1 => alike_in::<1>(s, from, size, lead),
+        2 => alike_in::<2>(s, from, size, lead),
+        _ => Run { at: from, count: 0 },
     }
-    if width == 2 {
-        return alike_two(s, from, size, lead);
-    }
-    Run { at: from, count: 0 }
 }
 
 // All packs of a series. Ids stand once, so that the one found is the first.
@@ -124,28 +102,21 @@ fn packs_of(s: &[u8], id: u64) -> Packs
     let mut next: usize = 0;
     let mut count: usize = 0;
     while p < s.len() {
-        let h = heads::quick_pack_head(&s[p..]);
-        let Head::Whole {
-            key,
-            used: _,
-            width,
-            size,
-        } = h
-        else {
+        let Ok(head) = heads::quick_pack_head(&s[p..]) else {
             return Packs { at, next, count };
         };
-        let end = p + width + size;
+        let end = p + head.width + head.size;
         if at == next {
             next = end;
-            at = if key == id { p } else { end };
+            at = if head.key == id { p } else { end };
         }
-        let q = alike(s, end, width, size, lead);
+        let run = alike(s, end, head.width, head.size, lead);
         if at == next {
-            at = q.at;
-            next = q.at;
+            at = run.at;
+            next = run.at;
         }
-        count = count + 1 + q.count;
-        p = q.at;
+        count = count + 1 + run.count;
+        p = run.at;
     }
     Packs { at, next, count }
 }
@@ -166,20 +137,18 @@ pub fn series_of(s: &[u8], alone: bool, id: u64) -> Series
     ensures { result ≡ series_in id (kept_of (form_of alone) s.now) }
 {
     let stop = stop_of(s, alone);
-    let c = within(item_spot(s, true, 6), stop);
-    let a = within(item_spot(s, true, 101), stop);
-    let packs = a.from;
-    let tail = a.next;
-    let b = packs_of(&s[packs..tail], id);
+    let six = within(item_spot(s, true, 6), stop);
+    let series = within(item_spot(s, true, 101), stop);
+    let packs = packs_of(&s[series.from..series.next], id);
     Series {
-        at: a.at,
-        packs,
-        pack: packs + b.at,
-        last: packs + b.next,
-        tail,
+        at: series.at,
+        packs: series.from,
+        pack: series.from + packs.at,
+        last: series.from + packs.next,
+        tail: series.next,
         stop,
-        six: c.at,
-        after: c.next,
-        count: b.count,
+        six: six.at,
+        after: six.next,
+        count: packs.count,
     }
 }

@@ -1,17 +1,16 @@
 // The one search, in what was checked: the series, the pack with an id, the item with a tag. Each is one loop over heads, to the first hit.
 #![tactic(auto)]
 
-ghost use Rattle.std.specs.Prelude.{◌≡◌, ◌-◌, ◌≤◌, length};
+ghost use Rattle.std.specs.Prelude.{◌≡◌, ℕ, ◌-◌, ◌≤◌, length};
 ghost use Rattle.format.specs.Table.{Form};
 ghost use Rattle.format.specs.Edit.{target};
 ghost use Rattle.items.specs.Meet.{form_of, level_of};
 ghost use Rattle.tally.specs.Runs.{Ran, level_run, series_run};
 ghost use Rattle.find.specs.Spots.{no_spot, entry_spot, pack_spot};
-ghost use Rattle.find.specs.Places.{holder_of, seal_size, SetOf, place_in, SetPlaced, FoundIs, Sums, place_under, BothAre};
+ghost use Rattle.find.specs.Places.{holder_of, seal_size, SetOf, place_in, SetPlaced, PackFound, HeldIs};
+ghost use Rattle.find.specs.Places.{Sums, place_under, TargetPlaced, FoundIs, BothAre};
 
 pub mod around;
-
-use heads::Head;
 
 // Where something stands: where it begins, where what its length counts begins (an item's value, a pack's id), where its value or
 // its items begin, and what follows it. Where it is not there, all four are the end.
@@ -42,19 +41,12 @@ pub fn item_spot(s: &[u8], set: bool, tag: u64) -> Spot
 {
     let mut p: usize = 0;
     while p < s.len() {
-        let h = heads::quick_item_head(&s[p..], set);
-        let Head::Whole {
-            key,
-            used,
-            width,
-            size,
-        } = h
-        else {
+        let Ok(head) = heads::quick_item_head(&s[p..], set) else {
             return no_spot(p);
         };
-        let from = p + used + width;
-        let next = from + size;
-        if key == tag {
+        let from = p + head.used + head.width;
+        let next = from + head.size;
+        if head.key == tag {
             return Spot {
                 at: p,
                 body: from,
@@ -74,24 +66,16 @@ pub fn pack_spot(s: &[u8], id: u64) -> Spot
 {
     let mut p: usize = 0;
     while p < s.len() {
-        let h = heads::quick_pack_head(&s[p..]);
-        let Head::Whole {
-            key,
-            used,
-            width,
-            size,
-        } = h
-        else {
+        let Ok(head) = heads::quick_pack_head(&s[p..]) else {
             return no_spot(p);
         };
-        let body = p + width;
-        let next = body + size;
-        if key == id {
-            let from = body + used;
+        let body = p + head.width;
+        let next = body + head.size;
+        if head.key == id {
             return Spot {
                 at: p,
                 body,
-                from,
+                from: body + head.used,
                 next,
             };
         }
@@ -117,20 +101,6 @@ pub struct Place {
     pub last: usize,
     pub tail: usize,
     pub stop: usize,
-}
-
-// The place; or that there is no such target.
-#[derive(Clone, Copy)]
-pub enum Found {
-    There(Place),
-    Nowhere,
-}
-
-// The places of two items of one target; or that there is no such target.
-#[derive(Clone, Copy)]
-pub enum Both {
-    There { first: Place, second: Place },
-    Nowhere,
 }
 
 // Where the entries end: before the checksum.
@@ -180,78 +150,81 @@ fn place_under(a: Spot, b: Spot, c: Spot, stop: usize) -> Place
     requires { Sums a b c }
     ensures { result ≡ place_under a b c stop }
 {
-    let base = a.from + b.from;
+    let items = a.from + b.from;
     Place {
         series: a.at,
         packs: a.from,
         pack: a.from + b.at,
         body: a.from + b.body,
-        at: base + c.at,
-        from: base + c.from,
-        next: base + c.next,
+        at: items + c.at,
+        from: items + c.from,
+        next: items + c.next,
         last: a.from + b.next,
         tail: a.next,
         stop,
     }
 }
 
-// The series, its pack with the id, and the item in that.
-fn target_place(s: &[u8], alone: bool, id: u64, tag: u64) -> Found
+// The series, and the pack with an id in it: each counted from where what holds it begins.
+#[derive(Clone, Copy)]
+struct Held {
+    series: Spot,
+    pack: Spot,
+}
+
+// The same for every form under which the set was checked; `None` if there is no such target. In line at both calls: a call costs nanoseconds.
+#[inline(always)]
+fn pack_in(s: &[u8], id: u64) -> Option<Held>
+    requires { (f : Form) × SetOf f s.now }
+    ensures { (f : Form) → SetOf f s.now → HeldIs f id s.now result }
+{
+    let series = item_spot(s, true, 101);
+    if series.at == series.next {
+        return None;
+    }
+    let pack = pack_spot(&s[series.from..series.next], id);
+    if pack.at == pack.next {
+        return None;
+    }
+    Some(Held { series, pack })
+}
+
+// An item of the pack.
+#[inline(always)]
+fn item_in(s: &[u8], alone: bool, held: Held, tag: u64) -> Place
+    requires { (id : ℕ) × PackFound (form_of alone) id s.now held.series held.pack }
+    ensures { (id : ℕ) → PackFound (form_of alone) id s.now held.series held.pack → TargetPlaced (form_of alone) id tag s.now result }
+{
+    let packs = &s[held.series.from..held.series.next];
+    let item = item_spot(&packs[held.pack.from..held.pack.next], false, tag);
+    place_under(held.series, held.pack, item, stop_of(s, alone))
+}
+
+// An item of the target with the id; `None` if there is no such target.
+fn target_place(s: &[u8], alone: bool, id: u64, tag: u64) -> Option<Place>
     requires { SetOf (form_of alone) s.now }
     ensures { FoundIs (form_of alone) (target id) tag s.now result }
 {
-    let a = item_spot(s, true, 101);
-    if a.at == a.next {
-        return Found::Nowhere;
-    }
-    let packs = a.from;
-    let tail = a.next;
-    let inner = &s[packs..tail];
-    let b = pack_spot(inner, id);
-    if b.at == b.next {
-        return Found::Nowhere;
-    }
-    let items = b.from;
-    let end = b.next;
-    let c = item_spot(&inner[items..end], false, tag);
-    let stop = stop_of(s, alone);
-    Found::There(place_under(a, b, c, stop))
+    let held = pack_in(s, id)?;
+    Some(item_in(s, alone, held, tag))
 }
 
-// The same for two items of one target, as a walk of its own: so that each way is compiled into its caller.
-pub fn places_of(s: &[u8], alone: bool, id: u64, tag: u64, other: u64) -> Both
+// The same for two items of one target.
+pub fn places_of(s: &[u8], alone: bool, id: u64, tag: u64, other: u64) -> Option<(Place, Place)>
     requires { SetOf (form_of alone) s.now }
     ensures { BothAre (form_of alone) id tag other s.now result }
 {
-    let a = item_spot(s, true, 101);
-    if a.at == a.next {
-        return Both::Nowhere;
-    }
-    let packs = a.from;
-    let tail = a.next;
-    let inner = &s[packs..tail];
-    let b = pack_spot(inner, id);
-    if b.at == b.next {
-        return Both::Nowhere;
-    }
-    let items = b.from;
-    let end = b.next;
-    let c = item_spot(&inner[items..end], false, tag);
-    let d = item_spot(&inner[items..end], false, other);
-    let stop = stop_of(s, alone);
-    Both::There {
-        first: place_under(a, b, c, stop),
-        second: place_under(a, b, d, stop),
-    }
+    let held = pack_in(s, id)?;
+    Some((item_in(s, alone, held, tag), item_in(s, alone, held, other)))
 }
 
-// The place of an item; or that there is no such target.
-pub fn place_of(s: &[u8], alone: bool, set: bool, id: u64, tag: u64) -> Found
+// The place of an item; `None` if there is no such target.
+pub fn place_of(s: &[u8], alone: bool, set: bool, id: u64, tag: u64) -> Option<Place>
     requires { SetOf (form_of alone) s.now }
     ensures { FoundIs (form_of alone) (holder_of set id) tag s.now result }
 {
     if set {
-        return Found::There(set_place(s, alone, tag));
+        return Some(set_place(s, alone, tag));
     }
     target_place(s, alone, id, tag)
 }

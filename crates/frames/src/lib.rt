@@ -7,6 +7,7 @@ ghost use Rattle.items.specs.Meet.{form_of};
 ghost use Rattle.frames.specs.Meet.{frame_size, open_bytes, seal_bytes};
 
 // The bytes of a packet whose entries have n.
+#[tactic(auto, using(coding::proofs::Counts::len_most))]
 pub fn frame_size(alone: bool, n: usize) -> usize
     requires { n ≤ 1048576 }
     ensures { result ≡ frame_size (form_of alone) n }
@@ -18,6 +19,7 @@ pub fn frame_size(alone: bool, n: usize) -> usize
 }
 
 // What stands before entries of n bytes; where it ends.
+#[tactic(auto, using(crate::proofs::Parts::opening))]
 pub fn open(out: &mut [u8], alone: bool, n: usize) -> usize
     requires { (n ≤ 1048576) × (length (open_bytes (form_of alone) n) ≤ length out.old) }
     ensures { (result ≡ length (open_bytes (form_of alone) n)) × (out.new ≡ sets out.old 0 (open_bytes (form_of alone) n)) }
@@ -31,6 +33,7 @@ pub fn open(out: &mut [u8], alone: bool, n: usize) -> usize
 }
 
 // What follows an opened packet with its entries, which end at at; where it ends.
+#[tactic(auto, using(crate::proofs::Parts::closing))]
 pub fn close(out: &mut [u8], alone: bool, at: usize) -> usize
     requires { (at + length (seal_bytes (form_of alone) []) ≤ length out.old) × (at + length (seal_bytes (form_of alone) []) ≤ 8192) }
     ensures { (result ≡ at + length (seal_bytes (form_of alone) (take at out.old)))

@@ -8,6 +8,7 @@ use lib.ListN.{length, take, drop, length-drop}
 use lib.Seq.{drop-drop}
 use lib.Dec.{eqb, ltb}
 use borrow.Author.Tests.{eq-eqb, ne_eqb, ltb-true, ltb-false}
+use Rattle.std.specs.Prelude.{Some, None}
 use Rattle.format.specs.Answer.{Ans, ok, refused, Got, got}
 use Rattle.format.specs.Lists.{has}
 use Rattle.format.specs.Read.{head_of, PackHead, pack_head}
@@ -17,9 +18,11 @@ use Rattle.format.proofs.Bounds.Packets.{head_room, pack_head_room}
 use Rattle.coding.proofs.Rooms.{tail_part}
 use Rattle.items.specs.Meet.{level_of}
 use Rattle.heads.specs.Records.{peek_record}
-use Rattle.heads.specs.Meet.{item_head_of, pack_head_of, peek_item, peek_pack, peek, Peeked, Heads, Past}
+use Rattle.heads.specs.Meet.{item_head, pack_head_from, peek_item, peek_pack, peek, peek_by, Peeked, Heads, Past}
 use Rattle.heads.specs.declared.Head.{Head}
-use Rattle.heads.specs.declared.Head.TheVariants.{Whole, Fault}
+use Rattle.heads.specs.declared.Look.{Look}
+use Rattle.heads.specs.declared.Look.TheVariants.{Packs, Items, Targets, Records}
+use Rattle.heads.specs.declared.Next.{Next}
 use Rattle.heads.proofs.Spans.{record_room}
 
 -- ---- what is next
@@ -33,36 +36,18 @@ module _ (set : Bool) (s : List ℕ) where
   unfolding peek
   pack_peek h e = ap peek_pack e
 
-  -- as the code reads it
-  pub record_next : {sheet : Bool} (ids : Bool) → sheet ≡ true → (k u : ℕ) → Peeked (peek_record ids set) s k u → Peeked (peek sheet ids set) s k u
-  unfolding peek
-  record_next ids i k u p = rw i p
-
-  module _ {sheet ids : Bool} (o : sheet ≡ false) (i : ids ≡ true) {h : Head} (e : pack_head_of h ≡ pack_head s) where
-    pub no_pack_next : {n : ℕ} → h ≡ Fault n → Peeked (peek sheet ids set) s 0 0
-    unfolding peek
-    no_pack_next t = rw (o, i, ← e, t) (refl, refl)
-
-    pub pack_next : {k u w n : ℕ} → h ≡ Whole k u w n → Peeked (peek sheet ids set) s k (w + n)
-    unfolding peek
-    pack_next t = rw (o, i, ← e, t) (refl, refl)
-
-  module _ {sheet ids : Bool} (o : sheet ≡ false) (i : ids ≡ false) {h : Head} (e : item_head_of h ≡ head_of (level_of set) s) where
-    pub no_item_next : {n : ℕ} → h ≡ Fault n → Peeked (peek sheet ids set) s 0 0
-    unfolding peek
-    no_item_next t = rw (o, i, ← e, t) (refl, refl)
-
-    pub item_next : {k u w n : ℕ} → h ≡ Whole k u w n → Peeked (peek sheet ids set) s k (u + w + n)
-    unfolding peek
-    item_next t = rw (o, i, ← e, t) (refl, refl)
-
 -- the key at p, as the code reads it there
-module _ (set : Bool) (s : List ℕ) (p : ℕ) {h : Head} {k u w n : ℕ} (t : h ≡ Whole k u w n) where
-  pub item_key : item_head_of h ≡ head_of (level_of set) (take (length s - p) (drop p s)) → k ≡ (peek false false set (drop p s)).val
-  item_key e = (item_next set (drop p s) refl refl (rw tail_part at e) t).0
+module _ (set : Bool) (s : List ℕ) (p : ℕ) (h : Head) where
+  pub item_key : ok (item_head h) ≡ head_of (level_of set) (take (length s - p) (drop p s)) → h.key ≡ (peek false false set (drop p s)).val
+  item_key e = sym (ap (λ (x : Got ℕ). x.val) (item_peek set (drop p s) (item_head h) (sym (rw tail_part at e))))
 
-  pub pack_key : pack_head_of h ≡ pack_head (take (length s - p) (drop p s)) → k ≡ (peek false true set (drop p s)).val
-  pack_key e = (pack_next set (drop p s) refl refl (rw tail_part at e) t).0
+  pub pack_key : ok (pack_head_from h) ≡ pack_head (take (length s - p) (drop p s)) → h.key ≡ (peek false true set (drop p s)).val
+  pack_key e = sym (ap (λ (x : Got ℕ). x.val) (pack_peek set (drop p s) (pack_head_from h) (sym (rw tail_part at e))))
+
+-- among targets it does not matter of what level the records would be
+pub targets_same : (set : Bool) → peek true true set ≡ peek true true false
+unfolding peek peek_record
+targets_same set = refl
 
 -- what a look finds lies within the bytes
 abbrev pub Looks : (List ℕ → Got ℕ) → Type 0
@@ -82,15 +67,21 @@ peek_room false false set s = by (head_of (level_of set) s) refl
     by (ok h) e = head_room (level_of set) s h e
     by (refused n p) e = omega arith
 
+pub look_room : (look : Look) → Looks (peek_by look)
+look_room Packs = peek_room false true false
+look_room (Items set) = peek_room false false set
+look_room Targets = peek_room true true false
+look_room (Records set) = peek_room true false set
+
 -- ---- looking back
 
 -- the keys that head the first p bytes begin with the one that is next
-heads_next : (look : List ℕ → Got ℕ) (s : List ℕ) (p k u : ℕ) → Peeked look s k u → 0 < p → (ks : List ℕ) → Heads look s p ks
+heads_next : (look : List ℕ → Got ℕ) (s : List ℕ) (p k u : ℕ) → look s ≡ got k u → 0 < p → (ks : List ℕ) → Heads look s p ks
     → (js : List ℕ) × (ks ≡ k ∷ js) × (0 < u) × Heads look (drop u s) (p - u) js
 heads_next look s p k u e g [] h = absurd (omega arith)
 heads_next look s p k u e g (j ∷ js) (v, q, z, y, h) =
-    let a : k ≡ j = e.0 ∙ ap (λ (x : Got ℕ). x.val) q in
-    let b : u ≡ v = e.1 ∙ ap (λ (x : Got ℕ). x.used) q in
+    let a : k ≡ j = ap (λ (x : Got ℕ). x.val) (sym e ∙ q) in
+    let b : u ≡ v = ap (λ (x : Got ℕ). x.used) (sym e ∙ q) in
     (js, rw a, rw b z, rw b h)
 
 pub heads_none : (look : List ℕ → Got ℕ) (s : List ℕ) (p : ℕ) → p ≡ 0 → (ks : List ℕ) → Heads look s p ks → ks ≡ []
@@ -112,30 +103,33 @@ module _ (look : List ℕ → Got ℕ) (s : List ℕ) (p key q : ℕ) (l : Left 
       let (js, d, e) = l.rest ks h in
       sym (e ∙ rw (heads_none look (drop q s) (p - q) (omega arith) js d))
 
-  module _ (g : q < p) (k u : ℕ) (n : Peeked look (take (length s - q) (drop q s)) k u) where
-    next : Peeked look (drop q s) k u
-    next = rw tail_part at n
+  -- nothing is next, so no keys head the first p bytes
+  pub left_gone : q < p → Peeked look (take (length s - q) (drop q s)) None → (b : Bool) (ks : List ℕ) → Heads look s p ks → b ≡ has key ks
+  left_gone g n b ks h =
+      let (js, d, e) = l.rest ks h in
+      let (is, a, z, f) = heads_next look (drop q s) (p - q) 0 0 (rw tail_part at n) (omega arith) js d in
+      absurd (omega arith)
 
-    step : (ks : List ℕ) → Heads look s p ks → (js : List ℕ) × (has key ks ≡ has key (k ∷ js)) × (0 < u) × Heads look (drop (q + u) s) (p - (q + u)) js
+  module _ (g : q < p) (n : Next) (r : Peeked look (take (length s - q) (drop q s)) (Some n)) where
+    here : look (drop q s) ≡ got n.key n.used
+    here = rw tail_part at r.0
+
+    step : (ks : List ℕ) → Heads look s p ks → (js : List ℕ) × (has key ks ≡ has key (n.key ∷ js)) × Heads look (drop (q + n.used) s) (p - (q + n.used)) js
     step ks h =
         let (js, d, e) = l.rest ks h in
-        let (is, a, z, f) = heads_next look (drop q s) (p - q) k u next (omega arith) js d in
-        let w : p - q - u ≡ p - (q + u) = omega arith in
-        (is, e ∙ ap (has key) a, z, rw (drop-drop u q s, w) at f)
+        let (is, a, z, f) = heads_next look (drop q s) (p - q) n.key n.used here (omega arith) js d in
+        let w : p - q - n.used ≡ p - (q + n.used) = omega arith in
+        (is, e ∙ ap (has key) a, rw (drop-drop n.used q s, w) at f)
 
-    -- nothing is next, so no keys head the first p bytes
-    pub left_gone : u ≡ 0 → (b : Bool) (ks : List ℕ) → Heads look s p ks → b ≡ has key ks
-    left_gone z b ks h = absurd (omega (arith, (step ks h).2))
-
-    pub left_found : k ≡ key → (ks : List ℕ) → Heads look s p ks → true ≡ has key ks
+    pub left_found : n.key ≡ key → (ks : List ℕ) → Heads look s p ks → true ≡ has key ks
     unfolding has
-    left_found y ks h = sym ((step ks h).1 ∙ rw (eq-eqb k key y))
+    left_found y ks h = sym ((step ks h).1 ∙ rw (eq-eqb n.key key y))
 
-    pub left_passed : Looks look → (k ≡ key → ⊥) → Left look s p key (q + u)
+    pub left_passed : Looks look → (n.key ≡ key → ⊥) → Left look s p key (q + n.used)
     unfolding has
     left_passed room y = record {
-      within = omega (arith, l.within, room (drop q s), next.1, length-drop q s);
-      rest = λ ks h. let (js, e, z, f) = step ks h in (js, f, e ∙ rw (ne_eqb k key y));
+      within = omega (arith, l.within, room (drop q s), ap (λ (x : Got ℕ). x.used) here, length-drop q s);
+      rest = λ ks h. let (js, e, f) = step ks h in (js, f, e ∙ rw (ne_eqb n.key key y));
     }
 
 -- ---- the record that a walk keeps

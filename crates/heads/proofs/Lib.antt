@@ -1,4 +1,5 @@
--- Heads case by case, the records of a sheet, and the record that a walk keeps of what was there before.
+-- Refusals passed up, heads case by case, the records of a sheet, and the record that a walk keeps of what was there before.
+pub mod Passed
 pub mod Heads
 pub mod Spans
 pub mod SheetRuns

@@ -12,13 +12,12 @@ use Rattle.format.specs.Coding.{bytes_number}
 use Rattle.format.specs.Run.{Step, skip, run}
 use Rattle.format.specs.Table.{Form, Level, pack}
 use Rattle.format.specs.Sheet.{Val, Target, Part, tag_of_val, id_of_target, Mark, TS, TG, TI, is, field, value_at, target_at, series_at}
-use Rattle.format.proofs.Words.Answers.{bind_then, need_then, after_then, ok_inj}
+use Rattle.format.proofs.Words.Answers.{never, bind_then, need_then, after_then, ok_inj}
 use Rattle.format.proofs.Reading.Runs.{Stops, drop_pred}
 use Rattle.format.proofs.Sheets.Values.{mark_says}
 use Rattle.format.proofs.Sheets.Targets.{target_then}
 use Rattle.items.specs.Meet.{level_of}
 use Rattle.heads.specs.declared.records.Field.{Field}
-use Rattle.heads.specs.declared.records.Field.TheVariants.{Whole}
 use Rattle.heads.specs.Records.{field_answer, peek_val, record_size, span, peek_record}
 use Rattle.heads.proofs.Spans.{val_room, val_some, size_at_lem, size_val, size_none, size_target, span_none, span_more, target_there, series_there, part_val}
 
@@ -37,12 +36,12 @@ field_read l s v e =
     rw (← ok_inj _ _ e₃) (val_some s (omega (arith, length-drop 2 s)) ∙ ap (got (bytes_number (take 2 (drop 2 s)))) z)
 
 -- as the code reads its tag
-pub field_key : (l : Level) (s : List ℕ) {h : Field} {k n : ℕ} → h ≡ field_answer (field l (drop 2 s)) → h ≡ Whole k n → k ≡ (peek_val s).val
-field_key l s {k = k} {n} e t = go (field l (drop 2 s)) refl (sym t ∙ e)
+pub field_key : (l : Level) (s : List ℕ) (h : Field) → ok h ≡ field_answer (field l (drop 2 s)) → h.tag ≡ (peek_val s).val
+field_key l s h e = go (field l (drop 2 s)) refl e
   where
-    go : (a : Ans (Got Val)) → field l (drop 2 s) ≡ a → Whole k n ≡ field_answer a → k ≡ (peek_val s).val
-    go (ok v) ea z = let y : k ≡ v.val.tag = cc in y ∙ sym (ap (λ (x : Got ℕ). x.val) (field_read l s v ea))
-    go (refused m p) ea z = absurd (let y : ◌≡◌ {A = ℕ} 0 1 = cc in omega arith)
+    go : (a : Ans (Got Val)) → field l (drop 2 s) ≡ a → ok h ≡ field_answer a → h.tag ≡ (peek_val s).val
+    go (ok v) ea z = ap (λ (x : Field). x.tag) (ok_inj _ _ z) ∙ sym (ap (λ (x : Got ℕ). x.val) (field_read l s v ea))
+    go (refused m p) ea z = never m p h (sym z)
 
 -- whatever its mark
 val_read : (l : Level) (f : Form) (seen s : List ℕ) (v : Got Val) → value_at l f seen s ≡ ok v → (peek_val s ≡ got v.val.tag v.used) × (0 < v.used)

@@ -4,20 +4,21 @@ use Prim.Native.Nat.{ℕ, zero, suc, ◌+◌, ◌-◌, ◌≤◌, ◌<◌}
 use native.Mathlib.Omega.{arith}
 use mathlib.Core.Bool.{Bool, true, false, ◌&&◌}
 use mathlib.Core.List.{List, [], ◌∷◌}
-use lib.ListN.{length, take, drop, get_or, length-drop}
-use lib.Seq.{drop-drop, get_or-drop, length-take-le}
+use lib.ListN.{length, take, drop, length-drop}
+use lib.Seq.{drop-drop, length-take-le}
 use lib.Dec.{leb, eqb}
-use borrow.Author.Tests.{leb-true, leb-false, le-leb, lt-leb, eq-eqb, eqb-true, ne_eqb}
-use Rattle.format.specs.Answer.{ok, Got, got, ◌>>=◌, need}
+use borrow.Author.Tests.{leb-true, leb-false, le-leb, lt-leb, eqb-true, ne_eqb}
+use Rattle.std.specs.Prelude.{Option, Some, None}
+use Rattle.format.specs.Answer.{ok, refused, Got, got, ◌>>=◌, need}
 use Rattle.format.specs.Coding.{bytes_number}
 use Rattle.format.specs.Table.{Level, nameable}
 use Rattle.format.specs.Sheet.{Mark, TS, TG, TI, is, field}
 use Rattle.format.proofs.Words.Answers.{no_bool, and_both}
 use Rattle.coding.proofs.Rooms.{tail_part}
 use Rattle.items.proofs.Tests.{need_so, need_not}
-use Rattle.heads.specs.Meet.{Peeked}
-use Rattle.heads.specs.Records.{field_answer, whole, peek_val, record_size, span, peek_target, peek_part, peek_record}
-use Rattle.heads.specs.declared.records.Field.TheVariants.{Whole, Fault}
+use Rattle.heads.specs.Meet.{next, Peeked}
+use Rattle.heads.specs.Records.{fields, field_answer, whole, peek_val, record_size, span, peek_target, peek_part, peek_record}
+use Rattle.heads.specs.declared.Next.{Next}
 
 -- ---- a mark
 
@@ -31,33 +32,16 @@ is_cut m [] h = refl
 is_cut m (x ∷ []) h = refl
 is_cut m (x ∷ y ∷ s) h = absurd (omega arith)
 
-is_first : (m : Mark) (s : List ℕ) → (get_or s 0 0 ≡ m.0 → ⊥) → is m s ≡ false
-is_first m [] h = refl
-is_first m (x ∷ []) h = refl
-is_first m (x ∷ y ∷ s) h = rw (ne_eqb x m.0 h)
-
-is_second : (m : Mark) (s : List ℕ) → 2 ≤ length s → get_or s 0 0 ≡ m.0 → is m s ≡ eqb (get_or s 1 0) m.1
-is_second m [] h e = absurd (omega arith)
-is_second m (x ∷ []) h e = absurd (omega arith)
-is_second m (x ∷ y ∷ s) h e = rw (eq-eqb x m.0 e)
-
 -- as the code reads it at p
-module _ (m : Mark) (s : List ℕ) (p : ℕ) where
-  pub mark_cut : length s - p < 2 → false ≡ is m (drop p s)
-  mark_cut h = sym (is_cut m (drop p s) (rw length-drop h))
-
-  pub mark_first : (get_or s p 0 ≡ m.0 → ⊥) → false ≡ is m (drop p s)
-  mark_first h = sym (is_first m (drop p s) (λ e. h (ap (λ i. get_or s i 0) z ∙ sym (get_or-drop p s 0 0) ∙ e)))
-    where
-      z : p ≡ p + 0
-      z = omega arith
-
-  pub mark_second : 2 ≤ length s - p → get_or s p 0 ≡ m.0 → eqb (get_or s (p + 1) 0) m.1 ≡ is m (drop p s)
-  mark_second h e =
-      let z : p + 0 ≡ p = omega arith in
-      sym (is_second m (drop p s) (rw length-drop h) (rw (get_or-drop, z) e) ∙ rw get_or-drop)
+pub mark_cut : (m : Mark) (s : List ℕ) (p : ℕ) → length s - p < 2 → false ≡ is m (drop p s)
+mark_cut m s p h = sym (is_cut m (drop p s) (rw length-drop h))
 
 -- ---- what is there if so many bytes are
+
+-- one look finds what another does
+pub peeked_as : (look other : List ℕ → Got ℕ) (s : List ℕ) (o : Option Next) → look s ≡ other s → Peeked other s o → Peeked look s o
+peeked_as look other s (Some n) e p = (e ∙ p.0, p.1)
+peeked_as look other s None e p = e ∙ p
 
 module _ (k n : ℕ) (s : List ℕ) where
   pub whole_some : n ≤ length s → whole k n s ≡ got k n
@@ -88,19 +72,19 @@ module _ (s : List ℕ) where
   unfolding peek_val
   val_none h = whole_none _ _ s h
 
-  pub val_cut : length s < 6 → Peeked peek_val s 0 0
-  val_cut h = rw (val_none (omega arith)) (refl, refl)
+  pub val_cut : length s < 6 → Peeked peek_val s None
+  val_cut h = val_none (omega arith)
 
   -- as the code reads it
   module _ (n : ℕ) (en : n ≡ bytes_number (take 2 (take (length s - 4) (drop 4 s)))) where
-    size_read : n ≡ bytes_number (take 2 (drop 4 s))
-    size_read = rw tail_part at en
+    number_read : n ≡ bytes_number (take 2 (drop 4 s))
+    number_read = rw tail_part at en
 
-    pub val_over : length s < 6 + n → Peeked peek_val s 0 0
-    val_over h = rw (val_none (rw (← size_read) h)) (refl, refl)
+    pub val_over : length s < 6 + n → Peeked peek_val s None
+    val_over h = val_none (rw (← number_read) h)
 
-    pub val_whole : (k : ℕ) → k ≡ bytes_number (take 2 (take (length s - 2) (drop 2 s))) → 6 + n ≤ length s → Peeked peek_val s k (6 + n)
-    val_whole k ek h = rw (val_some (rw (← size_read) h)) (rw tail_part at ek, ap (λ x. 6 + x) size_read)
+    pub val_whole : (k : ℕ) → k ≡ bytes_number (take 2 (take (length s - 2) (drop 2 s))) → 6 + n ≤ length s → Peeked peek_val s (Some (next k (6 + n)))
+    val_whole k ek h = let key_read = rw tail_part at ek in (rw (key_read, number_read) (val_some (rw (← number_read) h)), omega arith)
 
 -- ---- its fields
 
@@ -108,11 +92,11 @@ pub size_at_lem : (s : List ℕ) → bytes_number (take 2 (drop 2 (drop 2 s))) �
 size_at_lem s = ap (λ x. bytes_number (take 2 x)) (drop-drop 2 2 s)
 
 module _ (l : Level) (s : List ℕ) where
-  field_none : length s < 6 + bytes_number (take 2 (drop 4 s)) → Fault 17 ≡ field_answer (field l (drop 2 s))
+  field_none : length s < 6 + bytes_number (take 2 (drop 4 s)) → refused 17 0 ≡ field_answer (field l (drop 2 s))
   unfolding field
   field_none h = go (leb 4 (length (drop 2 s))) refl
     where
-      go : (b : Bool) → leb 4 (length (drop 2 s)) ≡ b → Fault 17 ≡ field_answer (field l (drop 2 s))
+      go : (b : Bool) → leb 4 (length (drop 2 s)) ≡ b → refused 17 0 ≡ field_answer (field l (drop 2 s))
       go false e = sym (ap field_answer (need_not _ _ _ e))
       go true e =
           let n : ℕ = bytes_number (take 2 (drop 2 (drop 2 s))) in
@@ -128,37 +112,40 @@ module _ (l : Level) (s : List ℕ) where
         need_so _ _ _ (le-leb 4 (length (drop 2 s)) (omega (arith, length-drop 2 s)))
         ∙ need_so _ _ _ (le-leb (4 + n) (length (drop 2 s)) (omega (arith, size_at_lem s, length-drop 2 s)))
 
-    field_unnamed : nameable l (bytes_number (take 2 (drop 2 s))) ≡ false → Fault 17 ≡ field_answer (field l (drop 2 s))
+    field_unnamed : nameable l (bytes_number (take 2 (drop 2 s))) ≡ false → refused 17 0 ≡ field_answer (field l (drop 2 s))
     field_unnamed e = sym (ap field_answer (field_named ∙ need_not _ _ _ e))
 
-    field_some : nameable l (bytes_number (take 2 (drop 2 s))) ≡ true → Whole (bytes_number (take 2 (drop 2 s))) (bytes_number (take 2 (drop 4 s))) ≡ field_answer (field l (drop 2 s))
+    field_some : nameable l (bytes_number (take 2 (drop 2 s))) ≡ true → ok (fields (bytes_number (take 2 (drop 2 s))) (bytes_number (take 2 (drop 4 s)))) ≡ field_answer (field l (drop 2 s))
     field_some e =
         let z : length (take (bytes_number (take 2 (drop 2 (drop 2 s)))) (drop 4 (drop 2 s))) ≡ bytes_number (take 2 (drop 4 s))
         = length-take-le (bytes_number (take 2 (drop 2 (drop 2 s)))) (drop 4 (drop 2 s)) (rw (drop-drop 4 2 s) (omega (arith, size_at_lem s, length-drop 6 s))) ∙ size_at_lem s in
-        sym (ap field_answer (field_named ∙ need_so _ _ _ e) ∙ ap (Whole (bytes_number (take 2 (drop 2 s)))) z)
+        sym (ap field_answer (field_named ∙ need_so _ _ _ e) ∙ ap (λ n. ok (fields (bytes_number (take 2 (drop 2 s))) n)) z)
 
   -- by what the code saw of the record
-  module _ (k u : ℕ) (p : Peeked peek_val s k u) where
-    by_size : {A : Type 0} → (length s < 6 + bytes_number (take 2 (drop 4 s)) → u ≡ 0 → A)
-        → (6 + bytes_number (take 2 (drop 4 s)) ≤ length s → k ≡ bytes_number (take 2 (drop 2 s)) → u ≡ 6 + bytes_number (take 2 (drop 4 s)) → A) → A
-    by_size {A} cut there = go (leb (6 + bytes_number (take 2 (drop 4 s))) (length s)) refl
-      where
-        go : (b : Bool) → leb (6 + bytes_number (take 2 (drop 4 s))) (length s) ≡ b → A
-        go true e = let h = leb-true _ _ e in there h (p.0 ∙ ap (λ (x : Got ℕ). x.val) (val_some s h)) (p.1 ∙ ap (λ (x : Got ℕ). x.used) (val_some s h))
-        go false e = let h = leb-false _ _ e in cut h (p.1 ∙ ap (λ (x : Got ℕ). x.used) (val_none s h))
+  by_size : {A : Type 0} → (length s < 6 + bytes_number (take 2 (drop 4 s)) → A) → (6 + bytes_number (take 2 (drop 4 s)) ≤ length s → A) → A
+  by_size {A} cut there = go (leb (6 + bytes_number (take 2 (drop 4 s))) (length s)) refl
+    where
+      go : (b : Bool) → leb (6 + bytes_number (take 2 (drop 4 s))) (length s) ≡ b → A
+      go true e = there (leb-true _ _ e)
+      go false e = cut (leb-false _ _ e)
 
-    pub no_field : u < 6 → Fault 17 ≡ field_answer (field l (drop 2 s))
-    no_field h = by_size (λ c z. field_none c) (λ c ek eu. absurd (omega arith))
+  pub no_field : Peeked peek_val s None → refused 17 0 ≡ field_answer (field l (drop 2 s))
+  no_field p = by_size field_none (λ h. absurd (omega (arith, ap (λ (x : Got ℕ). x.used) (sym p ∙ val_some s h))))
 
-    pub a_field : 6 ≤ u → true ≡ nameable l k → Whole k (u - 6) ≡ field_answer (field l (drop 2 s))
-    a_field h e =
-        by_size (λ c z. absurd (omega arith))
-        (λ c ek eu.
-        let z : u - 6 ≡ bytes_number (take 2 (drop 4 s)) = omega arith in
-        rw (ek, z) (field_some c (rw ek at (sym e))))
+  module _ (n : Next) (p : Peeked peek_val s (Some n)) where
+    pub val_there : (6 + bytes_number (take 2 (drop 4 s)) ≤ length s) × (n.key ≡ bytes_number (take 2 (drop 2 s))) × (n.used ≡ 6 + bytes_number (take 2 (drop 4 s)))
+    val_there =
+        by_size (λ h. absurd (omega (arith, p.1, ap (λ (x : Got ℕ). x.used) (sym p.0 ∙ val_none s h))))
+        (λ h. let e = sym p.0 ∙ val_some s h in (h, ap (λ (x : Got ℕ). x.val) e, ap (λ (x : Got ℕ). x.used) e))
 
-    pub not_named : 6 ≤ u → false ≡ nameable l k → Fault 17 ≡ field_answer (field l (drop 2 s))
-    not_named h e = by_size (λ c z. absurd (omega arith)) (λ c ek eu. field_unnamed c (rw ek at (sym e)))
+    pub a_field : true ≡ nameable l n.key → ok (fields n.key (n.used - 6)) ≡ field_answer (field l (drop 2 s))
+    a_field e =
+        let (h, key, used) = val_there in
+        let size : n.used - 6 ≡ bytes_number (take 2 (drop 4 s)) = omega arith in
+        rw (key, size) (field_some h (rw key at (sym e)))
+
+    pub not_named : false ≡ nameable l n.key → refused 17 0 ≡ field_answer (field l (drop 2 s))
+    not_named e = let (h, key, used) = val_there in field_unnamed h (rw key at (sym e))
 
 -- ---- records one after the other
 
@@ -189,9 +176,6 @@ module _ (tg : Bool) (s : List ℕ) where
 
   pub size_target : is TI s ≡ false → tg && is TG s ≡ true → 10 ≤ length s → record_size tg s ≡ 10
   size_target e g h = size_not e ∙ rw (g, whole_some 0 10 s h)
-
-  pub size_cut : is TI s ≡ false → tg && is TG s ≡ true → length s < 10 → record_size tg s ≡ 0
-  size_cut e g h = size_not e ∙ rw (g, whole_none 0 10 s h)
 
   size_room : record_size tg s ≤ length s
   size_room = go (is TI s) refl (tg && is TG s) refl
@@ -230,12 +214,13 @@ span_more tg [] (suc u) e = absurd (omega (arith, size_room tg []))
 span_more tg (b ∷ s) (suc u) e = rw (← e, span) (omega (arith, span_drop tg u s (omega (arith, size_room tg (b ∷ s)))))
 
 -- those that are passed, and those still to be
-abbrev pub SpanLeft : Bool → List ℕ → ℕ → Type 0
-SpanLeft tg s q = (q ≤ length s) × (span tg 0 s ≡ q + span tg 0 (drop q s))
+pub record SpanLeft (tg : Bool) (s : List ℕ) (q : ℕ) : Type 0 where
+  pub within : q ≤ length s
+  pub counted : span tg 0 s ≡ q + span tg 0 (drop q s)
 
 module _ (tg : Bool) (s : List ℕ) (q : ℕ) (l : SpanLeft tg s q) where
   pub span_end : length s ≤ q → q ≡ span tg 0 s
-  span_end h = omega (arith, l.1, span_room tg 0 (drop q s), length-drop q s)
+  span_end h = omega (arith, span_room tg 0 (drop q s), length-drop q s)
 
   -- as the code reads one at q
   module _ (u : ℕ) (e : u ≡ record_size tg (take (length s - q) (drop q s))) where
@@ -243,20 +228,20 @@ module _ (tg : Bool) (s : List ℕ) (q : ℕ) (l : SpanLeft tg s q) where
     size_here = rw tail_part at e
 
     pub span_stop : u ≡ 0 → q ≡ span tg 0 s
-    span_stop z = omega (arith, l.1, span_none tg (drop q s) (sym size_here ∙ z))
+    span_stop z = omega (arith, span_none tg (drop q s) (sym size_here ∙ z))
 
     pub span_on : SpanLeft tg s (q + u)
-    span_on = (
-      omega (arith, l.0, size_here, size_room tg (drop q s), length-drop q s),
-      omega (arith, l.1, rw drop-drop at (span_more tg (drop q s) u size_here)),
-    )
+    span_on = record {
+      within = omega (arith, size_here, size_room tg (drop q s), length-drop q s);
+      counted = omega (arith, rw drop-drop at (span_more tg (drop q s) u size_here));
+    }
 
 -- ---- a target, the series, and the room of all
 
 module _ (s : List ℕ) where
-  pub target_cut : length s < 10 → Peeked peek_target s 0 0
+  pub target_cut : length s < 10 → Peeked peek_target s None
   unfolding peek_target
-  target_cut h = rw (whole_none (bytes_number (take 8 (drop 2 s))) (10 + span false 0 (drop 10 s)) s (omega arith)) (refl, refl)
+  target_cut h = whole_none (bytes_number (take 8 (drop 2 s))) (10 + span false 0 (drop 10 s)) s (omega arith)
 
   pub target_there : 10 ≤ length s → peek_target s ≡ got (bytes_number (take 8 (drop 2 s))) (10 + span false 0 (drop 10 s))
   unfolding peek_target
@@ -275,22 +260,19 @@ module _ (s : List ℕ) where
     span_read : n ≡ span tg 0 (drop j s)
     span_read = rw tail_part at en
 
-    pub span_within : j ≤ length s → j + n ≤ length s
-    span_within h = omega (arith, span_read, span_room tg 0 (drop j s), length-drop j s)
-
   pub target_whole : (k n : ℕ) → k ≡ bytes_number (take 8 (take (length s - 2) (drop 2 s))) → n ≡ span false 0 (take (length s - 10) (drop 10 s))
-      → 10 ≤ length s → Peeked peek_target s k (10 + n)
-  target_whole k n ek en h = rw (target_there h) (rw tail_part at ek, ap (λ x. 10 + x) (span_read n 10 false en))
+      → 10 ≤ length s → Peeked peek_target s (Some (next k (10 + n)))
+  target_whole k n ek en h = let key_read = rw tail_part at ek in (rw (key_read, span_read n 10 false en) (target_there h), omega arith)
 
   -- no value stands where the next target does
-  pub target_bare : (k : ℕ) → k ≡ bytes_number (take 8 (take (length s - 2) (drop 2 s))) → is TG (drop 10 s) ≡ true → 10 ≤ length s → Peeked peek_target s k 10
+  pub target_bare : (k : ℕ) → k ≡ bytes_number (take 8 (take (length s - 2) (drop 2 s))) → is TG (drop 10 s) ≡ true → 10 ≤ length s → Peeked peek_target s (Some (next k 10))
   target_bare k ek t h = target_whole k 0 ek (sym (rw tail_part (span_none false (drop 10 s) (size_none false (drop 10 s) (not_value (drop 10 s) t) refl)))) h
 
-  pub part_series : (n : ℕ) → n ≡ span true 0 (take (length s - 2) (drop 2 s)) → is TS s ≡ true → Peeked peek_part s 101 (2 + n)
-  part_series n en e = rw (series_there e) (refl, ap (λ x. 2 + x) (span_read n 2 true en))
+  pub part_series : (n : ℕ) → n ≡ span true 0 (take (length s - 2) (drop 2 s)) → is TS s ≡ true → Peeked peek_part s (Some (next 101 (2 + n)))
+  part_series n en e = (rw (span_read n 2 true en) (series_there e), omega arith)
 
-  pub part_item : (k u : ℕ) → Peeked peek_val s k u → is TS s ≡ false → Peeked peek_part s k u
-  part_item k u p e = rw (part_val e) p
+  pub part_item : (o : Option Next) → Peeked peek_val s o → is TS s ≡ false → Peeked peek_part s o
+  part_item o p e = peeked_as peek_part peek_val s o (part_val e) p
 
   part_room : (peek_part s).used ≤ length s
   part_room = go (is TS s) refl

@@ -1,42 +1,48 @@
 -- Where the code of heads meets document 01: what its answers mean.
-use Rattle.std.specs.Prelude.{◌≡◌, ℕ, ◌+◌, ◌-◌, ◌≤◌, ◌<◌, Bool, true, false, List, [], ◌∷◌, drop, eqb}
+use Rattle.std.specs.Prelude.{◌≡◌, ℕ, ◌+◌, ◌-◌, ◌≤◌, ◌<◌, Bool, true, false, List, [], ◌∷◌, drop, eqb, Option, Some, None, Result}
 use Rattle.format.specs.Answer.{Ans, ok, refused, Got, got}
 use Rattle.format.specs.Lists.{none?, has}
 use Rattle.format.specs.Table.{Level}
 use Rattle.format.specs.Read.{head_of, pack_head}
 use Rattle.format.specs.Read as Read
-use Rattle.coding.specs.declared.Num.{Num}
-use Rattle.coding.specs.declared.Num.TheVariants.{Value, Refused}
+use Rattle.coding.specs.declared.refusals.Refusal.{Refusal}
+use Rattle.coding.specs.Refusals.{told}
 use Rattle.items.specs.Meet.{level_of}
 use Rattle.heads.specs.Records.{peek_record}
 use Rattle.heads.specs.declared.Head.{Head}
-use Rattle.heads.specs.declared.Head.TheVariants.{Whole, Fault}
+use Rattle.heads.specs.declared.Look.{Look}
+use Rattle.heads.specs.declared.Look.TheVariants.{Packs, Items, Targets, Records}
+use Rattle.heads.specs.declared.Next.{Next}
 
-abbrev pub fault_of : Num → Head
-fault_of (Value v n) = Fault 0
-fault_of (Refused n) = Fault n
+-- a head by its parts
+abbrev pub head : (key used width size : ℕ) → Head
+head k u w n = record { key = k; used = u; width = w; size = n }
 
-abbrev pub item_head_of : Head → Ans Read.Head
-item_head_of (Whole k u w n) = ok (record { tag = k; width = w; from = u + w; size = n })
-item_head_of (Fault n) = refused n 0
+abbrev pub item_head : Head → Read.Head
+item_head h = record { tag = h.key; width = h.width; from = h.used + h.width; size = h.size }
 
-abbrev pub pack_head_of : Head → Ans Read.PackHead
-pack_head_of (Whole k u w n) = ok (record { width = w; size = n; id = k; used = u })
-pack_head_of (Fault n) = refused n 0
+abbrev pub pack_head_from : Head → Read.PackHead
+pack_head_from h = record { width = h.width; size = h.size; id = h.key; used = h.used }
+
+abbrev pub item_head_of : Result Head Refusal → Ans Read.Head
+item_head_of = told item_head
+
+abbrev pub pack_head_of : Result Head Refusal → Ans Read.PackHead
+pack_head_of = told pack_head_from
 
 -- a look that may say nothing, at an item's head
-abbrev pub LevelHeadIf : Level → Head → List ℕ → Type 0
-LevelHeadIf l (Whole k u w n) s = item_head_of (Whole k u w n) ≡ head_of l s
-LevelHeadIf l (Fault n) s = Unit {0}
+abbrev pub LevelHeadIf : Level → Option Head → List ℕ → Type 0
+LevelHeadIf l (Some h) s = ok (item_head h) ≡ head_of l s
+LevelHeadIf l None s = Unit {0}
 
 -- at one of two bytes, which is the same in every level
-abbrev pub ItemHeadIf : Head → List ℕ → Type 0
+abbrev pub ItemHeadIf : Option Head → List ℕ → Type 0
 ItemHeadIf h s = (l : Level) → LevelHeadIf l h s
 
 -- the same, at a pack's length in one byte and its id in one or two
-abbrev pub PackHeadIf : Head → List ℕ → Type 0
-PackHeadIf (Whole k u w n) s = (pack_head_of (Whole k u w n) ≡ pack_head s) × (w ≡ 1) × (n < 128) × (u ≤ 2)
-PackHeadIf (Fault n) s = Unit {0}
+abbrev pub PackHeadIf : Option Head → List ℕ → Type 0
+PackHeadIf (Some h) s = (ok (pack_head_from h) ≡ pack_head s) × (h.width ≡ 1) × (h.size < 128) × (h.used ≤ 2)
+PackHeadIf None s = Unit {0}
 
 -- ---- what was there before
 
@@ -54,9 +60,20 @@ peek true ids set s = peek_record ids set s
 peek false true set s = peek_pack (pack_head s)
 peek false false set s = peek_item (head_of (level_of set) s)
 
--- a look finds a key and the bytes of all that it heads
-abbrev pub Peeked : (List ℕ → Got ℕ) → List ℕ → ℕ → ℕ → Type 0
-Peeked look s k u = (k ≡ (look s).val) × (u ≡ (look s).used)
+-- by what is looked for
+abbrev pub peek_by : Look → List ℕ → Got ℕ
+peek_by Packs = peek false true false
+peek_by (Items set) = peek false false set
+peek_by Targets = peek true true false
+peek_by (Records set) = peek true false set
+
+abbrev pub next : (key used : ℕ) → Next
+next k u = record { key = k; used = u }
+
+-- what a look finds: a key and the bytes of all that it heads, or nothing
+abbrev pub Peeked : (List ℕ → Got ℕ) → List ℕ → Option Next → Type 0
+Peeked look s (Some n) = (look s ≡ got n.key n.used) × (0 < n.used)
+Peeked look s None = look s ≡ got 0 0
 
 -- these keys, in order, head the first p bytes
 abbrev pub Heads : (List ℕ → Got ℕ) → List ℕ → ℕ → List ℕ → Type 0

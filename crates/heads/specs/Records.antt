@@ -1,15 +1,23 @@
 -- What heads the records of a sheet: a tag or an id, and the bytes of all that it heads.
-use Rattle.std.specs.Prelude.{ℕ, zero, suc, ◌+◌, Bool, true, false, ◌&&◌, List, [], ◌∷◌, length, take, drop, leb}
+use Rattle.std.specs.Prelude.{ℕ, zero, suc, ◌+◌, Bool, true, false, ◌&&◌, List, [], ◌∷◌, length, take, drop, leb, Result}
 use Rattle.format.specs.Answer.{Ans, ok, refused, Got, got}
 use Rattle.format.specs.Coding.{bytes_number}
 use Rattle.format.specs.Sheet.{Val, TS, TG, TI, is}
+use Rattle.coding.specs.declared.refusals.Refusal.{Refusal}
+use Rattle.coding.specs.Refusals.{told}
 use Rattle.heads.specs.declared.records.Field.{Field}
-use Rattle.heads.specs.declared.records.Field.TheVariants.{Whole, Fault}
+
+-- the fields of an item's record by its parts
+abbrev pub fields : (tag size : ℕ) → Field
+fields k n = record { tag = k; size = n }
+
+abbrev pub told_field : Result Field Refusal → Ans Field
+told_field = told (λ f. f)
 
 -- the fields of an item's record, as the code has them
-abbrev pub field_answer : Ans (Got Val) → Field
-field_answer (ok v) = Whole v.val.tag (length v.val.value)
-field_answer (refused n p) = Fault n
+abbrev pub field_answer : Ans (Got Val) → Ans Field
+field_answer (ok v) = ok (fields v.val.tag (length v.val.value))
+field_answer (refused n p) = refused n p
 
 -- what stands here if n bytes are there, else nothing
 abbrev pub whole : ℕ → ℕ → List ℕ → Got ℕ

@@ -15,7 +15,9 @@ use Rattle.format.specs.Coding.{bytes_number, number}
 use Rattle.format.specs.Lists.{has, none?}
 use Rattle.format.specs.Table.{Form, is_alone, is_set, Level, Rule, may_stand, may_begin, standing, sized, valued, not_pixel, is_number, strip, short}
 use Rattle.items.specs.declared.Rule as declared
-use Rattle.items.specs.Meet.{offsets, kind_by, most_from, gap_from, rule_from, zeros}
+use Rattle.items.specs.declared.Kind as code
+use Rattle.items.specs.declared.Kind.TheVariants as kind
+use Rattle.items.specs.Meet.{offsets, kind_by, most_from, gap_from, kind_number, rule_from, zeros}
 
 -- ---- do-blocks that go on, or stop
 
@@ -140,7 +142,37 @@ zeros_all [] h = refl
 zeros_all (zero ∷ s) h = zeros_all s (omega arith)
 zeros_all (suc b ∷ s) h = absurd (omega arith)
 
+-- ---- the kinds, as numbers
+
+pub unlisted_alone : (k : code.Kind) → kind_number k ≡ 0 → k ≡ kind.Unlisted
+unlisted_alone kind.Unlisted e = refl
+unlisted_alone kind.Bytes e = absurd (omega (arith, e))
+unlisted_alone kind.Number e = absurd (omega (arith, e))
+unlisted_alone kind.Pixel e = absurd (omega (arith, e))
+unlisted_alone kind.Location e = absurd (omega (arith, e))
+
+pub location_alone : (k : code.Kind) → kind_number k ≡ 4 → k ≡ kind.Location
+location_alone kind.Unlisted e = absurd (omega (arith, e))
+location_alone kind.Bytes e = absurd (omega (arith, e))
+location_alone kind.Number e = absurd (omega (arith, e))
+location_alone kind.Pixel e = absurd (omega (arith, e))
+location_alone kind.Location e = refl
+
+pub pixel_alone : (k : code.Kind) → kind_number k ≡ 3 → k ≡ kind.Pixel
+pixel_alone kind.Unlisted e = absurd (omega (arith, e))
+pixel_alone kind.Bytes e = absurd (omega (arith, e))
+pixel_alone kind.Number e = absurd (omega (arith, e))
+pixel_alone kind.Pixel e = refl
+pixel_alone kind.Location e = absurd (omega (arith, e))
+
+pub listed_kind : (k : code.Kind) → kind_number k ≡ 4 → kind_number k ≡ 0 → ⊥
+listed_kind k e z = omega (arith, e, z)
+
 -- ---- 11: by the kind
+
+and_so : (b : Bool) → (b && true) ≡ b
+and_so true = refl
+and_so false = refl
 
 module _ (r : declared.Rule) (n : ℕ) where
   pub sized_under : n < r.least → false ≡ sized (rule_from r) n
@@ -149,23 +181,23 @@ module _ (r : declared.Rule) (n : ℕ) where
 
   module _ (g : r.least ≤ n) where
     -- however many
-    pub sized_any : r.kind ≡ 0 → true ≡ sized (rule_from r) n
+    pub sized_any : kind_number r.kind ≡ 0 → true ≡ sized (rule_from r) n
     unfolding sized
     sized_any e = rw (le-leb r.least n g, e, eq-eqb ((n - r.least) % 1) 0 (mod-one (n - r.least)))
 
-    module _ (h : r.kind ≡ 0 → ⊥) where
-      listed : sized (rule_from r) n ≡ (leb n r.most && eqb ((n - r.least) % gap_from r.kind) 0)
+    module _ (h : kind_number r.kind ≡ 0 → ⊥) where
+      listed : sized (rule_from r) n ≡ (leb n r.most && eqb ((n - r.least) % gap_from (kind_number r.kind)) 0)
       unfolding sized
-      listed = rw (le-leb r.least n g, ne_eqb r.kind 0 h, most_from)
+      listed = rw (le-leb r.least n g, ne_eqb (kind_number r.kind) 0 h, most_from)
 
       pub sized_over : r.most < n → false ≡ sized (rule_from r) n
       sized_over q = sym (listed ∙ rw (lt-leb n r.most q))
 
-      pub sized_six : n ≤ r.most → r.kind ≡ 4 → eqb ((n - r.least) % 6) 0 ≡ sized (rule_from r) n
+      pub sized_six : n ≤ r.most → kind_number r.kind ≡ 4 → eqb ((n - r.least) % 6) 0 ≡ sized (rule_from r) n
       sized_six q z = sym (listed ∙ rw (le-leb n r.most q, z))
 
-      pub sized_plain : n ≤ r.most → (r.kind ≡ 4 → ⊥) → true ≡ sized (rule_from r) n
-      sized_plain q z = sym (listed ∙ rw (le-leb n r.most q, ne_eqb r.kind 4 z, gap_from) (eq-eqb ((n - r.least) % 1) 0 (mod-one (n - r.least))))
+      pub sized_plain : (kind_number r.kind ≡ 4 → ⊥) → leb n r.most ≡ sized (rule_from r) n
+      sized_plain z = sym (listed ∙ rw (ne_eqb (kind_number r.kind) 4 z, gap_from, eq-eqb ((n - r.least) % 1) 0 (mod-one (n - r.least))) (and_so (leb n r.most)))
 
 -- ---- 12
 
@@ -196,20 +228,20 @@ module _ (r : declared.Rule) (v : List ℕ) where
     unfolding valued
     whole = sym (need_so _ _ _ (sym q))
 
-    pixel : r.kind ≡ 3 → need (ltb 0 (bytes_number v)) 12 ≡ valued (rule_from r) v
+    pixel : kind_number r.kind ≡ 3 → need (ltb 0 (bytes_number v)) 12 ≡ valued (rule_from r) v
     pixel k = ap (λ x. need (not_pixel (kind_by (eqb x 2) (eqb x 3)) || ltb 0 (bytes_number v)) 12) (sym k) ∙ whole
 
-    pub valued_12 : r.kind ≡ 3 → (z : ℕ) → z ≡ zeros v → z ≡ length v → refused 12 0 ≡ valued (rule_from r) v
+    pub valued_12 : kind_number r.kind ≡ 3 → (z : ℕ) → z ≡ zeros v → z ≡ length v → refused 12 0 ≡ valued (rule_from r) v
     unfolding need
     valued_12 k z ez h = rw (zeros_all v (sym ez ∙ h)) at (pixel k)
 
-    pub valued_some : r.kind ≡ 3 → (z : ℕ) → z ≡ zeros v → (z ≡ length v → ⊥) → ok tt ≡ valued (rule_from r) v
+    pub valued_some : kind_number r.kind ≡ 3 → (z : ℕ) → z ≡ zeros v → (z ≡ length v → ⊥) → ok tt ≡ valued (rule_from r) v
     unfolding need
     valued_some k z ez h = rw (lt-ltb 0 (bytes_number v) (zeros_some v (λ x. h (ez ∙ x)))) at (pixel k)
 
-    pub valued_0 : (r.kind ≡ 3 → ⊥) → ok tt ≡ valued (rule_from r) v
+    pub valued_0 : (kind_number r.kind ≡ 3 → ⊥) → ok tt ≡ valued (rule_from r) v
     unfolding need
-    valued_0 k = rw (kind_other r.kind k) at whole
+    valued_0 k = rw (kind_other (kind_number r.kind) k) at whole
 
 -- ---- the shortest form
 

@@ -1,8 +1,12 @@
 -- Where the code of items meets document 01: what its numbers and rows mean.
-use Rattle.std.specs.Prelude.{ℕ, zero, suc, ◌+◌, ◌*◌, ◌/◌, ◌%◌, ◌^◌, Bool, true, false, List, [], ◌∷◌, ◌++◌, eqb}
+use Rattle.std.specs.Prelude.{ℕ, Result, zero, suc, ◌+◌, ◌*◌, ◌/◌, ◌%◌, ◌^◌, Bool, true, false, List, [], ◌∷◌, ◌++◌, eqb}
 use Rattle.format.specs.Answer.{Ans, ok, refused}
 use Rattle.format.specs.Table.{Form, embedded, standalone, Level, set, pack, Kind, bytes, num, pixel, Most, up_to, any, Rule, rule_of, nameable, may_stand, is_number, sized}
+use Rattle.coding.specs.declared.refusals.Refusal.{Refusal}
+use Rattle.coding.specs.Refusals.{told}
 use Rattle.items.specs.declared.Rule as declared
+use Rattle.items.specs.declared.Kind as code
+use Rattle.items.specs.declared.Kind.TheVariants as kind
 
 abbrev pub form_of : Bool → Form
 form_of true = standalone
@@ -48,8 +52,15 @@ gap_from k = elim (eqb k 4) [ true ↦ 6 | false ↦ 1 ]
 abbrev pub row_rule : ℕ → ℕ → ℕ → Rule
 row_rule k a b = record { kind = kind_by (eqb k 2) (eqb k 3); least = a; most = most_from k b; gap = gap_from k }
 
+abbrev pub kind_number : code.Kind → ℕ
+kind_number kind.Unlisted = 0
+kind_number kind.Bytes = 1
+kind_number kind.Number = 2
+kind_number kind.Pixel = 3
+kind_number kind.Location = 4
+
 abbrev pub rule_from : declared.Rule → Rule
-rule_from r = row_rule r.kind r.least r.most
+rule_from r = row_rule (kind_number r.kind) r.least r.most
 
 -- the rule that a row stands for
 abbrev pub row_from : ℕ → Rule
@@ -96,6 +107,10 @@ glance_table = rows_by λ l tag. glance_row l tag (rule_of l tag)
 abbrev pub answer_of : ℕ → Ans (Unit {0})
 answer_of zero = ok tt
 answer_of (suc n) = refused (suc n) 0
+
+-- nothing, or a refusal
+abbrev pub answered : Result (Unit {0}) Refusal → Ans (Unit {0})
+answered r = told (λ _. tt) r
 
 -- leading zeros
 unfoldable pub zeros : List ℕ → ℕ

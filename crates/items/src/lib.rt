@@ -4,17 +4,29 @@
 ghost use Rattle.std.specs.Prelude.{◌≡◌, ℕ, ◌+◌, ◌≤◌, ◌<◌, ◌||◌, not, List, length, get_or, eqb};
 ghost use Rattle.format.specs.Lists.{has, none?};
 ghost use Rattle.format.specs.Table.{is_alone, is_set, rule_of, nameable, may_stand, standing, sized, is_number, valued, short};
-ghost use Rattle.items.specs.Meet.{form_of, level_of, rule_from, row_from, most_tag, rows_from, item_table, answer_of, zeros, offsets};
+ghost use Rattle.items.specs.Meet.{form_of, level_of, rule_from, row_from, kind_number, row_rule, most_tag, rows_from, item_table, answered, zeros, offsets};
+
+use coding::refusals::Refusal;
+
+// A tag that is not listed, of one or more bytes; bytes, a number, a pixel; and a location, of 10, 16 or 22 bytes.
+#[derive(Clone, Copy, Debug, PartialEq, Eq)]
+pub enum Kind {
+    Unlisted,
+    Bytes,
+    Number,
+    Pixel,
+    Location,
+}
 
 // What a tag's row says: its kind, its least and greatest length.
-#[derive(Clone, Copy)]
+#[derive(Clone, Copy, Debug, PartialEq, Eq)]
 pub struct Rule {
-    pub kind: u32,
+    pub kind: Kind,
     pub least: u32,
     pub most: u32,
 }
 
-// The kinds: a tag that is not listed, of one or more bytes; bytes, a number, a pixel; and a location, of 10, 16 or 22 bytes.
+// The kinds as a row has them.
 const UNLISTED: u32 = 0;
 
 const BYTES: u32 = 1;
@@ -68,11 +80,17 @@ const ITEMS: [u32; 37] = [
     BYTES << 16 | 2 << 8 | 2, // 12
 ];
 
-// A constant array is laid out anew wherever it is named, so who needs it asks for it once and lends it to all that it calls.
-pub fn table() -> [u32; 37]
-    ensures { result ≡ item_table }
-{
-    ITEMS
+// The item table. A constant array is laid out anew wherever it is named, so who needs it asks for it once and lends it to all that it calls.
+#[derive(Clone, Copy)]
+pub struct Table {
+    pub rows: [u32; 37],
+    ghost listed: { rows ≡ item_table },
+}
+
+impl Table {
+    pub fn new() -> Table {
+        Table { rows: ITEMS }
+    }
 }
 
 // The greatest tag that has a row.
@@ -98,44 +116,54 @@ fn row_at(rows: &[u32], set: bool, tag: u64) -> u32
     rows[at]
 }
 
+// The kind that a row has as a number; no row has a greater one.
+fn kind_from(n: u32) -> Kind
+    ensures { (a b : ℕ) → row_rule (kind_number result) a b ≡ row_rule n a b }
+{
+    match n {
+        UNLISTED => Kind::Unlisted,
+        NUMBER => Kind::Number,
+        PIXEL => Kind::Pixel,
+        LOCATION => Kind::Location,
+        _ => Kind::Bytes,
+    }
+}
+
 // A row taken apart.
 fn rule_from(row: u32) -> Rule
     ensures { rule_from result ≡ row_from row }
 {
     Rule {
-        kind: row >> 16,
+        kind: kind_from(row >> 16),
         least: (row >> 8) % 256,
         most: row % 256,
     }
 }
 
 // The rule of a tag, for the set or for a pack.
-pub fn rule_of(table: &[u32], set: bool, tag: u64) -> Rule
-    requires { table.now ≡ item_table }
+pub fn rule_of(table: &Table, set: bool, tag: u64) -> Rule
     ensures { rule_from result ≡ rule_of (level_of set) tag }
 {
     if most_tag(set) < tag {
         return Rule {
-            kind: UNLISTED,
+            kind: Kind::Unlisted,
             least: 1,
             most: 0,
         };
     }
-    rule_from(row_at(table, set, tag))
+    rule_from(row_at(&table.rows, set, tag))
 }
 
 // Leading zeros.
 pub fn leading(v: &[u8]) -> usize
     ensures { result ≡ zeros v.now }
 {
-    let mut i: usize = 0;
-    while i < v.len() {
-        if v[i] != 0 {
+    for (i, b) in v.iter().enumerate() {
+        if *b != 0 {
             return i;
         }
-        i += 1;
     }
-    i
+    v.len()
 }
 
 // Whether a rule allows a length.
@@ -147,42 +175,36 @@ fn sized_of(rule: Rule, n: usize) -> bool
     if n < least {
         return false;
     }
-    if rule.kind == UNLISTED {
-        return true;
+    match rule.kind {
+        Kind::Unlisted => true,
+        Kind::Location => n <= most && (n - least) % 6 == 0,
+        _ => n <= most,
     }
-    if most < n {
-        return false;
-    }
-    if rule.kind == LOCATION {
-        return (n - least) % 6 == 0;
-    }
-    true
 }
 
-// 11, 12 or 0.
-pub fn valued_of(rule: Rule, v: &[u8]) -> u64
-    ensures { answer_of result ≡ valued (rule_from rule) v.now }
+// 11, 12 of a value.
+pub fn valued_of(rule: Rule, v: &[u8]) -> Result<(), Refusal>
+    ensures { answered result ≡ valued (rule_from rule) v.now }
 {
-    if sized_of(rule, v.len()) {
-        if rule.kind == PIXEL {
-            if leading(v) == v.len() {
-                return 12;
-            }
-            return 0;
-        }
-        return 0;
+    if !sized_of(rule, v.len()) {
+        return Err(Refusal::LengthNotAllowed);
     }
-    11
+    match rule.kind {
+        Kind::Pixel => {
+            if leading(v) == v.len() {
+                return Err(Refusal::PixelZero);
+            }
+            Ok(())
+        }
+        _ => Ok(()),
+    }
 }
 
 // A number, or a pixel.
 fn is_number(rule: Rule) -> bool
     ensures { result ≡ is_number (rule_from rule).kind }
 {
-    if rule.kind == NUMBER {
-        return true;
-    }
-    rule.kind == PIXEL
+    matches!(rule.kind, Kind::Number | Kind::Pixel)
 }
 
 // How many bytes a value has in its shortest form: all, where the first is not 0, whatever the rule.
@@ -270,21 +292,28 @@ pub fn begins(set: bool, alone: bool, tag: u64, first: bool) -> bool
     true
 }
 
-// 9, 13, 14 or 0; dup: the tag stands before, first: nothing stands before.
-pub fn standing_of(set: bool, alone: bool, dup: bool, first: bool, tag: u64, last: bool) -> u64
+// 9, 13, 14 of an item; dup: the tag stands before, first: nothing stands before.
+pub fn standing_of(
+    set: bool,
+    alone: bool,
+    dup: bool,
+    first: bool,
+    tag: u64,
+    last: bool,
+) -> Result<(), Refusal>
     ensures { (seen : List ℕ) → dup ≡ has tag seen → first ≡ none? seen
-        → answer_of result ≡ standing (level_of set) (form_of alone) seen tag last }
+        → answered result ≡ standing (level_of set) (form_of alone) seen tag last }
 {
     if dup {
-        return 9;
+        return Err(Refusal::TagRepeated);
     }
-    if stands(set, alone, tag, last) {
-        if begins(set, alone, tag, first) {
-            return 0;
-        }
-        return 14;
+    if !stands(set, alone, tag, last) {
+        return Err(Refusal::MayNotStand);
     }
-    13
+    if !begins(set, alone, tag, first) {
+        return Err(Refusal::Missing);
+    }
+    Ok(())
 }
 
 pub mod quick; // quick.rt: what is told at a glance

@@ -1,7 +1,7 @@
 // Most items are told at a glance: a tag that the table lists, a length below 30 that it allows, and no zero before a number; or a tag
 // that no table lists. It says yes or nothing: of a tag or a length of two bytes, a length of 30 or more in a listed tag, a number that begins
 // with 0, the set's checksum and its series it does not know. A row is here the one of its tag among those for a glance.
-ghost use Rattle.std.specs.Prelude.{◌≡◌, ◌<◌, true};
+ghost use Rattle.std.specs.Prelude.{◌≡◌, ◌<◌, true, IfSome};
 ghost use Rattle.items.specs.Meet.{form_of, level_of, glance_table};
 ghost use Rattle.items.specs.Quick.{Glanced, Looked, row_tells, least_row, beyond};
 
@@ -48,11 +48,17 @@ const GLANCES: [u32; 37] = [
     1 << 30 | 0x4, // 12
 ];
 
-// Apart from the item table: where all is told at a glance, that is not laid out.
-pub fn glances() -> [u32; 37]
-    ensures { result ≡ glance_table }
-{
-    GLANCES
+// The rows for a glance. Apart from the item table: where all is told at a glance, that is not laid out.
+#[derive(Clone, Copy)]
+pub struct Glances {
+    pub rows: [u32; 37],
+    ghost told: { rows ≡ glance_table },
+}
+
+impl Glances {
+    pub fn new() -> Glances {
+        Glances { rows: GLANCES }
+    }
 }
 
 // Whether a row's bits have this length. The uppermost is set in the kinds of a number, whose first byte may not be 0.
@@ -107,14 +113,13 @@ fn is_other(set: bool, tag: u64, n: u64) -> bool
 
 // Whether an item with this tag, whose value has n bytes and begins with this one, meets the rules for one item wherever it may begin,
 // and is shortest as it stands, tag and length too. Where it says no, nothing is known.
-pub fn is_glanced(glances: &[u32], set: bool, alone: bool, tag: u64, n: u64, first: u8) -> bool
-    requires { glances.now ≡ glance_table }
+pub fn is_glanced(glances: &Glances, set: bool, alone: bool, tag: u64, n: u64, first: u8) -> bool
     ensures { result ≡ true → (tag < 128) × (n < 128) × Glanced (level_of set) (form_of alone) tag n first }
 {
     if super::most_tag(set) < tag {
         return is_other(set, tag, n);
     }
-    let row = super::row_at(glances, set, tag);
+    let row = super::row_at(&glances.rows, set, tag);
     if row < least_row(alone) {
         return false;
     }
@@ -123,8 +128,7 @@ pub fn is_glanced(glances: &[u32], set: bool, alone: bool, tag: u64, n: u64, fir
 
 // What an item laid out alike has to begin its value with, beside one that is told so: 0 anything, 1 the same byte or any but 0. Asked of one that was
 // told, only the uppermost bit of its row is left to read.
-pub fn first_mask(glances: &[u32], set: bool, alone: bool, tag: u64, n: u64) -> u8
-    requires { glances.now ≡ glance_table }
+pub fn first_mask(glances: &Glances, set: bool, alone: bool, tag: u64, n: u64) -> u8
     ensures { result ≡ 0 → Glanced (level_of set) (form_of alone) tag n 0 }
 {
     if super::most_tag(set) < tag {
@@ -133,7 +137,7 @@ pub fn first_mask(glances: &[u32], set: bool, alone: bool, tag: u64, n: u64) -> 
         }
         return 1;
     }
-    let row = super::row_at(glances, set, tag);
+    let row = super::row_at(&glances.rows, set, tag);
     if row < least_row(alone) {
         return 1;
     }
@@ -144,28 +148,31 @@ pub fn first_mask(glances: &[u32], set: bool, alone: bool, tag: u64, n: u64) -> 
 }
 
 // A closer look, at the value: the bytes of its shortest form, where an item with this tag and value meets the rules for one item wherever it may
-// begin. Zeros may stand before a number, if that is not 0. 0 says nothing.
-pub fn closer_size(glances: &[u32], set: bool, alone: bool, tag: u64, v: &[u8]) -> usize
-    requires { glances.now ≡ glance_table }
-    ensures { 0 < result → (tag < 128) × (result < 128) × Looked (level_of set) (form_of alone) tag v.now result }
+// begin. Zeros may stand before a number, if that is not 0. `None` says nothing.
+pub fn closer_size(glances: &Glances, set: bool, alone: bool, tag: u64, v: &[u8]) -> Option<usize>
+    ensures { IfSome result (λ n. (tag < 128) × (n < 128) × Looked (level_of set) (form_of alone) tag v.now n) }
 {
     let size = v.len();
     let n = size as u64;
     if super::most_tag(set) < tag {
         if is_other(set, tag, n) {
-            return size;
+            return Some(size);
         }
-        return 0;
+        return None;
     }
-    let row = super::row_at(glances, set, tag);
+    let row = super::row_at(&glances.rows, set, tag);
     if row < least_row(alone) {
-        return 0;
+        return None;
     }
     if !fits(row, n, 1) {
-        return 0;
+        return None;
     }
     if row >> 31 == 0 {
-        return size;
+        return Some(size);
     }
-    size - super::leading(v)
+    let shortest = size - super::leading(v);
+    if shortest == 0 {
+        return None;
+    }
+    Some(shortest)
 }

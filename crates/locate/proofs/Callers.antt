@@ -11,8 +11,7 @@ use Rattle.format.specs.Table.{Form}
 use Rattle.format.specs.Rows.{Row, rows_of, locate}
 use Rattle.write_rows.specs.Meet.{numbers}
 use Rattle.write_rows.proofs.Numbers.{numbers_long}
-use Rattle.answers.specs.declared.Answer.{Answer}
-use Rattle.answers.specs.Meet.{left_of}
+use Rattle.answers.specs.Meet.{Answer, left_of}
 use Rattle.answers.proofs.Results.{call_refused}
 use Rattle.locate.specs.Meet.{leaves_rows}
 

@@ -16,8 +16,7 @@ use Rattle.format.proofs.Demands.Sizes.{sizes as size_law}
 use Rattle.items.proofs.Tests.{bind_so, bind_not}
 use Rattle.tally.specs.declared.Sizes.{Sizes}
 use Rattle.tally.specs.Runs.{level_run}
-use Rattle.check_packet.specs.declared.Checked.{Checked}
-use Rattle.check_packet.specs.declared.Checked.TheVariants.{Fine, Wrong}
+use Rattle.check_packet.specs.Checks.{Checked, Fine, Wrong}
 use Rattle.check_packet.specs.Meet.{checked_of}
 use Rattle.check_packet.proofs.Parsing.{wrong_parsed}
 use Rattle.check_packet.proofs.Opened.{fine, opened, start_is, lent_set, lent_is, set_ran, set_long}
@@ -25,8 +24,7 @@ use Rattle.stores.proofs.Stores.{sets_start}
 use Rattle.write_rows.specs.Meet.{numbers, level_rows, level_numbers, LevelAsked, LevelLeft}
 use Rattle.write_rows.proofs.Numbers.{numbers_long, level_set}
 use Rattle.write_rows.proofs.Packet.{rows_whole}
-use Rattle.answers.specs.declared.Answer.{Answer}
-use Rattle.answers.specs.Meet.{left_of, answer_of, refusal_of}
+use Rattle.answers.specs.Meet.{Answer, left_of, answer_of, refusal_of}
 use Rattle.locate.specs.Meet.{leaves_rows}
 
 rows_short : (lent : List ℕ) (rs : List Row) → length lent < 4 * length rs → left_of (answer_of 16 (length rs)) lent ≡ leaves_rows lent (ok rs)

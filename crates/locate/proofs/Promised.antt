@@ -19,8 +19,7 @@ use Rattle.format.proofs.Demands.Accepted.{read_is}
 use Rattle.format.proofs.Demands.Rows.{locates, one_rows, locate_points}
 use Rattle.write_rows.specs.declared.table.Row as table
 use Rattle.write_rows.specs.Meet.{row_of}
-use Rattle.answers.specs.declared.Answer.{Answer}
-use Rattle.answers.specs.Meet.{left_of, answer_of}
+use Rattle.answers.specs.Meet.{Answer, left_of, answer_of}
 use Rattle.answers.specs.Given.{Given, Refusing, Accepted}
 use Rattle.answers.proofs.Results.{one_result}
 use Rattle.answers.proofs.Given.{given, one_given, by_room}

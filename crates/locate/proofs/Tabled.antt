@@ -7,6 +7,7 @@ use lib.ListN.{length, drop, length-append, length-map}
 use mathlib.Core.Bool.{true, false}
 use lib.Dec.{leb}
 use borrow.Author.Tests.{le-leb, lt-leb, eq-eqb, ne_eqb}
+use Rattle.std.specs.Prelude.{Err}
 use Rattle.format.specs.Answer.{Ans, ok, refused}
 use Rattle.format.specs.Coding.{Bytes}
 use Rattle.format.specs.Table.{Form}
@@ -17,8 +18,9 @@ use Rattle.write_rows.specs.declared.table.Row as table
 use Rattle.write_rows.specs.Meet.{numbers, row_of, table_of}
 use Rattle.write_rows.proofs.Numbers.{numbers_long}
 use Rattle.write_rows.proofs.Filling.{table_back}
-use Rattle.answers.specs.declared.Answer.{Answer}
-use Rattle.answers.specs.Meet.{left_of, answer_of}
+use Rattle.coding.specs.declared.refusals.Fault.{Fault}
+use Rattle.coding.proofs.Tried.{number_some}
+use Rattle.answers.specs.Meet.{Answer, left_of, answer_of, answer}
 use Rattle.answers.proofs.Results.{call_refused}
 use Rattle.locate.specs.Meet.{leaves_rows, leaves_table, count_of, Filled}
 
@@ -27,6 +29,14 @@ count_some a e = rw (eq-eqb a.number 0 e, count_of)
 
 pub count_none : (a : Answer) → 1 ≤ a.number → count_of a ≡ 0
 count_none a h = rw (ne_eqb a.number 0 (λ e. omega arith), count_of)
+
+-- a refusal counts none
+pub none_counted : (e : Fault) → 0 ≡ count_of (answer (Err e))
+none_counted e = sym (count_none (answer (Err e)) (number_some e.refusal))
+
+pub left_none : {room : ℕ} {x : Ans (List Row)} {ns : List ℕ} (e : Fault) → Filled room x (answer (Err e)) ns → (lent : List table.Row) → length lent ≡ room → left_of (answer (Err e)) lent ≡ leaves_table lent x
+unfolding table_of
+left_none {ns = ns} e h lent z = ap (λ k. left_of (answer (Err e)) (table_of k ns ++ drop k lent)) (none_counted e) ∙ h.left lent z
 
 -- an answer that counts none leaves a table as it is
 none_filled : (room : ℕ) (x : Ans (List Row)) (a : Answer) (ns : List ℕ) → 1 ≤ a.number → ((lent : List table.Row) → length lent ≡ room → left_of a lent ≡ leaves_table lent x) → Filled room x a ns

@@ -6,8 +6,7 @@ use Rattle.format.specs.Rows.{Row, locate}
 use Rattle.format.specs.Room.{Left, leaves}
 use Rattle.write_rows.specs.declared.table.Row as table
 use Rattle.write_rows.specs.Meet.{numbers, row_of, table_of}
-use Rattle.answers.specs.declared.Answer.{Answer}
-use Rattle.answers.specs.Meet.{left_of}
+use Rattle.answers.specs.Meet.{Answer, left_of}
 
 -- rows lie in a lent slice of numbers, four to a row; their count is a count of rows
 unfoldable pub leaves_rows : List ℕ → Ans (List Row) → Left ℕ

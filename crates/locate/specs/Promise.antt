@@ -8,8 +8,7 @@ use Rattle.format.specs.Rows.{Row}
 use Rattle.format.specs.Demands.Rows.{RowsPoint}
 use Rattle.write_rows.specs.declared.table.Row as table
 use Rattle.write_rows.specs.Meet.{numbers, row_of}
-use Rattle.answers.specs.declared.Answer.{Answer}
-use Rattle.answers.specs.Meet.{answer_of}
+use Rattle.answers.specs.Meet.{Answer, answer_of}
 use Rattle.answers.specs.Given.{Given, Refusing, Accepted}
 use Rattle.locate.specs.Meet.{Locates, Tables}
 

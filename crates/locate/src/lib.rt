@@ -3,25 +3,24 @@
 
 ghost use Rattle.std.specs.Prelude.{◌≡◌};
 ghost use Rattle.items.specs.Meet.{form_of};
+ghost use Rattle.answers.specs.Meet.{answer};
 ghost use Rattle.locate.specs.Meet.{Locates};
 
-use answers::{Answer, answer_of, refusal};
-use check_packet::Checked;
+use coding::refusals::{Fault, Refusal};
+use items::quick::Glances;
 
-// A packet's rows, as numbers, four to a row.
-pub fn locate_numbers(packet: &[u8], alone: bool, rows: &mut [u64]) -> Answer
-    ensures { Locates (form_of alone) packet.now rows.old result rows.new }
+// A packet's rows, as numbers, four to a row; how many rows.
+pub fn locate_numbers(packet: &[u8], alone: bool, rows: &mut [u64]) -> Result<usize, Fault>
+    ensures { Locates (form_of alone) packet.now rows.old (answer result) rows.new }
 {
-    let glances = items::quick::glances();
-    let c = check_packet::check(&glances, packet, alone);
-    let Checked::Fine { sizes, from } = c else {
-        return refusal(c);
-    };
-    if rows.len() < 4 * sizes.rows {
-        return answer_of(16, sizes.rows);
+    let glances = Glances::new();
+    let checked = check_packet::check(&glances, packet, alone)?;
+    let count = checked.sizes.rows;
+    if rows.len() < 4 * count {
+        return Err(Refusal::RoomTooShort.at(count));
     }
-    write_rows::item_rows(&packet[from..], from, 0, true, rows);
-    answer_of(0, sizes.rows)
+    write_rows::item_rows(&packet[checked.from..], checked.from, 0, true, rows);
+    Ok(count)
 }
 
 pub mod table; // table.rt: rows as a lent slice of structs

@@ -1,12 +1,13 @@
 -- The call `normalise`, case by case: a refusal, too little room, and the normal form written.
-use mathlib.Core.Path.{◌≡◌, sym, ap, ◌∙◌, subst}
-use Prim.Native.Nat.{ℕ, ◌≤◌}
+use mathlib.Core.Path.{◌≡◌, refl, sym, ap, ◌∙◌, subst}
+use Prim.Native.Nat.{ℕ, ◌+◌, ◌-◌, ◌≤◌, ◌<◌}
 use native.Mathlib.Omega.{arith}
 use mathlib.Core.Bool.{false}
-use mathlib.Core.List.{List, map}
+use mathlib.Core.List.{List, [], map}
 use lib.Dec.{eqb}
-use lib.ListN.{length}
+use lib.ListN.{length, take, drop}
 use lib.Seq.{sets}
+use borrow.Rule.Slice.PartMut.{put_mid}
 use Rattle.format.specs.Answer.{ok}
 use Rattle.format.specs.Coding.{Bytes}
 use Rattle.format.specs.Lists.{flat_all}
@@ -25,19 +26,20 @@ use Rattle.tally.specs.declared.Sizes.{Sizes}
 use Rattle.tally.specs.Meet.{total, weight_of_entry}
 use Rattle.tally.specs.Runs.{Ran, level_run}
 use Rattle.tally.proofs.Parsed.{Parsed}
-use Rattle.check_packet.specs.declared.Checked.{Checked}
-use Rattle.check_packet.specs.declared.Checked.TheVariants.{Fine, Wrong}
+use Rattle.check_packet.specs.Checks.{Checked, Fine, Wrong}
 use Rattle.check_packet.specs.Meet.{checked_of}
 use Rattle.check_packet.proofs.Closings.{inner_less}
 use Rattle.check_packet.proofs.Parsing.{wrong_parsed}
 use Rattle.check_packet.proofs.Opened.{fine, opened, set_room, set_ran, set_long, lent_set, lent_is}
-use Rattle.frames.specs.Meet.{frame_size}
-use Rattle.write_normal.specs.Meet.{level_normal, InnerRun}
+use Rattle.stores.specs.Puts.{Fills}
+use Rattle.stores.proofs.Puts.{Puts}
+use Rattle.frames.specs.Meet.{frame_size, open_bytes, seal_bytes}
+use Rattle.write_normal.specs.Meet.{level_normal, LevelAsked, InnerRun}
 use Rattle.write_normal.proofs.Packet.{normal_whole, inner_run}
-use Rattle.answers.specs.declared.Answer.{Answer}
-use Rattle.answers.specs.Meet.{left_of, refusal_of}
+use Rattle.answers.specs.Meet.{Answer, left_of, answer_of, refusal_of}
 use Rattle.answers.proofs.Leaving.{left_refused}
-use Rattle.answers.proofs.Packing.{Packs, size_is}
+use Rattle.answers.proofs.Framed.{Fits, open_asked, rest_from, rest_room, entries_end, close_asked, all_written}
+use Rattle.answers.proofs.Packing.{Packs, size_is, packs_short, packs_fit, packs_done}
 
 -- a packet that the check found fine: its sizes, and where its set begins
 pub record FoundFine (f : Form) (s : List ℕ) : Type 0 where
@@ -127,3 +129,50 @@ module _ {f : Form} {s : List ℕ} (w : FoundFine f s) where
     omega (arith, inner, inner_less packet no_seal, entries, normal_small),
     rw (lent_is f s w.meets w.bytes w.told) (inner_run parts w.bytes inner),
   )
+
+-- ---- the same at the places of the code: found fine, its size known, with room, opened, and with its entries written
+
+module _ (f : Form) (s : List ℕ) {a : Sizes} {k : ℕ} (e : Fine a k ≡ checked_of (parse f s)) (b : Bytes s) where
+  abbrev pub it : FoundFine f s
+  it = record { said = _; sizes = a; from = k; meets = e; bytes = b; told = refl }
+
+  pub size_asked : a.normal ≤ 1048576
+  size_asked = omega (arith, normal_small it)
+
+  pub set_begins : k ≤ length s
+  set_begins = set_fits it
+
+  module _ {size : ℕ} (ez : size ≡ frame_size f a.normal) (lent : List ℕ) where
+    packs : Packs (normalise f s) f (es it) a.normal size
+    packs = normal_packs it ez
+
+    pub no_room : length lent < size → {r : Answer} → r ≡ answer_of 16 size → left_of r lent ≡ leaves lent (normalise f s)
+    no_room h er = packs_short packs lent (normal_within it ez) h er
+
+    module _ (room : size ≤ length lent) where
+      pub copied_left : size ≡ length s → {out : List ℕ} → out ≡ sets lent 0 s → left_of (answer_of 0 size) out ≡ leaves lent (normalise f s)
+      copied_left h eo = packs_done packs lent (normal_within it ez) room (normal_copied it ez lent h eo) refl
+
+      fits : Fits f (es it) lent a.normal size
+      fits = packs_fit packs lent (normal_within it ez) room
+
+      pub opening : (a.normal ≤ 1048576) × (length (open_bytes f a.normal) ≤ length lent)
+      opening = open_asked fits
+
+      module _ {n : ℕ} {out : List ℕ} (eo : (n ≡ length (open_bytes f a.normal)) × (out ≡ sets lent 0 (open_bytes f a.normal))) where
+        pub entries_from : n ≤ length out
+        entries_from = rest_from fits eo
+
+        pub entries_asked : LevelAsked set f (lent_set_lem it) a.inner (length (take (length out - n) (drop n out)))
+        entries_asked = (set_small it, set_runs it, (inner_asked it).0, (inner_asked it).1, rest_room fits eo (written_is it))
+
+        module _ {m : ℕ} {o : List ℕ} (left : Fills (take (length out - n) (drop n out)) (level_normal set f (lent_set_lem it)) m o) where
+          pub entries_to : n + m ≤ 8192
+          entries_to = entries_end fits eo (written_is it) left
+
+          pub closing : (n + m + length (seal_bytes f []) ≤ length (put_mid n (length out - n) out o)) × (n + m + length (seal_bytes f []) ≤ 8192)
+          closing = close_asked fits eo (written_is it) left
+
+          pub closed_left : {j : ℕ} {last : List ℕ} → Puts (put_mid n (length out - n) out o) (n + m) (seal_bytes f (take (n + m) (put_mid n (length out - n) out o))) j last
+              → left_of (answer_of 0 size) last ≡ leaves lent (normalise f s)
+          closed_left p = packs_done packs lent (normal_within it ez) room (all_written fits eo (written_is it) left p) refl

@@ -1,16 +1,17 @@
 -- The quick way's turns: an item told at a glance is read as the item walk reads it.
 use mathlib.Core.Path.{◌≡◌, refl, sym, ap, ◌∙◌}
-use Prim.Native.Nat.{ℕ, zero, suc, ◌+◌, ◌-◌, ◌≤◌, ◌<◌}
+use Prim.Native.Nat.{ℕ, ◌+◌, ◌-◌, ◌≤◌, ◌<◌}
 use native.Mathlib.Omega.{arith}
-use mathlib.Core.Bool.{Bool, true, false, not, ◌&&◌, ◌||◌}
+use mathlib.Core.Bool.{Bool, true, false, ◌&&◌}
 use mathlib.Core.List.{List}
+use Rattle.std.proofs.Common.{Ok}
 use lib.ListN.{length, take, drop, get_or, length-drop}
 use lib.Seq.{get_or-drop, get_or-take, length-take-le}
 use lib.Dec.{eqb}
 use lib.Bits.{bit_or}
 use Rattle.format.specs.Coding.{Bytes, oid_bytes, len_width}
 use Rattle.format.specs.Answer.{ok}
-use Rattle.format.specs.Table.{Form, Level, is_set, is_alone, rule_of, may_stand, valued, short}
+use Rattle.format.specs.Table.{Form, Level, is_set, rule_of, may_stand, valued, short}
 use Rattle.coding.proofs.Counts.{len_one, count_start, count_done}
 use Rattle.items.specs.Meet.{level_of}
 use Rattle.items.specs.Quick as items
@@ -18,11 +19,9 @@ use Rattle.items.proofs.Tests.{standing_0}
 use Rattle.items.proofs.Glances.{as_same}
 use Rattle.items.proofs.Looks.{looked_glanced}
 use Rattle.format.specs.Lists.{has}
-use Rattle.heads.specs.declared.Head.{Head}
-use Rattle.heads.specs.Meet.{item_head_of, peek, Past}
-use Rattle.heads.specs.declared.Head.TheVariants as heads
-use Rattle.heads.proofs.Heads.{mid_part, item_head_short}
-use Rattle.tally.specs.declared.Piece.TheVariants as piece
+use Rattle.heads.specs.Meet.{head, item_head, peek, Past}
+use Rattle.heads.proofs.Heads.{mid_part, item_within, item_head_short}
+use Rattle.tally.specs.Pieces as piece
 use Rattle.tally.specs.declared.Sizes.{Sizes}
 use Rattle.tally.specs.Meet.{piece_of, sizes, item_sizes, plus_sizes, bit_of}
 use Rattle.tally.specs.Going.{LevelGoing, Begun, New}
@@ -30,8 +29,7 @@ use Rattle.quick_items.specs.Items.{told_sizes, ItemGlanced, GlancedTo}
 use Rattle.format.specs.Read.{head_of, item}
 use Rattle.tally.proofs.Walks.{same_sizes}
 use Rattle.tally.proofs.Turns.{new_key}
-use Rattle.tally.proofs.Begins.{begun_later}
-use Rattle.tally.proofs.Pieces.{piece_within, piece_whole}
+use Rattle.tally.proofs.Pieces.{piece_whole}
 use Rattle.tally.proofs.ItemTurns.{ItemAt, level_is, item_told, entry_more}
 
 -- one more such item
@@ -44,34 +42,6 @@ quick_plus l tag n count p z th nh =
     let e : item_sizes l tag n ≡ sizes (6 + n) 1 (length (oid_bytes tag) + (len_width n + n)) 0 = rw (z, item_sizes) in
     rw e (same_sizes (omega arith) refl (omega (arith, u, w)) refl)
 
--- what may begin a level, and whatever comes later
-begun_at : (b : Bool) (f : Form) (s : List ℕ) → Begun b f 0 (get_or s 0 0) → (p : ℕ) → Begun b f p (get_or s p 0)
-begun_at b f s h zero = h
-begun_at b f s h (suc p) = begun_later b f (suc p) (get_or s (suc p) 0) (omega arith)
-
--- x is what the code says of what begins the level
-pub begun_start : (b : Bool) (f : Form) (s : List ℕ) {tag : ℕ} → tag ≡ get_or s 0 0 → {x : Bool} → x ≡ (not (is_set (level_of b)) || not (is_alone f) || not true || eqb tag 2) → x ≡ true → Begun b f 0 (get_or s 0 0)
-begun_start b f s et ex tx = rw et at (sym ex ∙ tx)
-
--- as the code finds it
-pub glance_from : (b : Bool) (f : Form) (s : List ℕ) (p top : ℕ) {tag n : ℕ} → tag ≡ get_or s p 0 → n ≡ get_or s (p + 1) 0 → (tag ≤ top → ⊥) → p + 2 < length s → Begun b f 0 (get_or s 0 0)
-    → (tag < 128) × (n < 128) × items.Glanced (level_of b) f tag n (get_or s (p + 2) 0) → GlancedTo b f s p top (p + 2 + n)
-glance_from b f s p top {tag = tag} {n = n} et en above here h q = (
-  n,
-  refl,
-  q.2.some,
-  here,
-  λ room. record {
-    quick = rw et at q.2;
-    small = rw et at q.0;
-    few = q.1;
-    above = omega arith;
-    size_is = en;
-    room = room;
-    begins = begun_at b f s h p;
-  },
-)
-
 -- ---- an item that meets its rules, under any head
 
 -- the value of the item at p
@@ -80,9 +50,7 @@ value_at s p u w n = take (u + w + n - (u + w)) (drop (u + w) (drop p s))
 
 -- its head, as the code has read it
 pub record Headed (b : Bool) (s : List ℕ) (p tag u w n : ℕ) : Type 0 where
-  pub it : Head
-  pub told : item_head_of it ≡ head_of (level_of b) (drop p s)
-  pub is : it ≡ heads.Whole tag u w n
+  pub told : ok (item_head (head tag u w n)) ≡ head_of (level_of b) (drop p s)
 
 -- m bytes are its value's shortest form
 pub record Meets (b : Bool) (f : Form) (s : List ℕ) (p tag u w n m : ℕ) : Type 0 where
@@ -98,7 +66,7 @@ module _ {b : Bool} {s : List ℕ} {p tag u w n : ℕ} (h : Headed b s p tag u w
   value_is = mid_part (u + w) n (drop p s)
 
   pub value_size : length (value_at s p u w n) ≡ n
-  value_size = ap length value_is ∙ length-take-le n (drop (u + w) (drop p s)) (rw length-drop (omega (arith, piece_within (drop p s) (level_of b) h.told h.is)))
+  value_size = ap length value_is ∙ length-take-le n (drop (u + w) (drop p s)) (rw length-drop (omega (arith, item_within (drop p s) (head tag u w n) (level_of b) h.told)))
 
   value_head : 0 < n → get_or (value_at s p u w n) 0 0 ≡ get_or s (p + (u + w)) 0
   value_head some =
@@ -123,14 +91,15 @@ module _ {b : Bool} {s : List ℕ} {p tag u w n : ℕ} (h : Headed b s p tag u w
   pub quick_meets : {f : Form} → items.Glanced (level_of b) f tag n (get_or s (p + (u + w)) 0) → Begun b f p tag → Meets b f s p tag u w n n
   quick_meets q = looked_meets (looked_glanced (value_at s p u w n) value_size (as_same _ _ (value_head q.some)) q)
 
-pub quick_piece : {b : Bool} {f : Form} {s : List ℕ} {p tag u w n m : ℕ} → Meets b f s p tag u w n m → {top low : ℕ} → ((seen : List ℕ) → Past (peek false false b) s p top low seen → false ≡ has tag seen)
+pub quick_piece : {b : Bool} {f : Form} {s : List ℕ} {p tag u w n m : ℕ} → Meets b f s p tag u w n m
+    → {top low : ℕ} → ((seen : List ℕ) → Past (peek false false b) s p top low seen → false ≡ has tag seen)
     → (seen : List ℕ) → Past (peek false false b) s p top low seen → piece.Whole tag (u + w) n m ≡ piece_of (level_of b) (item (level_of b) f seen (drop p s))
-quick_piece {b = b} {f = f} {s = s} {p = p} {tag = tag} i new seen past =
-    piece_whole (drop p s) (level_of b) i.head.told i.head.is f seen
+quick_piece {b = b} {f = f} {s = s} {p = p} {tag = tag} {u = u} {w = w} {n = n} i new seen past =
+    piece_whole (drop p s) (level_of b) {h = Ok (head tag u w n)} i.head.told refl f seen
     (λ e. omega (arith, i.some))
-    {j = 0} (standing_0 (level_of b) f seen tag _ (new seen past) (sym i.stands) (eqb p 0) (sym past.first) (sym i.begins))
+    {j = Ok tt} (standing_0 (level_of b) f seen tag _ (new seen past) (sym i.stands) (eqb p 0) (sym past.first) (sym i.begins))
     refl refl
-    {m = 0} (sym i.allowed) refl
+    {m = Ok tt} (sym i.allowed) refl
     (sym i.shortest)
 
 -- such an item, where the walk goes on, if its tag is told to be new
@@ -166,7 +135,7 @@ module _ {b : Bool} {f : Form} {s : List ℕ} {p top n : ℕ} (g : ItemGlanced b
       let et : tag ≡ get_or (drop p s) 0 0 = sym (get_or-drop p s 0 0 ∙ ap (λ i. get_or s i 0) (omega arith)) in
       let en : n ≡ get_or (drop 1 (drop p s)) 0 0 = g.size_is ∙ sym (get_or-drop 1 (drop p s) 0 0 ∙ get_or-drop p s 1 0) in
       let room : 1 + 1 + n ≤ length (drop p s) = rw length-drop (omega (arith, g.room)) in
-      let i : Meets b f s p tag 1 1 n n = quick_meets (record { it = heads.Whole tag 1 1 n; told = item_head_short (level_of b) (drop p s) tag n et en z th nh room; is = refl }) g.quick g.begins in
+      let i : Meets b f s p tag 1 1 n n = quick_meets (record { told = item_head_short (level_of b) (drop p s) tag n et en z th nh room }) g.quick g.begins in
       quick_piece i λ seen q. sym (q.under tag g.above)
 
   -- x is the tag as the code read it

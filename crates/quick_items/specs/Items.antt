@@ -3,8 +3,8 @@ use Rattle.std.specs.Prelude.{◌≡◌, ℕ, ◌+◌, ◌*◌, ◌-◌, ◌≤�
 use Rattle.format.specs.Table.{Form, is_set}
 use Rattle.items.specs.Meet.{level_of}
 use Rattle.items.specs.Quick as items
+use Rattle.tally.specs.Pieces as piece
 use Rattle.tally.specs.declared.Piece.{Piece}
-use Rattle.tally.specs.declared.Piece.TheVariants as piece
 use Rattle.tally.specs.declared.Sizes.{Sizes}
 use Rattle.tally.specs.Meet.{sizes}
 use Rattle.tally.specs.Going.{Begun, New, ItemRead}
@@ -47,7 +47,6 @@ pub record Closer (b : Bool) (f : Form) (s : List ℕ) (p top low tag from size 
   pub no_series : is_set (level_of b) && eqb tag 101 ≡ false
   pub no_seal : is_set (level_of b) && eqb tag 1 ≡ false
 
--- such an item, or nothing
-abbrev pub CloserIf : Bool → Form → List ℕ → ℕ → ℕ → ℕ → Piece → Type 0
-CloserIf b f s p top low (piece.Whole tag from size small) = Closer b f s p top low tag from size small
-CloserIf b f s p top low (piece.Fault n) = Unit {0}
+-- the same, as the code has it
+abbrev pub CloserAt : Bool → Form → List ℕ → ℕ → ℕ → ℕ → Piece → Type 0
+CloserAt b f s p top low x = Closer b f s p top low x.tag x.from x.size x.short

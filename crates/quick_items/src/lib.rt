@@ -3,12 +3,12 @@
 // left to the walks.
 #![tactic(auto)]
 
-ghost use Rattle.std.specs.Prelude.{◌≡◌, true, false, ◌+◌, ◌*◌, ◌≤◌, ◌<◌, length, get_or};
-ghost use Rattle.items.specs.Meet.{form_of, glance_table};
+ghost use Rattle.std.specs.Prelude.{IfSome, ◌≡◌, true, false, ◌+◌, ◌*◌, ◌≤◌, ◌<◌, length, get_or};
+ghost use Rattle.items.specs.Meet.{form_of};
 ghost use Rattle.tally.specs.Going.{LevelTo, New};
 ghost use Rattle.quick_items.specs.Items.{told_sizes, Span, GlancedTo, Plain};
 
-use heads::Head;
+use items::quick::Glances;
 use tally::Sizes;
 use tally::stages::Stage;
 
@@ -26,31 +26,31 @@ pub fn span(s: &[u8], set: bool, alone: bool) -> usize
     0
 }
 
-// Where such an item at p ends by its length, its tag above top; 0 where it is no such item.
+// Where such an item at p ends by its length, its tag above top.
 pub fn glance_item(
-    glances: &[u32],
+    glances: &Glances,
     s: &[u8],
     p: usize,
     most: usize,
     set: bool,
     alone: bool,
     top: u64,
-) -> usize
-    requires { (glances.now ≡ glance_table) × (length s.now ≤ 8192) × Span set (form_of alone) s.now most }
-    ensures { 0 < result → GlancedTo set (form_of alone) s.now p top result }
+) -> Option<usize>
+    requires { (length s.now ≤ 8192) × Span set (form_of alone) s.now most }
+    ensures { IfSome result (GlancedTo set (form_of alone) s.now p top) }
 {
     if most <= p {
-        return 0;
+        return None;
     }
     let tag = coding::wide(s[p]);
     if tag <= top {
-        return 0;
+        return None;
     }
     let n = coding::wide(s[p + 1]);
     if items::quick::is_glanced(glances, set, alone, tag, n, s[p + 2]) {
-        return p + 2 + (n as usize);
+        return Some(p + 2 + (n as usize));
     }
-    0
+    None
 }
 
 // The first tag, which is the lowest where tags rise; above all where it is not in one byte, so that tags that fall are below it.
@@ -62,7 +62,7 @@ pub fn first_tag(s: &[u8]) -> u64
     }
     let tag = coding::wide(s[0]);
     if 127 < tag {
-        return 18446744073709551615;
+        return u64::MAX;
     }
     tag
 }
@@ -81,8 +81,8 @@ pub fn told_sizes(count: usize, p: usize) -> Sizes
 }
 
 // The items told at a glance, one after another. If the last goes past the end, which is seen once for all, the walk begins anew.
-pub fn glance_items(glances: &[u32], s: &[u8], set: bool, alone: bool) -> Stage
-    requires { (glances.now ≡ glance_table) × (length s.now ≤ 8192) }
+pub fn glance_items(glances: &Glances, s: &[u8], set: bool, alone: bool) -> Stage
+    requires { length s.now ≤ 8192 }
     ensures { LevelTo set (form_of alone) s.now result × (result.sizes ≡ told_sizes result.sizes.rows result.at) }
 {
     let most = span(s, set, alone);
@@ -91,20 +91,17 @@ pub fn glance_items(glances: &[u32], s: &[u8], set: bool, alone: bool) -> Stage
     let mut count: usize = 0;
     let mut held: u64 = 0;
     let mut top: u64 = 0;
-    loop {
-        let next = glance_item(glances, s, p, most, set, alone, top);
-        if next == 0 {
-            if s.len() < p {
-                return tally::stages::stage_at(0, tally::weights::nothing(), 0, 0, low);
-            }
-            return tally::stages::stage_at(p, told_sizes(count, p), held, top, low);
-        }
+    while let Some(next) = glance_item(glances, s, p, most, set, alone, top) {
         let tag = coding::wide(s[p]);
         held = held | tally::bit_of(tag);
         top = tag;
         count += 1;
         p = next;
     }
+    if s.len() < p {
+        return tally::stages::stage_at(0, tally::weights::nothing(), 0, 0, low);
+    }
+    tally::stages::stage_at(p, told_sizes(count, p), held, top, low)
 }
 
 // ---- on from there
@@ -113,13 +110,7 @@ pub fn glance_items(glances: &[u32], s: &[u8], set: bool, alone: bool) -> Stage
 pub fn is_new(p: usize, top: u64, low: u64, key: u64) -> bool
     ensures { result ≡ true → New p top low key }
 {
-    if top < key {
-        return true;
-    }
-    if key < low {
-        return true;
-    }
-    p == 0
+    top < key || key < low || p == 0
 }
 
 // Whether an item with a value of n bytes may stand at p, whatever they are: no table lists its tag, that is told to be new, and it is one
@@ -127,19 +118,11 @@ pub fn is_new(p: usize, top: u64, low: u64, key: u64) -> bool
 pub fn is_plain(set: bool, alone: bool, p: usize, top: u64, low: u64, tag: u64, n: usize) -> bool
     ensures { result ≡ true → Plain set (form_of alone) p top low tag n }
 {
-    if n == 0 {
-        return false;
-    }
-    if !is_new(p, top, low, tag) {
-        return false;
-    }
-    if !items::begins(set, alone, tag, p == 0) {
-        return false;
-    }
-    if !items::quick::is_beyond(set, tag) {
-        return false;
-    }
-    64 <= tag
+    n != 0
+        && is_new(p, top, low, tag)
+        && items::begins(set, alone, tag, p == 0)
+        && items::quick::is_beyond(set, tag)
+        && 64 <= tag
 }
 
 // The items after those of the quick way that are such, one after another. The series is none of them.
@@ -152,23 +135,16 @@ pub fn onward(s: &[u8], set: bool, alone: bool, q: Stage) -> Stage
     let mut top = q.top;
     let mut low = q.low;
     while p < s.len() {
-        let h = heads::item_head(&s[p..], set);
-        let Head::Whole {
-            key,
-            used,
-            width,
-            size,
-        } = h
-        else {
-            return tally::stages::stage_at(p, sum, q.held, top, low);
+        let Ok(head) = heads::item_head(&s[p..], set) else {
+            break;
         };
-        if !is_plain(set, alone, p, top, low, key, size) {
-            return tally::stages::stage_at(p, sum, q.held, top, low);
+        if !is_plain(set, alone, p, top, low, head.key, head.size) {
+            break;
         }
-        sum = tally::weights::plus(sum, tally::weights::plain_sizes(set, key, size));
-        top = tally::larger(top, key);
-        low = tally::smaller(low, key);
-        p = p + used + width + size;
+        sum = tally::weights::plus(sum, tally::weights::plain_sizes(set, head.key, head.size));
+        top = tally::larger(top, head.key);
+        low = tally::smaller(low, head.key);
+        p = p + head.used + head.width + head.size;
     }
     tally::stages::stage_at(p, sum, q.held, top, low)
 }

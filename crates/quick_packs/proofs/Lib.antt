@@ -1,4 +1,5 @@
 pub mod Alikes
 pub mod Models
 pub mod Fresh
+pub mod Passings
 pub mod ToldPacks

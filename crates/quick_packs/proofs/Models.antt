@@ -2,28 +2,35 @@
 use mathlib.Core.Path.{◌≡◌, refl, sym, ap, subst, ◌∙◌}
 use Prim.Native.Nat.{ℕ, ◌+◌, ◌-◌, ◌≤◌, ◌<◌}
 use native.Mathlib.Omega.{arith}
+use Rattle.std.proofs.Common.{Some, Result, Ok, Err}
+use Rattle.std.specs.Result.{is_err}
 use mathlib.Core.Bool.{Bool, true, false}
 use mathlib.Core.List.{List}
 use lib.ListN.{length, take, drop, length-drop}
 use lib.Seq.{get_or-take, length-take-le}
 use Rattle.format.specs.Coding.{Bytes, len_width}
-use Rattle.format.specs.Table.{Form}
+use Rattle.format.specs.Read.{pack_head}
+use Rattle.format.specs.Table.{Form, embedded}
+use Rattle.format.proofs.Words.Answers.{no_bool}
 use Rattle.format.proofs.Words.Bytes.{bytes_drop, bytes_take}
 use Rattle.coding.specs.Alike.{AlikeTo}
 use Rattle.coding.proofs.Alikes.{alike_same, alike_as}
 use Rattle.coding.proofs.Counts.{len_one}
-use Rattle.items.specs.Meet.{form_of, glance_table}
-use Rattle.heads.specs.Meet.{peek}
+use Rattle.coding.proofs.Rooms.{tail_part}
+use Rattle.coding.specs.declared.refusals.Refusal.{Refusal}
+use Rattle.items.specs.Meet.{form_of}
+use Rattle.heads.specs.declared.Head.{Head}
+use Rattle.heads.specs.Meet.{peek, PackHeadIf}
 use Rattle.tally.specs.declared.Sizes.{Sizes}
 use Rattle.tally.specs.declared.stages.Stage.{Stage}
 use Rattle.quick_packs.specs.declared.Model.{Model}
-use Rattle.tally.specs.Going.{LevelGoing, SeriesGoing, Reached}
-use Rattle.tally.specs.Meet.{pack_sizes, plus_sizes, ended_by}
+use Rattle.tally.specs.Going.{SeriesGoing, Reached}
+use Rattle.tally.specs.Meet.{pack_sizes, plus_sizes, ended_by, unended}
 use Rattle.quick_packs.specs.Packs.{Laid, Told, As, Modelled, packed_sizes, ItemsAsked, ItemsTold, Chosen}
 use Rattle.quick_items.specs.Items.{told_sizes}
 use Rattle.tally.proofs.Walks.{same_sizes}
-use Rattle.tally.proofs.Turns.{turn_done, Fresh, reached_fresh}
-use Rattle.tally.proofs.PackTurns.{PackAt, head_stood, head_room, lent_long, pack_more}
+use Rattle.tally.proofs.Turns.{turn_done, Fresh, reached_fresh, reach_only}
+use Rattle.tally.proofs.PackTurns.{PackAt, series_start, head_stood, head_room, lent_long, pack_more}
 
 module _ (alone : Bool) {m a : List ℕ} {q : Stage} (l : Laid (form_of alone) m a q) (all : q.at ≡ length a) (ends : ended_by (form_of alone) q.held ≡ 0) where
   pub laid_told : (b : List ℕ) → Bytes b → length b ≡ length a → AlikeTo m a b (length a) → Told alone b (1 + q.sizes.rows)
@@ -43,7 +50,7 @@ module _ (alone : Bool) {m a : List ℕ} {q : Stage} (l : Laid (form_of alone) m
 pub part_long : (s : List ℕ) (from next : ℕ) → from ≤ next → next ≤ length s → length (take (next - from) (drop from s)) ≡ next - from
 part_long s from next ordered room = length-take-le (next - from) (drop from s) (rw length-drop (omega arith))
 
-module _ (alone : Bool) (s : List ℕ) (from next : ℕ) {glances masks : List ℕ} {q : Stage} (l : Laid (form_of alone) masks (take (next - from) (drop from s)) q) (asked : ItemsAsked glances s from next)
+module _ (alone : Bool) (s : List ℕ) (from next : ℕ) {masks : List ℕ} {q : Stage} (l : Laid (form_of alone) masks (take (next - from) (drop from s)) q) (asked : ItemsAsked s from next)
     (all : q.at ≡ next - from) (ends : ended_by (form_of alone) q.held ≡ 0) where
   abbrev part : List ℕ
   part = take (next - from) (drop from s)
@@ -51,53 +58,35 @@ module _ (alone : Bool) (s : List ℕ) (from next : ℕ) {glances masks : List �
   long : length part ≡ next - from
   long = part_long s from next asked.ordered asked.room
 
-  pub items_told : Told alone part (1 + q.sizes.rows)
+  pub items_told : ItemsTold alone s from next (1 + q.sizes.rows)
   items_told = laid_told alone l (all ∙ sym long) ends part (bytes_take (next - from) (drop from s) (bytes_drop from s asked.bytes)) refl (alike_same _ _ _)
 
-  pub items_chosen : length masks ≡ 160 → Chosen alone masks s from next (record { from = from; size = q.at; rows = 1 + q.sizes.rows })
-  items_chosen masked = record {
+  pub items_chosen : Chosen alone masks s from next (record { from = from; size = q.at; rows = 1 + q.sizes.rows })
+  items_chosen = record {
     modelled = record {
-      long = masked;
       within = omega (arith, asked.ordered, asked.room);
-      told = λ _ b bytes e h.
+      told = λ b bytes e h.
           laid_told alone l (all ∙ sym long) ends b bytes (e ∙ all ∙ sym long)
           (subst (AlikeTo masks part b) (all ∙ sym long) (alike_as part b (λ i g. sym (get_or-take (next - from) (drop from s) i 0 (omega (arith, g, all)))) (λ i g. refl) h));
     };
     earlier = omega arith;
-    told = λ _. items_told;
+    told = items_told;
   }
 
 -- items laid out as the model's are
-pub as_model : {alone : Bool} {glances masks s : List ℕ} {m : Model} → Modelled alone masks s m → (from next : ℕ) → ItemsAsked glances s from next → m.from ≤ from → (m.size ≡ next - from) × As masks s m from
+pub as_model : {alone : Bool} {masks s : List ℕ} {m : Model} → Modelled alone masks s m → (from next : ℕ) → ItemsAsked s from next → m.from ≤ from → (m.size ≡ next - from) × As masks s m from
     → Chosen alone masks s from next m
 as_model {masks = masks} {s = s} {m = m} l from next asked h (e, a) = record {
   modelled = l;
   earlier = h;
-  told = λ _.
-      l.told a.small (take (next - from) (drop from s)) (bytes_take (next - from) (drop from s) (bytes_drop from s asked.bytes)) (part_long s from next asked.ordered asked.room ∙ sym e)
+  told =
+      l.told (take (next - from) (drop from s)) (bytes_take (next - from) (drop from s) (bytes_drop from s asked.bytes)) (part_long s from next asked.ordered asked.room ∙ sym e)
       (alike_as (drop m.from s) (take (next - from) (drop from s)) (λ i g. refl) (λ i g. sym (get_or-take (next - from) (drop from s) i 0 (omega (arith, g, e)))) a.alike);
 }
 
--- none, as the code says it
-pub no_items : {alone : Bool} {masks s : List ℕ} {m : Model} → m.from ≡ 0 → m.size ≡ 128 → length masks ≡ 160 → Modelled alone masks s m
-no_items e n long = record { long = long; within = omega (arith, e); told = λ h. absurd (omega (arith, h, n)) }
-
--- none, and items that are told or not
-pub none_chosen : {alone : Bool} {masks s : List ℕ} {from next : ℕ} {m : Model} → (m.from ≡ 0) × (m.size ≡ 128) × ItemsTold alone s from next m → length masks ≡ 160 → Chosen alone masks s from next m
-none_chosen (e, n, t) long = record { modelled = no_items e n long; earlier = omega (arith, e); told = t }
-
-pub unchosen : {alone : Bool} {masks s : List ℕ} {from next : ℕ} {m : Model} → (m.from ≡ 0) × (m.size ≡ 128) × (m.rows ≡ 0) → length masks ≡ 160 → Chosen alone masks s from next m
-unchosen (e, n, z) long = none_chosen (e, n, λ h. absurd (omega (arith, h, z))) long
-
--- items that the quick way goes over to their end
-pub run_told : (alone : Bool) {b : List ℕ} {q : Stage} → LevelGoing false (form_of alone) b q.at q.sizes q.held q.top q.low × (q.sizes ≡ told_sizes q.sizes.rows q.at) → length b ≡ q.at → ended_by (form_of alone) q.held ≡ 0
-    → Told alone b (1 + q.sizes.rows)
-run_told alone {q = q} g all ends = record { count = q.sizes.rows; held = q.held; top = q.top; low = q.low; going = rw (all, ← g.1) g.0; rows_are = refl; ends = ends }
-
 -- the items of a pack whose head was read, with a byte for its length
-pub items_asked : {f : Form} {s : List ℕ} {p : ℕ} {sum : Sizes} {top low k u w n : ℕ} → PackAt f s p sum top low k u w n → (w ≡ 1) × (n < 128) × (u ≤ 2) → {glances : List ℕ} → glances ≡ glance_table
-    → ItemsAsked glances s (p + w + u) (p + w + n)
-items_asked i short g = record { rows = g; ordered = omega (arith, (head_stood i).body); room = head_room i; few = omega (arith, short); bytes = i.bytes }
+pub items_asked : {f : Form} {s : List ℕ} {p : ℕ} {sum : Sizes} {top low k u w n : ℕ} → PackAt f s p sum top low k u w n → (w ≡ 1) × (n < 128) × (u ≤ 2) → ItemsAsked s (p + w + u) (p + w + n)
+items_asked i short = record { ordered = omega (arith, (head_stood i).body); room = head_room i; few = omega (arith, short); bytes = i.bytes }
 
 -- the sizes of one more such pack: w and n are its length's bytes and its length, u its id's bytes
 packed_plus : (p rows more w n : ℕ) {u at : ℕ} {z : Sizes} → (w ≡ 1) × (n < 128) × (u ≤ 2) → u ≤ n → at ≡ n - u → z ≡ told_sizes z.rows at
@@ -116,11 +105,37 @@ told_more {alone = alone} {p = p} {rows = rows} more {w = w} {n = n} i short b {
     let e : rows + r ≡ rows + 1 + t.count = omega (arith, t.rows_are) in
     rw e (pack_more i b.new refl (turn_done t.going (omega arith)) refl (sym t.ends) refl (packed_plus p rows more w n short (head_stood i).body (lent_long i b.new refl) refl) b.over b.under)
 
--- the first, as the code has its sizes
-pub told_first : {alone : Bool} {s : List ℕ} {top low k u w n : ℕ} → PackAt (form_of alone) s 0 (packed_sizes 0 0 0) top low k u w n → (w ≡ 1) × (n < 128) × (u ≤ 2) → {top' low' : ℕ}
-    → Reached 0 top low k top' low' → {r : ℕ} → Told alone (take (0 + w + n - (0 + w + u)) (drop (0 + w + u) s)) r
-    → SeriesGoing (form_of alone) s (0 + w + n) (packed_sizes (0 + w + n) r (5 - u)) top' low'
-told_first {u = u} i short b {r = r} t =
-    let z : 0 + r ≡ r = omega arith in
-    let y : 0 + 5 - u ≡ 5 - u = omega arith in
-    rw (← z, ← y) (told_more 0 i short (reached_fresh b) t)
+-- the first, whose head the code has read
+pub record FirstHere (s : List ℕ) (h : Head) : Type 0 where
+  pub here : 0 < length s
+  pub head : PackHeadIf (Some h) s
+  pub bytes : Bytes s
+  pub most : length s ≤ 8192
+
+module _ {s : List ℕ} {h : Head} (i : FirstHere s h) where
+  at : (f : Form) → PackAt f s 0 (packed_sizes 0 0 0) 0 18446744073709551615 h.key h.used h.width h.size
+  at f = record { going = series_start f s; here = i.here; it = Ok h; told = i.head.0 ∙ ap pack_head (sym (tail_part 0 s)); is = refl; bytes = i.bytes; most = i.most }
+
+  short : (h.width ≡ 1) × (h.size < 128) × (h.used ≤ 2)
+  short = (i.head.1, i.head.2, i.head.3)
+
+  first : 0 + h.width ≡ h.width
+  first = omega arith
+
+  pub first_asks : ItemsAsked s (h.width + h.used) (h.width + h.size)
+  first_asks = rw first at (items_asked (at embedded) short)
+
+  module _ {alone : Bool} {r : ℕ} (t : ItemsTold alone s (h.width + h.used) (h.width + h.size) r) where
+    reached : Reached 0 0 18446744073709551615 h.key h.key h.key
+    reached = reach_only _ _ (omega (arith, (head_stood (at (form_of alone))).id_range))
+
+    pub first_more : SeriesGoing (form_of alone) s (h.width + h.size) (packed_sizes (h.width + h.size) r (5 - h.used)) h.key h.key
+    first_more =
+        let z : 0 + r ≡ r = omega arith in
+        let y : 0 + 5 - h.used ≡ 5 - h.used = omega arith in
+        rw (z, y, first) at (told_more 0 (at (form_of alone)) short (reached_fresh reached) {r = r} (rw first t))
+
+-- a pack that ends as it must
+pub ends_well : (r : Result (Unit {0}) Refusal) {n : ℕ} → unended r ≡ n → false ≡ is_err r → n ≡ 0
+ends_well (Ok u) e h = sym e
+ends_well (Err x) e h = no_bool h

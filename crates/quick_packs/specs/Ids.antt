@@ -1,11 +1,11 @@
 -- The bounds of a series' ids: one more is told to be new by them, or by the bits lent.
-use Rattle.std.specs.Prelude.{◌≡◌, ◌⊎◌, ℕ, ◌/◌, ◌≤◌, ◌<◌, true, false, List, length}
+use Rattle.std.specs.Prelude.{◌≡◌, ◌⊎◌, ℕ, ◌/◌, ◌≤◌, ◌<◌, false, List, length, Option, IfSome}
 use Rattle.repeats.specs.Notes.{noted, Noting}
 use Rattle.tally.specs.Going.{New}
 use Rattle.quick_packs.specs.declared.bounds.Bounds.{Bounds}
 
 abbrev pub no_bounds : Bounds
-no_bounds = record { top = 0; low = 18446744073709551615; new = true }
+no_bounds = record { top = 0; low = 18446744073709551615 }
 
 -- as the code has them at p
 pub record Bounded (p : ℕ) (b : Bounds) : Type 0 where
@@ -20,9 +20,8 @@ pub record IdNew (before after : List ℕ) (p : ℕ) (b : Bounds) (id : ℕ) (r 
   pub between : r.low ≤ r.top
   pub noting : Noting before after id
 
--- what the code says of it
-pub record Bounding (before after : List ℕ) (p : ℕ) (b : Bounds) (id : ℕ) (r : Bounds) : Type 0 where
-  pub told : r.new ≡ true → IdNew before after p b id r
-  pub wide : (b.top ≤ r.top) × (r.low ≤ b.low)
-  pub most : (m : ℕ) → b.top ≤ m → id ≤ m → r.top ≤ m
+-- what the code says of it: the bounds then, if it is told to be new
+pub record Bounding (before after : List ℕ) (p : ℕ) (b : Bounds) (id : ℕ) (r : Option Bounds) : Type 0 where
+  pub told : IfSome r (IdNew before after p b id)
+  pub most : IfSome r (λ r. (m : ℕ) → b.top ≤ m → id ≤ m → r.top ≤ m)
   pub long : length after ≡ length before

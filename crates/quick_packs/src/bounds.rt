@@ -1,13 +1,12 @@
 // The bounds of a series' ids, of packs or of targets, and whether one more is told to be new.
-ghost use Rattle.std.specs.Prelude.{◌≡◌, true, false};
+ghost use Rattle.std.specs.Prelude.{◌≡◌};
 ghost use Rattle.quick_packs.specs.Ids.{no_bounds, Bounded, Bounding};
 
-// No id before is above top or below low; whether the last was told to be new.
-#[derive(Clone, Copy)]
+// No id before is above top or below low.
+#[derive(Clone, Copy, Debug, PartialEq, Eq)]
 pub struct Bounds {
     pub top: u64,
     pub low: u64,
-    pub new: bool,
 }
 
 // Those of no id.
@@ -16,14 +15,13 @@ pub fn none() -> Bounds
 {
     Bounds {
         top: 0,
-        low: 18446744073709551615,
-        new: true,
+        low: u64::MAX,
     }
 }
 
-// Those after the id at p. One above or below all before moves one bound, but for the first, which sets both; any other must be unnoted in the
-// bits lent. Then it is noted.
-pub fn reach(bits: &mut [u64], p: usize, b: Bounds, id: u64) -> Bounds
+// Those after the id at p, if it is told to be new. One above or below all before moves one bound, but for the first, which sets both; any other
+// must be unnoted in the bits lent. Then it is noted.
+pub fn reach(bits: &mut [u64], p: usize, b: Bounds, id: u64) -> Option<Bounds>
     requires { Bounded p b }
     ensures { Bounding bits.old bits.new p b id result }
 {
@@ -34,23 +32,11 @@ pub fn reach(bits: &mut [u64], p: usize, b: Bounds, id: u64) -> Bounds
         if p == 0 {
             low = id;
         }
-    } else {
-        if id < low {
-            low = id;
-        } else {
-            if !repeats::notes::is_unnoted(bits, id) {
-                return Bounds {
-                    top,
-                    low,
-                    new: false,
-                };
-            }
-        }
+    } else if id < low {
+        low = id;
+    } else if !repeats::notes::is_unnoted(bits, id) {
+        return None;
     }
     repeats::notes::note(bits, id);
-    Bounds {
-        top,
-        low,
-        new: true,
-    }
+    Some(Bounds { top, low })
 }

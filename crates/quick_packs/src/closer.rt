@@ -2,10 +2,10 @@
 // fall, and the items are told as `quick_items::closer` tells them. It does not know whatever else may stand there, nor any refusal: what stops it is
 // left to the walk.
 ghost use Rattle.std.specs.Prelude.{◌≡◌, ◌≤◌, true, length};
-ghost use Rattle.items.specs.Meet.{form_of, glance_table};
+ghost use Rattle.items.specs.Meet.{form_of};
 ghost use Rattle.tally.specs.Going.{SeriesTo, New};
 
-use heads::Head;
+use items::quick::Glances;
 use tally::stages;
 use tally::stages::Stage;
 
@@ -13,15 +13,12 @@ use tally::stages::Stage;
 fn is_worth(size: usize, p: usize, top: u64, low: u64, key: u64) -> bool
     ensures { result ≡ true → New p top low key }
 {
-    if 255 < size {
-        return false;
-    }
-    quick_items::is_new(p, top, low, key)
+    size <= 255 && quick_items::is_new(p, top, low, key)
 }
 
 // These packs, one after another.
-pub fn packs(glances: &[u32], s: &[u8], alone: bool, q: Stage) -> Stage
-    requires { (glances.now ≡ glance_table) × (length s.now ≤ 8192) × SeriesTo (form_of alone) s.now q }
+pub fn packs(glances: &Glances, s: &[u8], alone: bool, q: Stage) -> Stage
+    requires { (length s.now ≤ 8192) × SeriesTo (form_of alone) s.now q }
     ensures { SeriesTo (form_of alone) s.now result }
 {
     let mut p = q.at;
@@ -29,31 +26,21 @@ pub fn packs(glances: &[u32], s: &[u8], alone: bool, q: Stage) -> Stage
     let mut top = q.top;
     let mut low = q.low;
     while p < s.len() {
-        let h = heads::quick_pack_head(&s[p..]);
-        let Head::Whole {
-            key,
-            used,
-            width,
-            size,
-        } = h
-        else {
-            return stages::stage_at(p, sum, 0, top, low);
+        let Ok(head) = heads::quick_pack_head(&s[p..]) else {
+            break;
         };
-        if !is_worth(size, p, top, low, key) {
-            return stages::stage_at(p, sum, 0, top, low);
+        if !is_worth(head.size, p, top, low, head.key) {
+            break;
         }
-        let from = p + width + used;
-        let next = p + width + size;
+        let from = p + head.width + head.used;
+        let next = p + head.width + head.size;
         let told = quick_items::closer::items(glances, &s[from..next], false, alone);
-        if told.at != next - from {
-            return stages::stage_at(p, sum, 0, top, low);
+        if told.at != next - from || tally::ended_of(alone, told.held).is_err() {
+            break;
         }
-        if tally::ended_of(alone, told.held) != 0 {
-            return stages::stage_at(p, sum, 0, top, low);
-        }
-        sum = tally::weights::plus(sum, tally::weights::pack_sizes(used, told.sizes));
-        top = tally::larger(top, key);
-        low = tally::smaller(low, key);
+        sum = tally::weights::plus(sum, tally::weights::pack_sizes(head.used, told.sizes));
+        top = tally::larger(top, head.key);
+        low = tally::smaller(low, head.key);
         p = next;
     }
     stages::stage_at(p, sum, 0, top, low)

@@ -11,6 +11,7 @@ use Rattle.items.specs.Quick.{Glanced}
 use Rattle.tally.specs.Meet.{bit_of}
 use Rattle.quick_packs.proofs.Alikes.{quick_alike}
 use Rattle.tally_records.specs.Going.{RecordsGoing}
+use Rattle.tally_records.proofs.PartTurns.{records_start}
 use Rattle.quick_records.specs.Going.{RecordGlanced}
 use Rattle.quick_records.proofs.Glances.{told_sizes, glance_of, glance_next, glance_more}
 
@@ -57,6 +58,9 @@ pub record Laying (f : Form) (masks a : List ℕ) (p count held top : ℕ) : Typ
   pub own : RecordsGoing false f a p (told_sizes count p) held top 0
   pub few : 4 * count ≤ p
   pub walked : p < 128 → (b : List ℕ) → Bytes b → length b ≤ 65536 → p ≤ length b → AlikeTo masks a b p → RecordsGoing false f b p (told_sizes count p) held top 0
+
+pub laying_start : {f : Form} {masks a : List ℕ} → length masks ≡ 160 → Laying f masks a 0 0 0 0
+laying_start long = record { long = long; own = records_start _ _ _; few = omega arith; walked = λ _ b _ _ _ _. records_start _ _ _ }
 
 -- the code masked it, if there is room
 pub record Remasked (f : Form) (m m' : List ℕ) (p tag n : ℕ) : Type 0 where

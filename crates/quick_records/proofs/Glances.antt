@@ -1,5 +1,5 @@
 -- The quick way's turns: a record told at a glance is read as the walk over its level reads it.
-use Rattle.std.proofs.Common.{◌≡◌, ℕ, zero, suc, ◌+◌, ◌-◌, ◌*◌, ◌%◌, ◌<◌, ◌≤◌, Bool, true, false, not, ◌&&◌, ◌||◌, eqb, List, [], ◌∷◌, length, get_or, take, drop, sym, refl, ap, ◌∙◌, arith, length-drop, length-take-le, get_or-drop, get_or-take, drop-drop, lt-ltb, eq-eqb, le-leb}
+use Rattle.std.proofs.Common.{Ok, ◌≡◌, ℕ, zero, suc, ◌+◌, ◌-◌, ◌*◌, ◌%◌, ◌<◌, ◌≤◌, Bool, true, false, not, ◌&&◌, ◌||◌, eqb, List, [], ◌∷◌, length, get_or, take, drop, sym, refl, ap, ◌∙◌, arith, length-drop, length-take-le, get_or-drop, get_or-take, drop-drop, lt-ltb, eq-eqb, le-leb}
 use lib.Bits.{bit_or}
 use Rattle.format.specs.Coding.{Bytes, bytes_number, number, oid_bytes, len_width}
 use Rattle.format.specs.Table.{Form, Level, is_set, rule_of, nameable}
@@ -12,23 +12,25 @@ use Rattle.items.specs.Meet.{level_of}
 use Rattle.items.specs.Quick.{Glanced}
 use Rattle.items.proofs.Glances.{as_same}
 use Rattle.items.proofs.Tests.{standing_0}
-use Rattle.heads.specs.Meet.{peek, Past}
+use Rattle.heads.specs.Meet.{next, peek, Past}
+use Rattle.heads.specs.Records.{fields}
 use Rattle.heads.proofs.Heads.{mid_part}
 use Rattle.heads.proofs.Spans.{val_whole, a_field}
-use Rattle.tally.specs.declared.Piece.{Piece}
-use Rattle.tally.specs.declared.Piece.TheVariants as piece
+use Rattle.tally.specs.Pieces.{Piece}
+use Rattle.tally.specs.Pieces as piece
 use Rattle.tally.specs.declared.Sizes.{Sizes}
 use Rattle.tally.specs.Meet.{sizes, item_sizes, pack_sizes, plus_sizes, bit_of}
 use Rattle.tally.specs.Going.{Begun, stage_at}
+use Rattle.tally.proofs.Turns.{going_wide}
 use Rattle.tally.proofs.Walks.{same_sizes}
 use Rattle.tally.proofs.Begins.{begun_later}
 use Rattle.tally.proofs.ItemTurns.{level_is}
 use Rattle.tally_records.specs.Meet.{piece_by, value_whole, part_piece, more_at}
 use Rattle.tally_records.specs.Going.{RecordsGoing, After}
-use Rattle.quick_records.specs.Going.{RecordGlanced, first_tag, word_of}
+use Rattle.quick_records.specs.Going.{RecordGlanced, RecordsPassed, first_tag, word_of}
 use Rattle.tally_records.proofs.Values.{value_within, value_whole_lem}
 use Rattle.tally_records.proofs.Opens.{part_inner, part_value}
-use Rattle.tally_records.proofs.PartTurns.{item_is_lem, PartAt, item_told, part_more}
+use Rattle.tally_records.proofs.PartTurns.{records_start, item_is_lem, PartAt, item_told, part_more}
 
 -- the sizes of so many such records in p bytes
 abbrev pub told_sizes : ℕ → ℕ → Sizes
@@ -86,7 +88,7 @@ head_fits s p bytes h {head} e =
     let z : head ≡ bytes_number (take 4 (drop p s)) = rw tail_part at e in
     omega (arith, l, z)
 
-pub size_from : (s : List ℕ) (p : ℕ) → p + 6 < length s → get_or s (p + 4) 0 ≡ 0 → {n : ℕ} → n ≡ get_or s (p + 5) 0 → n ≡ bytes_number (take 2 (take (length s - (p + 4)) (drop (p + 4) s)))
+size_from : (s : List ℕ) (p : ℕ) → p + 6 < length s → get_or s (p + 4) 0 ≡ 0 → {n : ℕ} → n ≡ get_or s (p + 5) 0 → n ≡ bytes_number (take 2 (take (length s - (p + 4)) (drop (p + 4) s)))
 size_from s p h z e = rw tail_part (e ∙ two_small s (p + 4) (omega arith) (omega arith) z)
 
 named : (l : Level) (f : Form) (tag n first : ℕ) → 0 < tag → tag < 128 → Glanced l f tag n first → true ≡ nameable l tag
@@ -107,7 +109,7 @@ glance_of b f s p {tag = tag} {n = n} mark is_tag is_size room above th nh q =
     let long : 6 + n ≤ length u = rw length-drop (omega arith) in
     let size : n ≡ bytes_number (take 2 (take (length u - 4) (drop 4 u))) = rw tail_part is_size in
     let tagged : tag ≡ bytes_number (take 2 (take (length u - 2) (drop 2 u))) = rw tail_part is_tag in
-    let at = a_field (level_of b) u tag (6 + n) (val_whole u n size tag tagged long) (omega arith) (named (level_of b) f tag n _ (omega arith) th q) in
+    let at = a_field (level_of b) u (next tag (6 + n)) (val_whole u n size tag tagged long) (named (level_of b) f tag n _ (omega arith) th q) in
     let z : 6 + n - 6 ≡ n = omega arith in
     record {
       mark = mark;
@@ -120,17 +122,19 @@ glance_of b f s p {tag = tag} {n = n} mark is_tag is_size room above th nh q =
       few = nh;
     }
 
-pub glance_from : (b : Bool) (f : Form) (s : List ℕ) (p top : ℕ) → Bytes s
-    → {head word tag : ℕ} → head ≡ bytes_number (take 4 (take (length s - p) (drop p s))) → word ≡ word_of b → (tag + word) % 4294967296 ≡ head → top < tag → tag < 128
-    → {n : ℕ} → n ≡ bytes_number (take 2 (take (length s - (p + 4)) (drop (p + 4) s))) → n < 128 → {next : ℕ} → next ≡ p + 6 + n → next ≤ length s
-    → Glanced (level_of b) f tag n (get_or s (p + 6) 0) → RecordGlanced b f s p top tag (next - (p + 6))
-glance_from b f s p top bytes {head} {word} {tag} eh ew et above th {n} en nh {next} ee room q =
+-- by the number that mark and tag are read as
+pub glance_from : (b : Bool) (f : Form) (s : List ℕ) (p top : ℕ) → Bytes s → p + 6 < length s
+    → {head word tag : ℕ} → head ≡ bytes_number (take 4 (take (length s - p) (drop p s))) → word ≡ word_of b → tag ≡ (head + (4294967296 - word)) % 4294967296 → top < tag
+    → get_or s (p + 4) 0 ≡ 0 → {n : ℕ} → n ≡ get_or s (p + 5) 0 → p + 6 + n ≤ length s
+    → (tag < 128) × (n < 128) × Glanced (level_of b) f tag n (get_or s (p + 6) 0) → RecordGlanced b f s p top tag (p + 6 + n - (p + 6))
+glance_from b f s p top bytes here {head} {word} {tag} eh ew et above z {n} en room (th, nh, q) =
     let u : List ℕ = drop p s in
     let long : 4 ≤ length u = rw length-drop (omega arith) in
+    let fits : head < 4294967296 = head_fits s p bytes here eh in
     let e : bytes_number (take 4 u) ≡ word_of b + tag = sym (rw tail_part at eh) ∙ omega (arith, ew, word_small b, et) in
     let (mark, is_tag) = head_is_lem b u long (bytes_drop p s bytes) e th in
-    let size : n ≡ bytes_number (take 2 (drop 4 u)) = rw (drop-drop 4 p s) (rw tail_part at en) in
-    let y : next - (p + 6) ≡ n = omega arith in
+    let size : n ≡ bytes_number (take 2 (drop 4 u)) = rw (drop-drop 4 p s) (rw tail_part at (size_from s p here z en)) in
+    let y : p + 6 + n - (p + 6) ≡ n = omega arith in
     rw y (glance_of b f s p mark is_tag size (omega arith) above th nh q)
 
 -- the first may begin its level, and whatever comes later
@@ -147,7 +151,7 @@ first_least {p = suc p} g h = omega (arith, h (omega arith), g.above)
 
 module _ {b : Bool} {f : Form} {s : List ℕ} {p top tag n : ℕ} (g : RecordGlanced b f s p top tag n) where
   pub glance_room : p + 6 + n ≤ length s
-  glance_room = omega (arith, value_within (drop p s) (level_of b) g.fields refl, length-drop p s, g.quick.some)
+  glance_room = omega (arith, value_within (drop p s) (level_of b) {h = Ok (fields tag n)} g.fields refl, length-drop p s, g.quick.some)
 
   abbrev value : List ℕ
   value = take (6 + n - 6) (drop 6 (drop p s))
@@ -168,11 +172,11 @@ module _ {b : Bool} {f : Form} {s : List ℕ} {p top tag n : ℕ} (g : RecordGla
   pub glance_piece : Begun b f p tag → {low : ℕ} (seen : List ℕ) → Past (peek true false b) s p top low seen → piece.Whole tag 6 n n ≡ part_piece (level_of b) f seen (drop p s)
   glance_piece begins seen q =
       mark_piece b f seen (drop p s) g.mark
-      (value_whole_lem (drop p s) (level_of b) g.fields refl f seen
+      (value_whole_lem (drop p s) (level_of b) {h = Ok (fields tag n)} g.fields refl f seen
       (λ e. omega (arith, g.quick.some))
-      {j = 0} (standing_0 (level_of b) f seen tag true (sym (q.under tag g.above)) (sym (g.quick.stands true)) (eqb p 0) (sym q.first) (sym begins))
+      {j = Ok tt} (standing_0 (level_of b) f seen tag true (sym (q.under tag g.above)) (sym (g.quick.stands true)) (eqb p 0) (sym q.first) (sym begins))
       refl {rule = rule_of (level_of b) tag} refl
-      {m = 0} (sym (g.quick.allowed value value_size (as_same _ _ value_head))) refl
+      {m = Ok tt} (sym (g.quick.allowed value value_size (as_same _ _ value_head))) refl
       (sym (ap length (g.quick.shortest value value_size (as_same _ _ value_head)) ∙ value_size))
       refl)
 
@@ -190,9 +194,7 @@ glance_more {b = b} {f = f} {s = s} {p = p} {top = top} {tag = tag} {next = next
       going = go;
       here = omega (arith, glance_next g);
       more = mark_more b (drop p s) g.mark;
-      it = piece.Whole tag 6 n n;
       told = λ seen q. glance_piece g begins seen q;
-      whole = refl;
       bytes = bytes;
       most = most;
     } in
@@ -205,3 +207,26 @@ glance_more {b = b} {f = f} {s = s} {p = p} {top = top} {tag = tag} {next = next
       under = (omega arith, omega arith);
     } in
     part_more i (item_told i {x = b && eqb tag 101} refl (rw level_is at g.quick.no_series) refl) refl after
+
+-- ---- the loop
+
+-- the records up to p, the first of which is the lowest
+pub record Rising (b : Bool) (f : Form) (s : List ℕ) (p count held top : ℕ) : Type 0 where
+  pub going : RecordsGoing b f s p (told_sizes count p) held top (first_tag s)
+  pub few : 4 * count ≤ p
+  pub above : 0 < p → first_tag s ≤ top
+
+module _ (b : Bool) (f : Form) (s : List ℕ) where
+  pub rising_start : Rising b f s 0 0 0 0
+  rising_start = record { going = records_start b f s; few = omega arith; above = λ h. absurd (omega arith) }
+
+  module _ (p count held top : ℕ) (r : Rising b f s p count held top) where
+    pub rising_done : {low : ℕ} → low ≤ first_tag s → RecordsPassed b f s (stage_at p (told_sizes count p) held top low)
+    rising_done h = (going_wide r.going (omega arith) h, refl)
+
+    pub rising_more : (tag next : ℕ) → RecordGlanced b f s p top tag (next - (p + 6)) → Begun b f 0 (first_tag s) → Bytes s → length s ≤ 65536 → {y : ℕ} → y ≡ bit_of tag → Rising b f s next (count + 1) (bit_or held y) tag
+    rising_more tag next g begins bytes most ey = record {
+      going = glance_more g (glance_begun g begins) r.going (first_least g r.above) r.few bytes most ey refl;
+      few = omega (arith, r.few, glance_next g);
+      above = λ _. first_least g r.above;
+    }

@@ -1,12 +1,13 @@
 -- A record that is told at a glance, and how far the quick way over a series' targets took their walk.
 use Rattle.std.specs.Prelude.{◌≡◌, ℕ, ◌+◌, ◌*◌, ◌^◌, ◌<◌, Bool, true, false, List, take, drop, slice_index}
+use Rattle.format.specs.Answer.{ok}
 use Rattle.format.specs.Coding.{bytes_number}
 use Rattle.format.specs.Table.{Form}
 use Rattle.format.specs.Sheet.{mark_number, mark_of, IT, TG, TI, is, field}
 use Rattle.items.specs.Meet.{level_of}
 use Rattle.items.specs.Quick as items
 use Rattle.heads.specs.Records.{field_answer}
-use Rattle.heads.specs.declared.records.Field.TheVariants.{Whole}
+use Rattle.heads.specs.Records as heads
 use Rattle.tally.specs.declared.stages.Stage.{Stage}
 use Rattle.tally.specs.Going.{Begun}
 use Rattle.tally_records.specs.Going.{RecordsFrom, TargetsFrom}
@@ -33,7 +34,7 @@ pub record RecordGlanced (b : Bool) (f : Form) (s : List ℕ) (p top tag n : ℕ
   pub mark : is (mark_of (level_of b)) (drop p s) ≡ true
   pub tag_is : tag ≡ bytes_number (take 2 (drop 2 (drop p s)))
   pub size_is : n ≡ bytes_number (take 2 (drop 4 (drop p s)))
-  pub fields : Whole tag n ≡ field_answer (field (level_of b) (drop 2 (drop p s)))
+  pub fields : ok (heads.fields tag n) ≡ field_answer (field (level_of b) (drop 2 (drop p s)))
   pub quick : items.Glanced (level_of b) f tag n (slice_index s (p + 6))
   pub above : top < tag
   pub small : tag < 128

@@ -33,15 +33,15 @@ pub record Over (s : List ℕ) (p : ℕ) : Type 0 where
   pub within : p ≤ length s
   pub next : p < length s → is TG (drop p s) ≡ true
 
--- whatever is laid out as the model's records is walked as they are, if there is a model
+-- whatever is laid out as the model's records is walked as they are
 pub record Modelled (alone : Bool) (masks s : List ℕ) (m : Model) : Type 0 where
   pub long : length masks ≡ 160
   pub within : m.from ≤ length s
   pub held : m.size < 128 → (b : List ℕ) → Bytes b → length b ≤ 65536 → m.size ≤ length b → AlikeTo masks (drop m.from s) b m.size → Held alone b m.size m.rows
 
--- a model that the code has for the records from there on: these are laid out so, unless it has no rows
+-- a model that the code has for the records from there on: these are laid out so
 pub record ModelAt (alone : Bool) (masks s : List ℕ) (from : ℕ) (m : Model) : Type 0 where
   pub modelled : Modelled alone masks s m
   pub before : m.from ≤ from
-  pub held : 0 < m.rows → Held alone (drop from s) m.size m.rows
-  pub over : 0 < m.rows → Over s (from + m.size)
+  pub held : Held alone (drop from s) m.size m.rows
+  pub over : Over s (from + m.size)

@@ -18,16 +18,14 @@ use Rattle.format.proofs.Coding.Digits.{length_fixed}
 use Rattle.items.specs.Meet.{form_of}
 use Rattle.items.proofs.Tests.{bind_so, bind_not}
 use Rattle.tally.specs.declared.Sizes.{Sizes}
-use Rattle.check_packet.specs.declared.Checked.{Checked}
-use Rattle.check_packet.specs.declared.Checked.TheVariants.{Fine, Wrong}
+use Rattle.check_packet.specs.Checks.{Checked, Fine, Wrong}
 use Rattle.check_packet.specs.Meet.{checked_of}
 use Rattle.check_packet.proofs.Parsing.{wrong_parsed}
 use Rattle.check_packet.proofs.Opened.{fine, opened, lent_set, lent_is, set_ran, set_long}
 use Rattle.stores.proofs.Stores.{sets_append, tail_length, tail_stored}
 use Rattle.write_sheet.specs.Meet.{level_sheet, LevelAsked, LevelLeft}
 use Rattle.write_sheet.proofs.Packet.{sheet_whole}
-use Rattle.answers.specs.declared.Answer.{Answer}
-use Rattle.answers.specs.Meet.{left_of, answer_of, refusal_of}
+use Rattle.answers.specs.Meet.{Answer, left_of, answer_of, refusal_of}
 use Rattle.answers.proofs.Leaving.{left_refused, left_short, left_whole}
 
 -- the head of a sheet, as one number in three bytes

@@ -4,11 +4,13 @@
 ghost use Rattle.std.specs.Prelude.{◌≡◌, ◌+◌, ◌*◌};
 ghost use Rattle.format.specs.Sheet.{PK, mark_number, form_byte};
 ghost use Rattle.items.specs.Meet.{form_of};
+ghost use Rattle.answers.specs.Meet.{answer};
 ghost use Rattle.answers.specs.Calls.{Reads};
 
-use answers::{Answer, answer_of, refusal};
-use check_packet::Checked;
+use coding::refusals::{Fault, Refusal};
 use heads::records;
+use items::Table;
+use items::quick::Glances;
 
 // `PK` and the form, as one number.
 fn head_of(alone: bool) -> u64
@@ -21,20 +23,18 @@ fn head_of(alone: bool) -> u64
     }
 }
 
-// A packet to its sheet.
-pub fn read(packet: &[u8], alone: bool, sheet: &mut [u8]) -> Answer
-    ensures { Reads (form_of alone) packet.now sheet.old result sheet.new }
+// A packet to its sheet; how many bytes that has.
+pub fn read(packet: &[u8], alone: bool, sheet: &mut [u8]) -> Result<usize, Fault>
+    ensures { Reads (form_of alone) packet.now sheet.old (answer result) sheet.new }
 {
-    let glances = items::quick::glances();
-    let c = check_packet::check(&glances, packet, alone);
-    let Checked::Fine { sizes, from } = c else {
-        return refusal(c);
-    };
-    if sheet.len() < sizes.sheet {
-        return answer_of(16, sizes.sheet);
+    let glances = Glances::new();
+    let checked = check_packet::check(&glances, packet, alone)?;
+    let size = checked.sizes.sheet;
+    if sheet.len() < size {
+        return Err(Refusal::RoomTooShort.at(size));
     }
     stores::put_number(sheet, 0, head_of(alone), 3);
-    let table = items::table();
-    write_sheet::item_sheet(&table, &packet[from..], &mut sheet[3..]);
-    answer_of(0, sizes.sheet)
+    let table = Table::new();
+    write_sheet::item_sheet(&table, &packet[checked.from..], &mut sheet[3..]);
+    Ok(size)
 }

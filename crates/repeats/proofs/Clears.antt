@@ -7,11 +7,13 @@ use mathlib.Core.List.{List, [], ◌∷◌, ◌++◌}
 use lib.ListN.{length, take, drop, length-drop}
 use lib.Seq.{drop-drop}
 use lib.Dec.{ltb, eqb}
+use Rattle.std.proofs.Common.{Some}
 use borrow.Author.Tests.{ltb-true, ltb-false, eqb-true, eqb-false}
 use Rattle.format.specs.Answer.{Got, got}
 use Rattle.format.specs.Lists.{has}
 use Rattle.format.proofs.Words.Answers.{no_bool}
 use Rattle.coding.proofs.Rooms.{tail_part}
+use Rattle.heads.specs.declared.Next.{Next}
 use Rattle.heads.specs.Meet.{Peeked, Heads, Past, Clear}
 use Rattle.repeats.specs.Parts.{quarter, noted_part, NotedPart, ClearIn}
 use Rattle.heads.proofs.Before.{Looks, heads_none, has_snoc, heads_more}
@@ -28,10 +30,10 @@ module _ (look : List ℕ → Got ℕ) where
       rw (b, heads_same js ks (drop v s) (p - v) (rw a at h) g)
 
   -- and what begins after q begins after all that the key at q heads
-  heads_on : (js ks s : List ℕ) (p q k u : ℕ) → Heads look s q js → Peeked look (drop q s) k u → Heads look s p ks → q < p → q + u ≤ p
+  heads_on : (js ks s : List ℕ) (p q k u : ℕ) → Heads look s q js → look (drop q s) ≡ got k u → Heads look s p ks → q < p → q + u ≤ p
   heads_on js [] s p q k u h n g l = absurd (omega arith)
   heads_on [] (i ∷ ks) s p q k u h n (v, f, w, x, g) l =
-      let a : u ≡ v = rw h at n.1 ∙ ap (λ (x : Got ℕ). x.used) f in
+      let a : u ≡ v = ap (λ (x : Got ℕ). x.used) (sym (rw h at n) ∙ f) in
       omega arith
   heads_on (j ∷ js) (i ∷ ks) s p q k u (w, e, z, y, h) n (v, f, t, x, g) l =
       let a : w ≡ v = ap (λ (x : Got ℕ). x.used) (sym e ∙ f) in
@@ -39,14 +41,14 @@ module _ (look : List ℕ → Got ℕ) where
       omega (arith, heads_on js ks (drop v s) (p - v) (q - v) k u (rw a at h) (rw (drop-drop (q - v) v s, b) n) g (omega arith))
 
   -- so what holds of each key before q and those before it, and of the key at q, holds up to where that ends
-  pub each_on : (Q : ℕ → List ℕ → Type 0) (s js : List ℕ) (q k u : ℕ) → Heads look s q js → Peeked look (drop q s) k u
+  pub each_on : (Q : ℕ → List ℕ → Type 0) (s js : List ℕ) (q k u : ℕ) → Heads look s q js → look (drop q s) ≡ got k u
       → ((p : ℕ) → p < q → (ks : List ℕ) → Heads look s p ks → Q (look (drop p s)).val ks) → Q k js
       → (p : ℕ) → p < q + u → (ks : List ℕ) → Heads look s p ks → Q (look (drop p s)).val ks
   each_on Q s js q k u h n below here p l ks g = go (ltb p q) refl (eqb p q) refl
     where
       go : (a : Bool) → ltb p q ≡ a → (b : Bool) → eqb p q ≡ b → Q (look (drop p s)).val ks
       go true a b e = below p (ltb-true _ _ a) ks g
-      go false a true e = let t : p ≡ q = eqb-true _ _ e in rw (t, ← n.0, heads_same ks js s q (rw t at g) h) here
+      go false a true e = let t : p ≡ q = eqb-true _ _ e in rw (t, n, heads_same ks js s q (rw t at g) h) here
       go false a false e =
           let o : q ≤ p = ltb-false p q a in
           let t : p ≡ q → ⊥ = eqb-false _ _ e in
@@ -71,28 +73,29 @@ pub not_then : (a b : Bool) → (a ≡ true → b ≡ true) → b ≡ false → 
 not_then true b h e = no_bool (sym e ∙ h refl)
 not_then false b h e = refl
 
-pub got_is : (x : Got ℕ) (k u : ℕ) → k ≡ x.val → u ≡ x.used → x ≡ got k u
-got_is x k u a b = rw (a, b)
-
 -- as the code reads what is next
-module _ (part : ℕ) (look : List ℕ → Got ℕ) (s bits : List ℕ) (q : ℕ) (c : Clearing part look s bits q) (room : Looks look) (k u : ℕ)
-    (n : Peeked look (take (length s - q) (drop q s)) k u) (z : 0 < u) (new : quarter k ≡ part → noted_part bits k ≡ false) where
-  next : Peeked look (drop q s) k u
-  next = rw tail_part at n
+module _ (part : ℕ) (look : List ℕ → Got ℕ) (s bits : List ℕ) (q : ℕ) (c : Clearing part look s bits q) (room : Looks look) (n : Next)
+    (r : Peeked look (take (length s - q) (drop q s)) (Some n)) (new : quarter n.key ≡ part → noted_part bits n.key ≡ false) where
+  here : look (drop q s) ≡ got n.key n.used
+  here = rw tail_part at r.0
 
-  pub clearing_more : (after : List ℕ) → NotedPart bits after k part → Clearing part look s after (q + u)
+  pub passed_room : q + n.used ≤ length s
+  passed_room = omega (arith, c.within, room (drop q s), ap (λ (x : Got ℕ). x.used) here, length-drop q s)
+
+  pub clearing_more : (after : List ℕ) → NotedPart bits after n.key part → Clearing part look s after (q + n.used)
   unfolding has
   clearing_more after m = record {
-    within = omega (arith, c.within, room (drop q s), next.1, length-drop q s);
+    within = passed_room;
     long = m.long ∙ c.long;
-    keys = c.keys ++ k ∷ [];
-    heads = heads_more look c.keys s q k u c.heads (got_is _ _ _ next.0 next.1) z;
-    kept = λ j w e. go j w (eqb k j) refl (sym (has_snoc j k c.keys) ∙ e);
-    clear = each_on look (λ j js. quarter j ≡ part → has j js ≡ false) s c.keys q k u c.heads next c.clear λ w. not_then (has k c.keys) (noted_part bits k) (c.kept k w) (new w);
+    keys = c.keys ++ n.key ∷ [];
+    heads = heads_more look c.keys s q n.key n.used c.heads here r.1;
+    kept = λ j w e. go j w (eqb n.key j) refl (sym (has_snoc j n.key c.keys) ∙ e);
+    clear = each_on look (λ j js. quarter j ≡ part → has j js ≡ false) s c.keys q n.key n.used c.heads here c.clear λ w.
+        not_then (has n.key c.keys) (noted_part bits n.key) (c.kept n.key w) (new w);
   }
     where
-      go : (j : ℕ) → quarter j ≡ part → (b : Bool) → eqb k j ≡ b → eqb k j || has j c.keys ≡ true → noted_part after j ≡ true
-      go j w true t e = let y : k ≡ j = eqb-true k j t in rw (← y) (m.new (rw (← y) at w))
+      go : (j : ℕ) → quarter j ≡ part → (b : Bool) → eqb n.key j ≡ b → eqb n.key j || has j c.keys ≡ true → noted_part after j ≡ true
+      go j w true t e = let y : n.key ≡ j = eqb-true n.key j t in rw (← y) (m.new (rw (← y) at w))
       go j w false t e = m.kept j (c.kept j w (rw t at e))
 
 -- no key of the first parts repeats before r

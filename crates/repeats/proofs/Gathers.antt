@@ -8,17 +8,19 @@ use mathlib.Core.List.{List, [], ◌∷◌, ◌++◌}
 use lib.ListN.{length, take, drop, get_or, set, length-drop, length-set}
 use lib.Seq.{drop-drop, drop-cons, drop-length, take-suc-set}
 use lib.Dec.{eqb}
+use Rattle.std.proofs.Common.{Some}
 use borrow.Author.Tests.{eq-eqb, ne_eqb}
-use Rattle.format.specs.Answer.{Got}
+use Rattle.format.specs.Answer.{Got, got}
 use Rattle.format.specs.Lists.{has}
 use Rattle.format.specs.Valid.{Once}
 use Rattle.format.proofs.Words.Answers.{no_bool, or_mono, or_right}
 use Rattle.format.proofs.Words.Keys.{has_not, once_snoc}
 use Rattle.coding.proofs.Rooms.{tail_part}
+use Rattle.heads.specs.declared.Next.{Next}
 use Rattle.heads.specs.Meet.{Peeked, Heads, Clear}
 use Rattle.repeats.specs.Blocks.{FirstOf, Missed}
 use Rattle.heads.proofs.Before.{Looks, Left, left_start, left_done, left_passed, has_snoc, heads_more}
-use Rattle.repeats.proofs.Clears.{each_on, not_then, got_is, clear_none}
+use Rattle.repeats.proofs.Clears.{each_on, not_then, clear_none}
 
 -- ---- a key looked for in a block
 
@@ -63,13 +65,15 @@ pub missed_start : (look : List ℕ → Got ℕ) (s : List ℕ) (p : ℕ) (block
 missed_start look s p block = record { within = omega arith; left = λ key e. left_start look s p key }
 
 module _ (look : List ℕ → Got ℕ) (s : List ℕ) (p : ℕ) (block : List ℕ) (q : ℕ) (m : MissedTo look s p block q) where
-  pub missed_more : Looks look → q < p → (k u : ℕ) → Peeked look (take (length s - q) (drop q s)) k u → has k block ≡ false → MissedTo look s p block (q + u)
-  missed_more room g k u n e =
-      let next : Peeked look (drop q s) k u = rw tail_part at n in
-      record {
-        within = omega (arith, m.within, room (drop q s), next.1, length-drop q s);
-        left = λ key f. left_passed look s p key q (m.left key f) g k u n room λ z. no_bool (sym e ∙ ap (λ j. has j block) z ∙ f);
-      }
+  module _ (room : Looks look) (g : q < p) (n : Next) (r : Peeked look (take (length s - q) (drop q s)) (Some n)) where
+    pub missed_room : q + n.used ≤ length s
+    missed_room = omega (arith, m.within, room (drop q s), ap (λ (x : Got ℕ). x.used) (rw tail_part at r.0), length-drop q s)
+
+    pub missed_more : has n.key block ≡ false → MissedTo look s p block (q + n.used)
+    missed_more e = record {
+      within = missed_room;
+      left = λ key f. left_passed look s p key q (m.left key f) g n r room λ z. no_bool (sym e ∙ ap (λ j. has j block) z ∙ f);
+    }
 
   pub missed_done : p ≤ q → Missed look s p block
   missed_done g ks h key e = sym (left_done look s p key q (m.left key e) g ks h)
@@ -86,20 +90,25 @@ pub first_start : (look : List ℕ → Got ℕ) (s : List ℕ) (from : ℕ) (blo
 first_start look s from block h l = record { on = omega arith; within = h; long = l; heads = omega arith; once = tt }
 
 module _ (look : List ℕ → Got ℕ) (s : List ℕ) (from : ℕ) (block : List ℕ) (q i : ℕ) (f : FirstOf look s from block q i) where
-  pub first_more : Looks look → i < 64 → (k u : ℕ) → Peeked look (take (length s - q) (drop q s)) k u → 0 < u → has k block ≡ false
-      → FirstOf look s from (set block i k) (q + u) (i + 1)
-  first_more room h k u n z e =
-      let next : Peeked look (drop q s) k u = rw tail_part at n in
-      let a : from + (q - from) ≡ q = omega (arith, f.on) in
-      let b : q - from + u ≡ q + u - from = omega (arith, f.on) in
-      let t : take (i + 1) (set block i k) ≡ take i block ++ k ∷ [] = rw add-one (take-suc-set block i k (omega (arith, f.long))) in
-      record {
-        on = omega (arith, f.on);
-        within = omega (arith, f.within, room (drop q s), next.1, length-drop q s);
-        long = length-set block i k ∙ f.long;
-        heads = rw (t, ← b) (heads_more look (take i block) (drop from s) (q - from) k u f.heads (rw (drop-drop (q - from) from s, a) (got_is _ _ _ next.0 next.1)) z);
-        once = rw t (once_snoc (take i block) k f.once (not_then (has k (take i block)) (has k block) (has_take k i block) e));
-      }
+  module _ (room : Looks look) (h : i < 64) (n : Next) (r : Peeked look (take (length s - q) (drop q s)) (Some n)) where
+    here : look (drop q s) ≡ got n.key n.used
+    here = rw tail_part at r.0
+
+    pub first_room : q + n.used ≤ length s
+    first_room = omega (arith, f.within, room (drop q s), ap (λ (x : Got ℕ). x.used) here, length-drop q s)
+
+    pub first_more : has n.key block ≡ false → FirstOf look s from (set block i n.key) (q + n.used) (i + 1)
+    first_more e =
+        let a : from + (q - from) ≡ q = omega (arith, f.on) in
+        let b : q - from + n.used ≡ q + n.used - from = omega (arith, f.on) in
+        let t : take (i + 1) (set block i n.key) ≡ take i block ++ n.key ∷ [] = rw add-one (take-suc-set block i n.key (omega (arith, f.long))) in
+        record {
+          on = omega (arith, f.on);
+          within = first_room;
+          long = length-set block i n.key ∙ f.long;
+          heads = rw (t, ← b) (heads_more look (take i block) (drop from s) (q - from) n.key n.used f.heads (rw (drop-drop (q - from) from s, a) here) r.1);
+          once = rw t (once_snoc (take i block) n.key f.once (not_then (has n.key (take i block)) (has n.key block) (has_take n.key i block) e));
+        }
 
 -- ---- how far no id repeats
 
@@ -135,7 +144,7 @@ module _ (look : List ℕ → Got ℕ) (s : List ℕ) where
         within = omega arith;
         keys = t.keys ++ n ∷ [];
         heads = heads_more look t.keys s q n u t.heads e z;
-        clear = each_on look (λ k ks. has k ks ≡ false) s t.keys q n u t.heads (rw e (refl, refl)) t.clear (a n (has_first n ns));
+        clear = each_on look (λ k ks. has k ks ≡ false) s t.keys q n u t.heads e t.clear (a n (has_first n ns));
       } in
       told_on ns (q + u) r more (omega arith) w (rw (drop-drop u q s, b) at h) o.1 (apart_more n ns t.keys o.0 a)
 

@@ -1,10 +1,10 @@
 // How far no key of a level repeats, told by four passes: so that keys that neither rise nor fall are not looked back for one by one. Of what stands
 // further on it is not known, and two ids with one bit end it too.
 ghost use Rattle.std.specs.Prelude.{◌≡◌, ◌≤◌, false, length};
-ghost use Rattle.heads.specs.Meet.{peek, Clear};
+ghost use Rattle.heads.specs.Meet.{peek_by, Clear};
 ghost use Rattle.repeats.specs.Parts.{quarter, noted_part, NotedPart, ClearIn};
 
-use heads::records;
+use heads::{Look, records};
 
 // A bit for each key of a quarter, modulo 4,096: every tag has its own. A quarter at a time, as the bits stand on the stack.
 fn is_noted_part(bits: &[u64], key: u64) -> bool
@@ -36,64 +36,48 @@ fn may_stand(key: u64, part: u64, bits: &[u64]) -> bool
 }
 
 // Whether a record of another level stands at q of a sheet, so that a pass may stop.
-fn is_other(s: &[u8], q: usize, sheet: bool, ids: bool, set: bool) -> bool {
-    if sheet {
-        if ids {
-            return !records::is_mark(s, q, records::TG);
-        }
-        if !set {
-            return !records::is_mark(s, q, records::TI);
-        }
+pub fn is_other(s: &[u8], q: usize, look: Look) -> bool {
+    match look {
+        Look::Targets => !records::is_mark(s, q, records::TG),
+        Look::Records { set: false } => !records::is_mark(s, q, records::TI),
+        _ => false,
     }
-    false
 }
 
 // How far no key of a quarter repeats.
-fn part_clear(s: &[u8], part: u64, sheet: bool, ids: bool, set: bool, bits: &mut [u64; 64]) -> usize
-    ensures { ClearIn part (peek sheet ids set) s.now result }
+fn part_clear(s: &[u8], part: u64, look: Look, bits: &mut [u64; 64]) -> usize
+    ensures { ClearIn part (peek_by look) s.now result }
 {
     *bits = [0; 64];
     let mut q: usize = 0;
     while q < s.len() {
-        if is_other(s, q, sheet, ids, set) {
+        if is_other(s, q, look) {
             return q;
         }
-        let n = heads::next_of(&s[q..], sheet, ids, set);
-        if n.used == 0 {
+        let Some(next) = look.next(&s[q..]) else {
+            return q;
+        };
+        if may_stand(next.key, part, bits) {
             return q;
         }
-        if may_stand(n.key, part, bits) {
-            return q;
-        }
-        note_part(bits, n.key, part);
-        q += n.used;
+        note_part(bits, next.key, part);
+        q += next.used;
     }
     q
 }
 
-fn least(a: usize, b: usize) -> usize
-    ensures { (result ≤ a) × (result ≤ b) }
-{
-    if a < b { a } else { b }
-}
-
 // No thing that begins before there has a key that stood before it.
-fn clear_to(s: &[u8], sheet: bool, ids: bool, set: bool, bits: &mut [u64; 64]) -> usize
-    ensures { Clear (peek sheet ids set) s.now result }
+fn clear_to(s: &[u8], look: Look, bits: &mut [u64; 64]) -> usize
+    ensures { Clear (peek_by look) s.now result }
 {
-    let mut part: u64 = 0;
     let mut r = s.len();
-    while part < 4 {
-        r = least(r, part_clear(s, part, sheet, ids, set, bits));
-        part += 1;
+    for part in 0..4 {
+        r = r.min(part_clear(s, part, look, bits));
     }
     // ids share bits, so where the passes stopped at one it may still be new
-    if ids {
-        if r < s.len() {
-            if !is_other(s, r, sheet, ids, set) {
-                return super::blocks::clear_to(s, sheet, set, bits);
-            }
-        }
+    let ids = matches!(look, Look::Packs | Look::Targets);
+    if ids && r < s.len() && !is_other(s, r, look) {
+        return super::blocks::clear_to(s, look, bits);
     }
     r
 }
@@ -106,13 +90,11 @@ pub fn after(
     top: u64,
     low: u64,
     key: u64,
-    sheet: bool,
-    ids: bool,
-    set: bool,
+    look: Look,
     bits: &mut [u64; 64],
 ) -> usize
-    requires { Clear (peek sheet ids set) s.now clear }
-    ensures { Clear (peek sheet ids set) s.now result }
+    requires { Clear (peek_by look) s.now clear }
+    ensures { Clear (peek_by look) s.now result }
 {
     if top < key {
         return clear;
@@ -129,9 +111,5 @@ pub fn after(
     if 1 < clear {
         return clear;
     }
-    // two calls: the passes, with their array, then stay a function of its own, and only these tests stand in the walks
-    if sheet {
-        return clear_to(s, true, ids, set, bits);
-    }
-    clear_to(s, false, ids, set, bits)
+    clear_to(s, look, bits)
 }

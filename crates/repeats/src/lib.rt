@@ -3,41 +3,32 @@
 
 ghost use Rattle.std.specs.Prelude.{◌≡◌, ℕ, ◌≤◌, List, length, drop};
 ghost use Rattle.format.specs.Lists.{has};
-ghost use Rattle.heads.specs.Meet.{peek, Heads, Past, Clear};
+ghost use Rattle.heads.specs.Meet.{peek_by, Heads, Past, Clear};
+
+use heads::Look;
 
 // Whether key heads something that begins in the first p bytes.
-fn seen_before(s: &[u8], p: usize, key: u64, sheet: bool, ids: bool, set: bool) -> bool
+fn seen_before(s: &[u8], p: usize, key: u64, look: Look) -> bool
     requires { p ≤ length s.now }
-    ensures { (ks : List ℕ) → Heads (peek sheet ids set) s.now p ks → result ≡ has key ks }
+    ensures { (ks : List ℕ) → Heads (peek_by look) s.now p ks → result ≡ has key ks }
 {
     let mut q: usize = 0;
     while q < p {
-        let n = heads::next_of(&s[q..], sheet, ids, set);
-        if n.used == 0 {
+        let Some(next) = look.next(&s[q..]) else {
             return false;
-        }
-        if n.key == key {
+        };
+        if next.key == key {
             return true;
         }
-        q += n.used;
+        q += next.used;
     }
     false
 }
 
 // The same of the key at p, where no key before p is above top or below low, and none repeats before clear.
-pub fn is_seen(
-    s: &[u8],
-    p: usize,
-    clear: usize,
-    top: u64,
-    low: u64,
-    key: u64,
-    sheet: bool,
-    ids: bool,
-    set: bool,
-) -> bool
-    requires { (p ≤ length s.now) × Clear (peek sheet ids set) s.now clear × (key ≡ (peek sheet ids set (drop p s.now)).val) }
-    ensures { (seen : List ℕ) → Past (peek sheet ids set) s.now p top low seen → result ≡ has key seen }
+pub fn is_seen(s: &[u8], p: usize, clear: usize, top: u64, low: u64, key: u64, look: Look) -> bool
+    requires { (p ≤ length s.now) × Clear (peek_by look) s.now clear × (key ≡ (peek_by look (drop p s.now)).val) }
+    ensures { (seen : List ℕ) → Past (peek_by look) s.now p top low seen → result ≡ has key seen }
 {
     if top < key {
         return false;
@@ -48,7 +39,7 @@ pub fn is_seen(
     if p < clear {
         return false;
     }
-    seen_before(s, p, key, sheet, ids, set)
+    seen_before(s, p, key, look)
 }
 
 pub mod notes; // notes.rt: keys that are noted

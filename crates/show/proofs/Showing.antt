@@ -7,6 +7,9 @@ use mathlib.Core.Bool.{Bool, true, false, not}
 use mathlib.Core.List.{List}
 use lib.ListN.{length, take, drop, length-drop}
 use lib.Dec.{ltb, eqb}
+use Rattle.std.specs.Prelude.{Option, Some, None, IfSome, Result, Ok, Err}
+use Rattle.std.specs.Result.{result_ok}
+use Rattle.std.proofs.lemmas.Option.{same_Some, none-some}
 use borrow.Author.Tests.{lt-ltb, le-ltb}
 use Rattle.format.specs.Answer.{Ans, ok, refused, ◌>>=◌}
 use Rattle.format.specs.Coding.{Bytes}
@@ -17,7 +20,6 @@ use Rattle.format.specs.Rows.{Row, entry_rows}
 use Rattle.format.specs.Edit.{Holder}
 use Rattle.format.specs.Show.{reviewer, detector, Shown, shown, nothing, number_of, find_row, showable, either_row, show_in, show}
 use Rattle.format.specs.Demands.Rows.{part}
-use Rattle.format.proofs.Words.Answers.{no_bool}
 use Rattle.format.proofs.Words.Bytes.{bytes_take, bytes_drop}
 use Rattle.format.proofs.Demands.Shows.{show_refused, show_unnamed}
 use Rattle.coding.proofs.Rooms.{tail_part}
@@ -25,14 +27,13 @@ use Rattle.items.proofs.Tests.{bind_so}
 use Rattle.heads.proofs.Heads.{mid_part}
 use Rattle.tally.specs.declared.Sizes.{Sizes}
 use Rattle.tally.proofs.Parsed.{Parsed}
-use Rattle.check_packet.specs.declared.Checked.{Checked}
-use Rattle.check_packet.specs.declared.Checked.TheVariants.{Fine, Wrong}
-use Rattle.check_packet.specs.Meet.{checked_of}
+use Rattle.coding.specs.declared.refusals.Fault.{Fault}
+use Rattle.check_packet.specs.declared.Checked as declared
+use Rattle.check_packet.specs.Checks.{Checked, Fine, Wrong}
+use Rattle.check_packet.specs.Meet.{check_of, checked, checked_of}
 use Rattle.check_packet.proofs.Parsing.{wrong_parsed}
 use Rattle.check_packet.proofs.Opened.{fine, opened, start_is, set_room, lent_set, lent_is}
 use Rattle.find.specs.declared.Place.{Place}
-use Rattle.find.specs.declared.Found.{Found}
-use Rattle.find.specs.declared.Found.TheVariants.{There, Nowhere}
 use Rattle.find.specs.Spots.{things_of, entries_of}
 use Rattle.find.specs.Places.{holder_of, kept_of, Placed, FoundIs}
 use Rattle.find.proofs.Placing.{value_room}
@@ -40,10 +41,20 @@ use Rattle.find.proofs.Callers.{set_is}
 use Rattle.write_rows.proofs.Packet.{rows_whole}
 use Rattle.show.specs.declared.Part.{Part}
 use Rattle.show.specs.declared.Value.{Value}
-use Rattle.show.specs.Meet.{row_named, no_value, value_of, ValueIn, of_two, side_of, is_detectors, part_shown, no_part, bytes_shown, place_shown}
+use Rattle.show.specs.Meet.{row_named, value_of, ValueIn, of_two, side_of, is_detectors, part_shown, no_part, bytes_shown, place_shown}
 use Rattle.show.specs.Shows.{Names}
 use Rattle.show.proofs.Passing.{row_for, row_in}
 use Rattle.show.proofs.Values.{read_if, read_off, place_value, unheld_value}
+
+-- ---- what a check found, without why it refuses
+
+found_fine : (x : Checked) (r : Result declared.Checked Fault) {c : declared.Checked} → checked r ≡ x → Some c ≡ result_ok r → x ≡ check_of c
+found_fine x (Ok y) e z = sym e ∙ ap check_of (same_Some _ _ (sym z))
+found_fine x (Err y) {c = c} e z = absurd (none-some c (sym z))
+
+found_wrong : (x : Checked) (r : Result declared.Checked Fault) → checked r ≡ x → None ≡ result_ok r → (n : ℕ) × (k : ℕ) × (x ≡ Wrong n k)
+found_wrong x (Ok y) e z = absurd (none-some y z)
+found_wrong x (Err y) e z = (_, _, sym e)
 
 -- ---- in one packet
 
@@ -70,14 +81,14 @@ module _ (f : Form) (s : List ℕ) (b : Bytes s) {a : Sizes} {k : ℕ} (t : chec
       ∙ ap (λ es. row_in h tag k (unsealed es) es) (sym entries)
 
   -- x was found in the set, as it is lent
-  module _ {x : Found} (ex : FoundIs f h tag (lent_set f s refl b t) x) where
-    pub none_found : x ≡ Nowhere → {v : Value} → v ≡ no_value → ValueIn f s h tag v
-    none_found z e =
+  module _ {x : Option Place} (ex : FoundIs f h tag (lent_set f s refl b t) x) where
+    pub none_found : x ≡ None → ValueIn f s h tag None
+    none_found z =
         let u = subst (FoundIs f h tag (lent_set f s refl b t)) z ex in
         let r = named_is ∙ unheld_value f (lent_set f s refl b t) lent_bytes (set_is f s refl b t) k h tag u in
-        (e ∙ ap value_of (sym r), rw e (omega arith))
+        (ap value_of (sym r), tt)
 
-    module _ {p : Place} (z : x ≡ There p) where
+    module _ {p : Place} (z : x ≡ Some p) where
       at_it : Placed f h tag (lent_set f s refl b t) p
       at_it = subst (FoundIs f h tag (lent_set f s refl b t)) z ex
 
@@ -90,70 +101,68 @@ module _ (f : Form) (s : List ℕ) (b : Bytes s) {a : Sizes} {k : ℕ} (t : chec
         reads : value_of (row_named h tag (parse f s)) ≡ read_off k p.at p.from p.next
         reads = ap value_of named_is ∙ place_value f (lent_set f s refl b t) lent_bytes (set_is f s refl b t) k h tag n p at_it
 
-        pub value_there : p.at < p.next → ValueIn f s h tag (record { there = true; offset = k + p.from; size = p.next - p.from })
+        pub value_there : p.at < p.next → ValueIn f s h tag (Some (record { offset = k + p.from; size = p.next - p.from }))
         value_there l = (sym (reads ∙ ap (λ y. read_if y (k + p.from) (p.next - p.from)) (lt-ltb p.at p.next l)), omega (arith, value_sums))
 
-        pub value_absent : p.next ≤ p.at → {v : Value} → v ≡ no_value → ValueIn f s h tag v
-        value_absent l e = (e ∙ sym (reads ∙ ap (λ y. read_if y (k + p.from) (p.next - p.from)) (le-ltb p.at p.next l)), rw e (omega arith))
+        pub value_absent : p.next ≤ p.at → ValueIn f s h tag None
+        value_absent l = (sym (reads ∙ ap (λ y. read_if y (k + p.from) (p.next - p.from)) (le-ltb p.at p.next l)), tt)
 
 -- ---- in two
 
-module _ {v : Value} (x y : Ans Row) (ev : v ≡ value_of x) where
-  row_first : v.there ≡ true → shown reviewer v.offset v.size ≡ either_row x y
+module _ {v : Option Value} (x y : Ans Row) (ev : v ≡ value_of x) where
+  row_first : {o : Value} → v ≡ Some o → shown reviewer o.offset o.size ≡ either_row x y
   unfolding either_row
-  row_first z = go x ev
+  row_first {o = o} z = go x ev
     where
-      go : (x : Ans Row) → v ≡ value_of x → shown reviewer v.offset v.size ≡ either_row x y
-      go (ok r) e = rw e
-      go (refused n p) e = no_bool (sym (ap (λ q. q.there) e) ∙ z)
+      go : (x : Ans Row) → v ≡ value_of x → shown reviewer o.offset o.size ≡ either_row x y
+      go (ok r) e = ap (λ q. shown reviewer q.offset q.size) (same_Some _ _ (sym z ∙ e))
+      go (refused n p) e = absurd (none-some o (sym e ∙ z))
 
-  row_second : v.there ≡ false → {w : Value} → w ≡ value_of y → w.there ≡ true → shown detector w.offset w.size ≡ either_row x y
+  row_second : v ≡ None → {w : Option Value} → w ≡ value_of y → {o : Value} → w ≡ Some o → shown detector o.offset o.size ≡ either_row x y
   unfolding either_row
-  row_second z {w = w} ew zw = go x y ev ew
+  row_second z {w = w} ew {o = o} zw = go x y ev ew
     where
-      go : (x y : Ans Row) → v ≡ value_of x → w ≡ value_of y → shown detector w.offset w.size ≡ either_row x y
-      go (ok r) y e g = no_bool (sym z ∙ ap (λ q. q.there) e)
-      go (refused n p) (ok r) e g = rw g
-      go (refused n p) (refused m q) e g = no_bool (sym (ap (λ q. q.there) g) ∙ zw)
+      go : (x y : Ans Row) → v ≡ value_of x → w ≡ value_of y → shown detector o.offset o.size ≡ either_row x y
+      go (ok r) y e g = absurd (none-some _ (sym z ∙ e))
+      go (refused n p) (ok r) e g = ap (λ q. shown detector q.offset q.size) (same_Some _ _ (sym zw ∙ g))
+      go (refused n p) (refused m q) e g = absurd (none-some o (sym g ∙ zw))
 
-  row_none : v.there ≡ false → {w : Value} → w ≡ value_of y → w.there ≡ false → nothing ≡ either_row x y
+  row_none : v ≡ None → {w : Option Value} → w ≡ value_of y → w ≡ None → nothing ≡ either_row x y
   unfolding either_row
   row_none z {w = w} ew zw = go x y ev ew
     where
       go : (x y : Ans Row) → v ≡ value_of x → w ≡ value_of y → nothing ≡ either_row x y
-      go (ok r) y e g = no_bool (sym z ∙ ap (λ q. q.there) e)
-      go (refused n p) (ok r) e g = no_bool (sym zw ∙ ap (λ q. q.there) g)
+      go (ok r) y e g = absurd (none-some _ (sym z ∙ e))
+      go (refused n p) (ok r) e g = absurd (none-some _ (sym zw ∙ g))
       go (refused n p) (refused m q) e g = refl
 
 module _ (f : Form) (r d : List ℕ) (h : Holder) (tag : ℕ) (hr : Bytes r) (hd : Bytes d) where
   none_shown : {p : Part} → p ≡ no_part → show f r d h tag ≡ nothing → Names f r d h tag p
   none_shown e z = (ap part_shown e ∙ sym z, rw e (omega arith))
 
-  module _ {a : Checked} (ea : a ≡ checked_of (parse f r)) where
-    pub reviewer_wrong : {n k : ℕ} → a ≡ Wrong n k → {p : Part} → p ≡ no_part → Names f r d h tag p
-    reviewer_wrong {n = n} {k = k} t e = none_shown e (show_refused f r d h tag n k (inl (wrong_parsed f r n k (sym t ∙ ea))))
+  pub reviewer_wrong : (a : Result declared.Checked Fault) → checked a ≡ checked_of (parse f r) → None ≡ result_ok a → Names f r d h tag no_part
+  reviewer_wrong a ea t = let (n, k, z) = found_wrong _ a ea t in none_shown refl (show_refused f r d h tag n k (inl (wrong_parsed f r n k (sym z))))
 
-  module _ {b : Checked} (eb : b ≡ checked_of (parse f d)) where
-    pub detector_wrong : {n k : ℕ} → b ≡ Wrong n k → {p : Part} → p ≡ no_part → Names f r d h tag p
-    detector_wrong {n = n} {k = k} t e = none_shown e (show_refused f r d h tag n k (inr (wrong_parsed f d n k (sym t ∙ eb))))
+  pub detector_wrong : (b : Result declared.Checked Fault) → checked b ≡ checked_of (parse f d) → None ≡ result_ok b → Names f r d h tag no_part
+  detector_wrong b eb t = let (n, k, z) = found_wrong _ b eb t in none_shown refl (show_refused f r d h tag n k (inr (wrong_parsed f d n k (sym z))))
 
   pub unnamed : {x : Bool} → x ≡ showable h tag → x ≡ false → {p : Part} → p ≡ no_part → Names f r d h tag p
   unnamed ex z e = none_shown e (show_unnamed f r d h tag (sym ex ∙ z))
 
-  module _ {a b : Sizes} {j k : ℕ} (ta : checked_of (parse f r) ≡ Fine a j) (tb : checked_of (parse f d) ≡ Fine b k) (n : showable h tag ≡ true) where
+  module _ (a b : Result declared.Checked Fault) (ea : checked a ≡ checked_of (parse f r)) (eb : checked b ≡ checked_of (parse f d)) {j k : declared.Checked} (ta : Some j ≡ result_ok a) (tb : Some k ≡ result_ok b) (n : true ≡ showable h tag) where
     in_two : show f r d h tag ≡ either_row (row_named h tag (parse f r)) (row_named h tag (parse f d))
     unfolding show show_in ◌>>=◌
-    in_two = rw ((fine f r refl hr ta).1, (fine f d refl hd tb).1) (rw (n, show_in))
+    in_two = rw ((fine f r refl hr (found_fine _ a ea ta)).1, (fine f d refl hd (found_fine _ b eb tb)).1) (rw (sym n, show_in))
 
-    module _ {v : Value} (ev : ValueIn f r h tag v) where
-      pub reviewers : v.there ≡ true → Names f r d h tag (record { detectors = false; offset = v.offset; size = v.size })
-      reviewers z = (row_first _ _ ev.0 z ∙ sym in_two, ev.1)
+    module _ {v : Option Value} (ev : ValueIn f r h tag v) where
+      pub reviewers : {o : Value} → v ≡ Some o → Names f r d h tag (record { detectors = false; offset = o.offset; size = o.size })
+      reviewers z = (row_first _ _ ev.0 z ∙ sym in_two, subst (λ o. IfSome o (λ w. w.offset + w.size ≤ length r)) z ev.1)
 
-      module _ (z : v.there ≡ false) {w : Value} (ew : ValueIn f d h tag w) where
-        pub detectors : w.there ≡ true → Names f r d h tag (record { detectors = true; offset = w.offset; size = w.size })
-        detectors y = (row_second _ _ ev.0 z ew.0 y ∙ sym in_two, ew.1)
+      module _ (z : v ≡ None) {w : Option Value} (ew : ValueIn f d h tag w) where
+        pub detectors : {o : Value} → w ≡ Some o → Names f r d h tag (record { detectors = true; offset = o.offset; size = o.size })
+        detectors y = (row_second _ _ ev.0 z ew.0 y ∙ sym in_two, subst (λ o. IfSome o (λ w. w.offset + w.size ≤ length d)) y ew.1)
 
-        pub neithers : w.there ≡ false → {p : Part} → p ≡ no_part → Names f r d h tag p
+        pub neithers : w ≡ None → {p : Part} → p ≡ no_part → Names f r d h tag p
         neithers y e = none_shown e (in_two ∙ sym (row_none _ _ ev.0 z ew.0 y))
 
 -- ---- what may be shown

@@ -31,16 +31,17 @@ use Rattle.format.specs.Targets.{packs_in}
 use Rattle.find.specs.Places.{SetOf, kept_of, SetPlaced, TargetPlaced, Placed, Unheld}
 use Rattle.find.proofs.Splices.{ask_hit_lem, grown}
 use Rattle.find.proofs.Sets.{rest_of, the_rest}
+use Rattle.std.specs.Prelude.{Option, Some, None}
 use Rattle.show.specs.declared.Value.{Value}
-use Rattle.show.specs.Meet.{no_value, value_of}
+use Rattle.show.specs.Meet.{value_of}
 use Rattle.show.proofs.Passing.{row_for, row_in, pack_row_in, other, behind, none_packs, number_none, pack_row, target_row}
 
 -- what the code reads off a place, or off a spot, of bytes that begin at the offset `base`
-abbrev pub read_if : Bool → ℕ → ℕ → Value
-read_if true o n = record { there = true; offset = o; size = n }
-read_if false o n = no_value
+abbrev pub read_if : Bool → ℕ → ℕ → Option Value
+read_if true o n = Some (record { offset = o; size = n })
+read_if false o n = None
 
-abbrev pub read_off : ℕ → ℕ → ℕ → ℕ → Value
+abbrev pub read_off : ℕ → ℕ → ℕ → ℕ → Option Value
 read_off base at from next = read_if (ltb at next) (base + from) (next - from)
 
 -- from bytes within others, k further
@@ -52,7 +53,7 @@ read_shift base k at from next {b = b} {p = p} {q = q} {r = r} eb ep eq er = go 
         let y : ltb p r ≡ true = lt-ltb p r (omega (arith, ltb-true at next z, ep, er)) in
         let o : b + from ≡ base + q = omega (arith, eb, eq) in
         let n : next - from ≡ r - q = omega (arith, eq, er) in
-        rw (z, y) (λ i. record { there = true; offset = o i; size = n i })
+        rw (z, y) (λ i. Some (record { offset = o i; size = n i }))
     go false z = let y : ltb p r ≡ false = le-ltb p r (omega (arith, ltb-false at next z, ep, er)) in rw (z, y)
 
 -- ---- an item's row
@@ -64,9 +65,9 @@ row_value n base k i =
     let y : ltb k (k + length (flat_item i)) ≡ true = lt-ltb k _ (omega (arith, l, oid_some i.tag)) in
     let o : base + k + length (oid_bytes i.tag) + i.width ≡ base + (k + item_lead i) = omega arith in
     let m : length i.value ≡ k + length (flat_item i) - (k + item_lead i) = omega (arith, l) in
-    rw y (λ j. record { there = true; offset = o j; size = m j })
+    rw y (λ j. Some (record { offset = o j; size = m j }))
 
-none_value : (base k : ℕ) → no_value ≡ read_off base k k k
+none_value : (base k : ℕ) → None ≡ read_off base k k k
 none_value base k = let y : ltb k k ≡ false = le-ltb k k (omega arith) in rw y
 
 -- among the items of target number n

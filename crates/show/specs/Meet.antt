@@ -1,5 +1,5 @@
 -- Where `shown` and `show` meet document 01: the part that is shown, its bytes and where it begins.
-use Rattle.std.specs.Prelude.{◌≡◌, ℕ, ◌+◌, ◌≤◌, Bool, true, false, List, length}
+use Rattle.std.specs.Prelude.{◌≡◌, ℕ, ◌+◌, ◌≤◌, Bool, true, false, List, length, Option, Some, None, IfSome}
 use Rattle.format.specs.Answer.{Ans, ok, refused, ◌>>=◌}
 use Rattle.format.specs.Table.{Form}
 use Rattle.format.specs.Packet.{Packet}
@@ -9,7 +9,7 @@ use Rattle.format.specs.Edit.{Holder}
 use Rattle.format.specs.Show.{Side, reviewer, detector, Shown, shown, find_row}
 use Rattle.format.specs.Demands.Rows.{part}
 use Rattle.tally.specs.declared.Sizes.{Sizes}
-use Rattle.check_packet.specs.declared.Checked.TheVariants.{Fine}
+use Rattle.check_packet.specs.Checks.{Fine}
 use Rattle.check_packet.specs.Meet.{checked_of}
 use Rattle.show.specs.declared.Part.{Part}
 use Rattle.show.specs.declared.Value.{Value}
@@ -21,16 +21,13 @@ abbrev pub row_named : Holder → ℕ → Ans Packet → Ans Row
 row_named h tag a = a >>= λ p. find_row h tag p
 
 -- the value that a row names
-abbrev pub no_value : Value
-no_value = record { there = false; offset = 0; size = 0 }
+abbrev pub value_of : Ans Row → Option Value
+value_of (ok r) = Some (record { offset = r.offset; size = r.size })
+value_of (refused n p) = None
 
-abbrev pub value_of : Ans Row → Value
-value_of (ok r) = record { there = true; offset = r.offset; size = r.size }
-value_of (refused n p) = no_value
-
--- v is that of the item's row, and lies in the packet
-abbrev pub ValueIn : Form → List ℕ → Holder → ℕ → Value → Type 0
-ValueIn f s h tag v = (v ≡ value_of (row_named h tag (parse f s))) × (v.offset + v.size ≤ length s)
+-- v is that of the item's row, if there is one, and lies in the packet
+abbrev pub ValueIn : Form → List ℕ → Holder → ℕ → Option Value → Type 0
+ValueIn f s h tag v = (v ≡ value_of (row_named h tag (parse f s))) × IfSome v (λ w. w.offset + w.size ≤ length s)
 
 -- the check found the packet fine, and its set begins at k
 abbrev pub FineFrom : Form → List ℕ → ℕ → Type 0

@@ -1,18 +1,17 @@
 // Show: the value of an item, as a part of one of two packets that are lent.
 #![tactic(auto)]
 
-ghost use Rattle.std.specs.Prelude.{◌≡◌, true, ℕ};
+ghost use Rattle.std.specs.Prelude.{◌≡◌, true, ℕ, unwrap_or};
 ghost use Rattle.format.specs.Show as Show;
 ghost use Rattle.items.specs.Meet.{form_of};
 ghost use Rattle.find.specs.Places.{holder_of};
-ghost use Rattle.show.specs.Meet.{no_value, ValueIn, FineFrom, no_part};
+ghost use Rattle.show.specs.Meet.{ValueIn, FineFrom, no_part};
 ghost use Rattle.show.specs.Shows.{Names, Shows};
 
-use check_packet::Checked;
-use find::Found;
+use items::quick::Glances;
 
 // Which part of which of the two packets is shown.
-#[derive(Clone, Copy)]
+#[derive(Clone, Copy, Debug, PartialEq, Eq)]
 pub struct Part {
     pub detectors: bool,
     pub offset: usize,
@@ -43,84 +42,65 @@ fn is_showable(set: bool, tag: u64) -> bool
     true
 }
 
-// Where a value stands: whether it is there, its offset from the packet's start, and its length.
-#[derive(Clone, Copy)]
+// Where a value stands: its offset from the packet's start, and its length.
+#[derive(Clone, Copy, Debug, PartialEq, Eq)]
 struct Value {
-    there: bool,
     offset: usize,
     size: usize,
 }
 
-fn absent() -> Value
-    ensures { result ≡ no_value }
-{
-    Value {
-        there: false,
-        offset: 0,
-        size: 0,
-    }
-}
-
-// Where the item's value stands in a packet that was found fine, whose set begins at `from`: as the item's place says.
-fn value_in(packet: &[u8], from: usize, alone: bool, set: bool, id: u64, tag: u64) -> Value
+// Where the item's value stands, if it is there, in a packet that was found fine, whose set begins at `from`: as the item's place says.
+fn value_in(packet: &[u8], from: usize, alone: bool, set: bool, id: u64, tag: u64) -> Option<Value>
     requires { (Show.showable (holder_of set id) tag ≡ true) × FineFrom (form_of alone) packet.now from }
     ensures { ValueIn (form_of alone) packet.now (holder_of set id) tag result }
 {
-    let f = find::place_of(&packet[from..], alone, set, id, tag);
-    let Found::There(p) = f else {
-        return absent();
-    };
-    if p.at < p.next {
-        return Value {
-            there: true,
-            offset: from + p.from,
-            size: p.next - p.from,
-        };
+    let place = find::place_of(&packet[from..], alone, set, id, tag)?;
+    if place.next <= place.at {
+        return None;
     }
-    absent()
+    Some(Value {
+        offset: from + place.from,
+        size: place.next - place.from,
+    })
 }
 
-// Which part is shown: the value's of the reviewer's packet if that has the item, else of the detector's.
+// The value's part of the reviewer's packet if that has the item, else of the detector's, if that has it.
+fn part_of(
+    reviewer: &[u8],
+    detector: &[u8],
+    alone: bool,
+    set: bool,
+    id: u64,
+    tag: u64,
+) -> Option<Part>
+    ensures { Names (form_of alone) reviewer.now detector.now (holder_of set id) tag (unwrap_or result no_part) }
+{
+    let glances = Glances::new();
+    let first = check_packet::check(&glances, reviewer, alone).ok()?;
+    let second = check_packet::check(&glances, detector, alone).ok()?;
+    if !is_showable(set, tag) {
+        return None;
+    }
+    if let Some(value) = value_in(reviewer, first.from, alone, set, id, tag) {
+        return Some(Part {
+            detectors: false,
+            offset: value.offset,
+            size: value.size,
+        });
+    }
+    let value = value_in(detector, second.from, alone, set, id, tag)?;
+    Some(Part {
+        detectors: true,
+        offset: value.offset,
+        size: value.size,
+    })
+}
+
+// Which part is shown.
 pub fn shown(reviewer: &[u8], detector: &[u8], alone: bool, set: bool, id: u64, tag: u64) -> Part
     ensures { Names (form_of alone) reviewer.now detector.now (holder_of set id) tag result }
 {
-    let glances = items::quick::glances();
-    let a = check_packet::check(&glances, reviewer, alone);
-    let Checked::Fine {
-        sizes: _,
-        from: first,
-    } = a
-    else {
-        return nothing();
-    };
-    let b = check_packet::check(&glances, detector, alone);
-    let Checked::Fine {
-        sizes: _,
-        from: second,
-    } = b
-    else {
-        return nothing();
-    };
-    if !is_showable(set, tag) {
-        return nothing();
-    }
-    let v = value_in(reviewer, first, alone, set, id, tag);
-    if v.there {
-        return Part {
-            detectors: false,
-            offset: v.offset,
-            size: v.size,
-        };
-    }
-    let w = value_in(detector, second, alone, set, id, tag);
-    if w.there {
-        return Part {
-            detectors: true,
-            offset: w.offset,
-            size: w.size,
-        };
-    }
-    nothing()
+    part_of(reviewer, detector, alone, set, id, tag).unwrap_or(nothing())
 }
 
 // That part.
@@ -135,10 +115,10 @@ pub fn show<'a>(
     ensures { Shows (form_of alone) reviewer.now detector.now reviewer.entry.ref_ptr detector.entry.ref_ptr
         (holder_of set id) tag result.now result.ref_ptr }
 {
-    let p = shown(reviewer, detector, alone, set, id, tag);
-    let from = p.offset;
-    let to = from + p.size;
-    if p.detectors {
+    let part = shown(reviewer, detector, alone, set, id, tag);
+    let from = part.offset;
+    let to = from + part.size;
+    if part.detectors {
         return &detector[from..to];
     }
     &reviewer[from..to]

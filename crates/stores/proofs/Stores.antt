@@ -5,9 +5,10 @@ use mathlib.Core.Logic.{⊎_elim}
 use mathlib.Core.List.{List, [], ◌∷◌, ◌++◌, append-nil}
 use native.Mathlib.Nat.{add-suc, add-zero, zero-add, le_refl, le-add_right, eq-or-lt_of_le}
 use native.Mathlib.Omega.{arith}
-use lib.ListN.{length, take, drop, set, take-append-drop, length-append, length-drop, length-set, drop_of_length-le}
-use lib.Seq.{sets, sets-eq, set_comm, take-set-le, drop-set-add, take_all}
+use lib.ListN.{length, take, drop, set, get_or, take-append-drop, length-append, length-drop, length-set, drop_of_length-le}
+use lib.Seq.{sets, sets-eq, length-take-le, set_comm, take-set-le, drop-set-add, take_all}
 use borrow.Rule.Slice.PartMut.{put_mid}
+use Rattle.std.proofs.lemmas.List.{take_more}
 use Rattle.format.specs.Coding.{digits, fixed}
 use Rattle.format.proofs.Coding.Digits.{length_fixed}
 
@@ -15,6 +16,12 @@ use Rattle.format.proofs.Coding.Digits.{length_fixed}
 pub sets_append : (l : List ℕ) (i : ℕ) (xs ys : List ℕ) → sets l i (xs ++ ys) ≡ sets (sets l i xs) (i + length xs) ys
 sets_append l i [] ys = ap (λ k. sets l k ys) (omega arith)
 sets_append l i (x ∷ xs) ys = sets_append (set l i x) (suc i) xs ys ∙ ap (λ k. sets (sets (set l i x) (suc i) xs) k ys) (omega arith)
+
+-- one number more
+pub sets_more : (l : List ℕ) (i : ℕ) (s : List ℕ) (k d : ℕ) → k < length s → set (sets l i (take k s)) (i + k) (get_or s k d) ≡ sets l i (take (k + 1) s)
+sets_more l i s k d h =
+    let long : length (take k s) ≡ k = length-take-le k s (omega arith) in
+    sym (ap (sets l i) (take_more s k d h) ∙ sets_append l i (take k s) (get_or s k d ∷ []) ∙ ap (λ j. set (sets l i (take k s)) (i + j) (get_or s k d)) long)
 
 -- a run at the start
 pub sets_start : (l vs : List ℕ) → length vs ≤ length l → sets l 0 vs ≡ vs ++ drop (length vs) l

@@ -5,22 +5,23 @@ ghost use Rattle.std.specs.Prelude.{◌≡◌, [], ◌∷◌, ◌+◌, ◌≤◌
 ghost use Rattle.std.proofs.lemmas.List.Edits.{sets};
 ghost use Rattle.format.specs.Coding.{fixed};
 
+use std::simd::Simd;
+
 // How many bytes were read, and how many were stored for them.
-#[derive(Clone, Copy)]
+#[derive(Clone, Copy, Debug, PartialEq, Eq)]
 pub struct Passed {
     pub used: usize,
     pub wrote: usize,
 }
 
 // v in k bytes, high byte first; where they end.
+#[tactic(auto, using(crate::proofs::Stores::number_step, crate::proofs::Stores::number_done))]
 pub fn put_number(out: &mut [u8], at: usize, v: u64, k: usize) -> usize
     requires { at + k ≤ length out.old }
     ensures { (result ≡ at + k) × (out.new ≡ sets out.old at (fixed k v)) }
 {
-    let mut i = k;
     let mut n = v;
-    while 0 < i {
-        i -= 1;
+    for i in (0..k).rev() {
         out[at + i] = (n % 256) as u8;
         n /= 256;
     }
@@ -28,89 +29,49 @@ pub fn put_number(out: &mut [u8], at: usize, v: u64, k: usize) -> usize
 }
 
 // The bytes of s, one by one; where they end.
+#[tactic(auto, using(crate::proofs::Stores::sets_more))]
 fn copy_long(out: &mut [u8], at: usize, s: &[u8]) -> usize
     requires { at + length s.now ≤ length out.old }
     ensures { (result ≡ at + length s.now) × (out.new ≡ sets out.old at s.now) }
 {
-    let mut i: usize = 0;
-    while i < s.len() {
+    for i in 0..s.len() {
         out[at + i] = s[i];
-        i += 1;
     }
     at + s.len()
 }
 
-// Two bytes of s from f on, read before they are stored so that they go as one number;
-fn move_two(out: &mut [u8], at: usize, s: &[u8], f: usize)
-    requires { (f + 2 ≤ length s.now) × (at + length s.now ≤ length out.old) }
-    ensures { out.new ≡ sets out.old (at + f) (take 2 (drop f s.now)) }
+// N bytes of s from f on, as one number: all are read before one is stored.
+#[tactic(auto, using(crate::proofs::Copies::vector_stored))]
+fn move_bytes<const N: usize>(out: &mut [u8], at: usize, s: &[u8], f: usize)
+    requires { (f + N ≤ length s.now) × (at + length s.now ≤ length out.old) }
+    ensures { out.new ≡ sets out.old (at + f) (take N (drop f s.now)) }
 {
-    let to = at + f;
-    let a = s[f];
-    let b = s[f + 1];
-    out[to] = a;
-    out[to + 1] = b;
+    Simd::<u8, N>::from_slice(&s[f..]).copy_to_slice(&mut out[at + f..]);
 }
 
-// four,
-fn move_four(out: &mut [u8], at: usize, s: &[u8], f: usize)
-    requires { (f + 4 ≤ length s.now) × (at + length s.now ≤ length out.old) }
-    ensures { out.new ≡ sets out.old (at + f) (take 4 (drop f s.now)) }
+// The bytes of s, which are N to twice as many; where they end. They go as the last N and the first, which may overlap.
+#[tactic(auto, using(crate::proofs::Copies::copy_ends))]
+fn move_ends<const N: usize>(out: &mut [u8], at: usize, s: &[u8]) -> usize
+    requires { (N ≤ length s.now) × (length s.now ≤ N + N) × (at + length s.now ≤ length out.old) }
+    ensures { (result ≡ at + length s.now) × (out.new ≡ sets out.old at s.now) }
 {
-    let to = at + f;
-    let a = s[f];
-    let b = s[f + 1];
-    let c = s[f + 2];
-    let d = s[f + 3];
-    out[to] = a;
-    out[to + 1] = b;
-    out[to + 2] = c;
-    out[to + 3] = d;
+    let n = s.len();
+    move_bytes::<N>(out, at, s, n - N);
+    move_bytes::<N>(out, at, s, 0);
+    at + n
 }
 
-// and eight.
-fn move_eight(out: &mut [u8], at: usize, s: &[u8], f: usize)
-    requires { (f + 8 ≤ length s.now) × (at + length s.now ≤ length out.old) }
-    ensures { out.new ≡ sets out.old (at + f) (take 8 (drop f s.now)) }
-{
-    let to = at + f;
-    let a = s[f];
-    let b = s[f + 1];
-    let c = s[f + 2];
-    let d = s[f + 3];
-    let e = s[f + 4];
-    let g = s[f + 5];
-    let h = s[f + 6];
-    let i = s[f + 7];
-    out[to] = a;
-    out[to + 1] = b;
-    out[to + 2] = c;
-    out[to + 3] = d;
-    out[to + 4] = e;
-    out[to + 5] = g;
-    out[to + 6] = h;
-    out[to + 7] = i;
-}
-
-// The bytes of s; where they end. From 8 to 32 go without a loop: the last and the first, which may overlap. For bytes of any length.
+// The bytes of s; where they end. From 8 to 32 go without a loop. For bytes of any length. Always a call, so that `copy` may stand in line.
+#[inline(never)]
 pub fn copy_all(out: &mut [u8], at: usize, s: &[u8]) -> usize
     requires { at + length s.now ≤ length out.old }
     ensures { (result ≡ at + length s.now) × (out.new ≡ sets out.old at s.now) }
 {
-    let n = s.len();
-    if 7 < n {
-        if n < 33 {
-            move_eight(out, at, s, n - 8);
-            move_eight(out, at, s, 0);
-            if n < 17 {
-                return at + n;
-            }
-            move_eight(out, at, s, n - 16);
-            move_eight(out, at, s, 8);
-            return at + n;
-        }
+    match s.len() {
+        8..=16 => move_ends::<8>(out, at, s),
+        17..=32 => move_ends::<16>(out, at, s),
+        _ => copy_long(out, at, s),
     }
-    copy_long(out, at, s)
 }
 
 // The same for a value. Most have few bytes: they are stored where it is called. A longer one is lent anew, so that its place and length go to
@@ -119,43 +80,26 @@ pub fn copy(out: &mut [u8], at: usize, s: &[u8]) -> usize
     requires { at + length s.now ≤ length out.old }
     ensures { (result ≡ at + length s.now) × (out.new ≡ sets out.old at s.now) }
 {
-    let n = s.len();
-    if n < 2 {
-        if n == 0 {
-            return at;
+    match s.len() {
+        0 => at,
+        1 => {
+            out[at] = s[0];
+            at + 1
         }
-        out[at] = s[0];
-        return at + 1;
+        2..=3 => move_ends::<2>(out, at, s),
+        4..=7 => move_ends::<4>(out, at, s),
+        8..=16 => move_ends::<8>(out, at, s),
+        _ => copy_all(out, at, &s[0..]),
     }
-    if n < 4 {
-        move_two(out, at, s, n - 2);
-        move_two(out, at, s, 0);
-        return at + n;
-    }
-    if n < 8 {
-        move_four(out, at, s, n - 4);
-        move_four(out, at, s, 0);
-        return at + n;
-    }
-    if n < 17 {
-        move_eight(out, at, s, n - 8);
-        move_eight(out, at, s, 0);
-        return at + n;
-    }
-    copy_all(out, at, &s[0..])
 }
 
-// The n bytes at `at` moved on by `by`, from the last to the first since the two places may overlap. One by one: compiled, many go at once.
+// The n bytes at `at` moved on by `by`; the two places may overlap.
+#[tactic(auto, using(crate::proofs::Copies::moved_on))]
 pub fn shift(out: &mut [u8], at: usize, n: usize, by: usize)
     requires { at + by + n ≤ length out.old }
     ensures { out.new ≡ sets out.old (at + by) (take n (drop at out.old)) }
 {
-    let mut i = n;
-    while 0 < i {
-        i -= 1;
-        let f = at + i;
-        out[f + by] = out[f];
-    }
+    out.copy_within(at..at + n, at + by);
 }
 
 // Four numbers, a row; where they end.

@@ -20,12 +20,12 @@ use Rattle.format.proofs.Words.Bytes.{bytes_drop}
 use Rattle.items.specs.Meet.{level_of}
 use Rattle.coding.proofs.Counts.{len_most}
 use Rattle.heads.proofs.Heads.{mid_part}
-use Rattle.tally.specs.declared.Piece.{Piece}
-use Rattle.tally.specs.declared.Piece.TheVariants as piece
+use Rattle.tally.specs.Pieces.{Piece}
+use Rattle.tally.specs.Pieces as piece
 use Rattle.tally.specs.declared.Sizes.{Sizes}
-use Rattle.tally.specs.declared.Walked.{Walked}
-use Rattle.tally.specs.declared.Walked.TheVariants.{Good, Bad}
-use Rattle.tally.specs.Meet.{piece_of, no_sizes, item_sizes, series_sizes, plus_sizes, weight_of_entry, step_at, bit_of, level_walk, series_walk, series_from, stop_at, later_by, Few, Small, Within}
+use Rattle.tally.specs.Pieces.{Walked}
+use Rattle.tally.specs.Pieces.{Good, Bad}
+use Rattle.tally.specs.Meet.{piece_of, no_sizes, item_sizes, series_sizes, plus_sizes, weight_of_entry, step_at, bit_of, level_walk, series_walk, series_from, later_by, Few, Small, Within}
 use Rattle.tally.specs.Going.{LevelGoing, ItemRead}
 use Rattle.tally.proofs.Walks.{few_more, going_start}
 use Rattle.tally.proofs.Levels.{Stood, stood, step_fault, read_peek, plain_step, plain_weight, plain_few, series_bad, series_good}
@@ -121,9 +121,9 @@ module _ (b : Bool) (f : Form) {s : List ℕ} {p : ℕ} {sum : Sizes} {held top 
   here : a ≡ piece_of (level_of b) (item (level_of b) f g.seen (drop p s))
   here = ea g.seen g.past
 
-  pub item_fault : {n : ℕ} {r : Walked} → a ≡ piece.Fault n → r ≡ stop_at p a → (r ≡ level_walk (level_of b) f s) × Within r (length s)
+  pub item_fault : {n : ℕ} {r : Walked} → a ≡ piece.Fault n → r ≡ Bad n p → (r ≡ level_walk (level_of b) f s) × Within r (length s)
   item_fault {n = n} t e =
-      turn_bad g h refl n 0 (e ∙ ap (stop_at p) t ∙ ap (Bad n) (sym (add-zero p))) (step_fault (level_of b) f g.seen (drop p s) n (sym t ∙ here)) (omega arith)
+      turn_bad g h refl n 0 (e ∙ ap (Bad n) (sym (add-zero p))) (step_fault (level_of b) f g.seen (drop p s) n (sym t ∙ here)) (omega arith)
 
 -- an item that the code has read at p, in a level of no more bytes than a packet's
 pub record ItemAt (b : Bool) (f : Form) (s : List ℕ) (p : ℕ) (sum : Sizes) (held top low tag from size small : ℕ) : Type 0 where

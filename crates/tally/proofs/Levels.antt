@@ -24,9 +24,9 @@ use Rattle.coding.proofs.Counts.{len_most}
 use Rattle.items.specs.Meet.{level_of}
 use Rattle.heads.specs.Meet.{peek}
 use Rattle.heads.proofs.Before.{item_peek}
-use Rattle.tally.specs.declared.Piece.TheVariants as piece
+use Rattle.tally.specs.Pieces as piece
 use Rattle.tally.specs.declared.Sizes.{Sizes}
-use Rattle.tally.specs.declared.Walked.TheVariants.{Good, Bad}
+use Rattle.tally.specs.Pieces.{Good, Bad}
 use Rattle.tally.specs.Meet.{piece_of, item_sizes, total, weight_of_pack, weight_of_entry, deepen_at, step_at, walked_of, series_walk, Few}
 
 -- ---- what a piece says of its item

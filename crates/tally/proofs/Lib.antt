@@ -13,3 +13,4 @@ pub mod Totals
 pub mod Inners
 pub mod Steps
 pub mod Parsed
+pub mod Tried

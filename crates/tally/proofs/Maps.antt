@@ -8,7 +8,7 @@ use Rattle.format.specs.Answer.{Ans, ok, refused, Got, got, ◌>>=◌, after}
 use Rattle.format.specs.Run.{Step, skip, run}
 use Rattle.format.proofs.Words.Answers.{never, ok_inj}
 use Rattle.tally.specs.declared.Sizes.{Sizes}
-use Rattle.tally.specs.declared.Walked.TheVariants.{Good, Bad}
+use Rattle.tally.specs.Pieces.{Good, Bad}
 use Rattle.tally.specs.Meet.{total, bits, walked_of}
 
 -- ---- the same run, each thing mapped

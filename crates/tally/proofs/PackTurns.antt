@@ -15,15 +15,16 @@ use Rattle.format.specs.Read.{pack_head, one_pack}
 use Rattle.format.proofs.Words.Bytes.{bytes_drop}
 use Rattle.coding.proofs.Rooms.{tail_part}
 use Rattle.coding.proofs.Counts.{len_most}
+use Rattle.std.proofs.Common.{Result, Ok, Err}
+use Rattle.coding.specs.declared.refusals.Refusal.{Refusal}
+use Rattle.coding.specs.Refusals.{number}
 use Rattle.heads.specs.declared.Head.{Head}
-use Rattle.heads.specs.declared.Head.TheVariants as heads
-use Rattle.heads.specs.Meet.{pack_head_of, peek, Past}
+use Rattle.heads.specs.Meet.{head, pack_head_of, peek, Past}
 use Rattle.heads.proofs.Before.{pack_peek}
-use Rattle.tally.specs.declared.Piece.{Piece}
 use Rattle.tally.specs.declared.Sizes.{Sizes}
-use Rattle.tally.specs.declared.Walked.{Walked}
-use Rattle.tally.specs.declared.Walked.TheVariants.{Good, Bad}
-use Rattle.tally.specs.Meet.{ended_by, piece_fault, no_sizes, pack_sizes, plus_sizes, total, weight_of_item, weight_of_pack, level_walk, series_walk, stop_at, later_by, Few, Small, Within}
+use Rattle.tally.specs.Pieces.{Walked}
+use Rattle.tally.specs.Pieces.{Good, Bad}
+use Rattle.tally.specs.Meet.{ended_by, no_sizes, pack_sizes, plus_sizes, total, weight_of_item, weight_of_pack, level_walk, series_walk, later_by, Few, Small, Within}
 use Rattle.tally.specs.Going.{SeriesGoing}
 use Rattle.tally.proofs.Walks.{few_more, going_start}
 use Rattle.tally.proofs.Series.{items_good, items_bad, pack_fault, PackStood, pack_stood, pack_10, pack_inside, pack_refused, pack_good}
@@ -41,26 +42,26 @@ unfolding series_walk
 series_start f s = going_start _ _ _ _ _ _ _ s refl
 
 module _ (f : Form) {s : List ℕ} {p : ℕ} {sum : Sizes} {top low : ℕ} (g : SeriesGoing f s p sum top low) (h : p < length s) where
-  pub head_fault : (a : Head) → pack_head_of a ≡ pack_head (take (length s - p) (drop p s)) → {n : ℕ} {d : Piece} {r : Walked} → a ≡ heads.Fault n → d ≡ piece_fault a → r ≡ stop_at p d
+  pub head_fault : (a : Result Head Refusal) → pack_head_of a ≡ pack_head (take (length s - p) (drop p s)) → {x : Refusal} {r : Walked} → a ≡ Err x → r ≡ Bad (number x) p
       → (r ≡ series_walk f s) × Within r (length s)
-  head_fault a ea {n = n} t ed e =
-      turn_bad g h refl n 0
-      (e ∙ ap (stop_at p) (ed ∙ ap piece_fault t) ∙ ap (Bad n) (sym (add-zero p)))
-      (pack_fault f g.seen (drop p s) n (sym (ap pack_head_of t) ∙ rw tail_part at ea))
+  head_fault a ea {x = x} t e =
+      turn_bad g h refl (number x) 0
+      (e ∙ ap (Bad (number x)) (sym (add-zero p)))
+      (pack_fault f g.seen (drop p s) (number x) (sym (ap pack_head_of t) ∙ rw tail_part at ea))
       (omega arith)
 
 -- a pack whose head the code has read at p, in a series of no more bytes than a packet's
 pub record PackAt (f : Form) (s : List ℕ) (p : ℕ) (sum : Sizes) (top low k u w n : ℕ) : Type 0 where
   pub going : SeriesGoing f s p sum top low
   pub here : p < length s
-  pub it : Head
+  pub it : Result Head Refusal
   pub told : pack_head_of it ≡ pack_head (take (length s - p) (drop p s))
-  pub is : it ≡ heads.Whole k u w n
+  pub is : it ≡ Ok (head k u w n)
   pub bytes : Bytes s
   pub most : length s ≤ 8192
 
 module _ {f : Form} {s : List ℕ} {p : ℕ} {sum : Sizes} {top low k u w n : ℕ} (i : PackAt f s p sum top low k u w n) where
-  pub whole : pack_head_of (heads.Whole k u w n) ≡ pack_head (drop p s)
+  pub whole : pack_head_of (Ok (head k u w n)) ≡ pack_head (drop p s)
   whole = sym (ap pack_head_of i.is) ∙ rw tail_part at i.told
 
   pub head_stood : PackStood f i.going.seen (drop p s) k u w n whole

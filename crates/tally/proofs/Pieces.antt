@@ -1,10 +1,11 @@
 -- One item as the code reads it: each way out is a case of `item`.
 use mathlib.Core.Path.{◌≡◌, refl, sym, ap, ◌∙◌}
-use Prim.Native.Nat.{ℕ, zero, suc, ◌+◌, ◌-◌, ◌≤◌}
+use Prim.Native.Nat.{ℕ, ◌+◌, ◌-◌, ◌≤◌}
 use native.Mathlib.Omega.{arith}
 use mathlib.Core.Bool.{Bool}
 use mathlib.Core.List.{List}
 use lib.ListN.{length, take, drop, length-drop}
+use Rattle.std.proofs.Common.{Result, Ok, Err}
 use lib.Seq.{length-take-le}
 use lib.Dec.{eqb}
 use borrow.Author.Tests.{lt-ltb}
@@ -13,38 +14,38 @@ use Rattle.format.specs.Table.{Form, Level, Rule, rule_of, standing, valued, ite
 use Rattle.format.specs.Packet.{Item}
 use Rattle.format.specs.Read.{head_of, item}
 use Rattle.coding.proofs.Rooms.{tail_part}
-use Rattle.items.specs.Meet.{answer_of}
+use Rattle.items.specs.Meet.{answered}
 use Rattle.items.proofs.Tests.{bind_so, bind_not, need_so, need_not}
+use Rattle.coding.specs.declared.refusals.Refusal.{Refusal}
+use Rattle.coding.specs.Refusals.{number}
 use Rattle.heads.specs.declared.Head.{Head}
-use Rattle.heads.specs.declared.Head.TheVariants as heads
-use Rattle.heads.specs.Meet.{item_head_of, Past}
+use Rattle.heads.specs.Meet.{head, item_head_of, Past}
 use Rattle.heads.proofs.Heads.{mid_part, item_within}
-use Rattle.tally.specs.declared.Piece.{Piece}
-use Rattle.tally.specs.declared.Piece.TheVariants as piece
-use Rattle.tally.specs.Meet.{piece_of, piece_fault}
+use Rattle.tally.specs.Pieces.{Piece}
+use Rattle.tally.specs.Pieces as piece
+use Rattle.tally.specs.Meet.{piece_of}
 
 -- the rest of a level, as the borrow checker has it
 pub piece_tail : {look : List ℕ → Got ℕ} {s : List ℕ} {p top low : ℕ} {seen : List ℕ} → Past look s p top low seen → (l : Level) (f : Form) {r : Piece}
     → r ≡ piece_of l (item l f seen (take (length s - p) (drop p s))) → r ≡ piece_of l (item l f seen (drop p s))
 piece_tail q l f e = rw tail_part at e
 
--- ---- the number of a refusal, 0 for none
+-- ---- nothing, or a refusal
 
-pub answer_none : (k : ℕ) {m : Ans (Unit {0})} → answer_of k ≡ m → k ≡ 0 → m ≡ ok tt
-answer_none k e z = sym e ∙ ap answer_of z
+pub answer_none : {r : Result (Unit {0}) Refusal} {m : Ans (Unit {0})} → answered r ≡ m → r ≡ Ok tt → m ≡ ok tt
+answer_none e z = sym e ∙ ap answered z
 
-pub answer_some : (k : ℕ) {m : Ans (Unit {0})} → answer_of k ≡ m → (k ≡ 0 → ⊥) → m ≡ refused k 0
-answer_some zero e z = absurd (z refl)
-answer_some (suc k) e z = sym e
+pub answer_some : {r : Result (Unit {0}) Refusal} {m : Ans (Unit {0})} {x : Refusal} → answered r ≡ m → r ≡ Err x → m ≡ refused (number x) 0
+answer_some e z = sym e ∙ ap answered z
 
 -- ---- h is the answer on the head
 
-module _ (t : List ℕ) (l : Level) {h : Head} (eh : item_head_of h ≡ head_of l t) where
-  pub piece_head : (f : Form) (seen : List ℕ) {n : ℕ} {r : Piece} → h ≡ heads.Fault n → r ≡ piece_fault h → r ≡ piece_of l (item l f seen t)
+module _ (t : List ℕ) (l : Level) {h : Result Head Refusal} (eh : item_head_of h ≡ head_of l t) where
+  pub piece_head : (f : Form) (seen : List ℕ) {x : Refusal} → h ≡ Err x → piece.Fault (number x) ≡ piece_of l (item l f seen t)
   unfolding item
-  piece_head f seen {n} th er = er ∙ ap piece_fault th ∙ sym (ap (piece_of l) (bind_not _ _ n 0 (sym eh ∙ ap item_head_of th)))
+  piece_head f seen {x} th = sym (ap (piece_of l) (bind_not _ _ (number x) 0 (sym eh ∙ ap item_head_of th)))
 
-  module _ {k u w n : ℕ} (th : h ≡ heads.Whole k u w n) where
+  module _ {k u w n : ℕ} (th : h ≡ Ok (head k u w n)) where
     abbrev value : List ℕ
     value = take n (drop (u + w) t)
 
@@ -56,7 +57,7 @@ module _ (t : List ℕ) (l : Level) {h : Head} (eh : item_head_of h ≡ head_of 
     read = got (record { tag = k; width = w; value = value }) (u + w + n)
 
     pub piece_within : u + w + n ≤ length t
-    piece_within = item_within t th l eh
+    piece_within = item_within t (head k u w n) l (sym (ap item_head_of th) ∙ eh)
 
     value_size : length value ≡ n
     value_size = length-take-le n (drop (u + w) t) (rw length-drop (omega (arith, piece_within)))
@@ -86,18 +87,18 @@ module _ (t : List ℕ) (l : Level) {h : Head} (eh : item_head_of h ≡ head_of 
         rules_standing = need_so _ _ _ (rw value_size (lt-ltb 0 n (omega (arith, some))))
 
         -- j is the answer on where it stands
-        module _ {j : ℕ} (ej : answer_of j ≡ standing l f seen k last) where
-          pub piece_standing : (j ≡ 0 → ⊥) → piece.Fault j ≡ piece_of l (item l f seen t)
-          piece_standing z = stopped (rules_standing ∙ bind_not _ _ _ 0 (answer_some j ej z))
+        module _ {j : Result (Unit {0}) Refusal} (ej : answered j ≡ standing l f seen k last) where
+          pub piece_standing : {x : Refusal} → j ≡ Err x → piece.Fault (number x) ≡ piece_of l (item l f seen t)
+          piece_standing z = stopped (rules_standing ∙ bind_not _ _ _ 0 (answer_some ej z))
 
-          module _ (z : j ≡ 0) {rule : Rule} (er : rule ≡ rule_of l k) where
+          module _ (z : j ≡ Ok tt) {rule : Rule} (er : rule ≡ rule_of l k) where
             rules_valued : {a : Ans (Unit {0})} → a ≡ valued rule (take (u + w + n - (u + w)) (drop (u + w) t)) → rules ≡ a
-            rules_valued e = rules_standing ∙ bind_so _ _ tt (answer_none j ej z) ∙ sym (rw (mid_part, er) at e)
+            rules_valued e = rules_standing ∙ bind_so _ _ tt (answer_none ej z) ∙ sym (rw (mid_part, er) at e)
 
             -- m is the answer on the value
-            module _ {m : ℕ} (em : answer_of m ≡ valued rule (take (u + w + n - (u + w)) (drop (u + w) t))) where
-              pub piece_valued : (m ≡ 0 → ⊥) → piece.Fault m ≡ piece_of l (item l f seen t)
-              piece_valued y = stopped (rules_valued em ∙ answer_some m refl y)
+            module _ {m : Result (Unit {0}) Refusal} (em : answered m ≡ valued rule (take (u + w + n - (u + w)) (drop (u + w) t))) where
+              pub piece_valued : {x : Refusal} → m ≡ Err x → piece.Fault (number x) ≡ piece_of l (item l f seen t)
+              piece_valued y = stopped (rules_valued em ∙ answer_some refl y)
 
-              pub piece_whole : m ≡ 0 → {b : ℕ} → b ≡ length (short rule (take (u + w + n - (u + w)) (drop (u + w) t))) → piece.Whole k (u + w) n b ≡ piece_of l (item l f seen t)
-              piece_whole y eb = read_piece (rw (mid_part, er) at eb) ∙ sym (ap (piece_of l) (piece_rules ∙ bind_so _ _ tt (rules_valued em ∙ ap answer_of y)))
+              pub piece_whole : m ≡ Ok tt → {b : ℕ} → b ≡ length (short rule (take (u + w + n - (u + w)) (drop (u + w) t))) → piece.Whole k (u + w) n b ≡ piece_of l (item l f seen t)
+              piece_whole y eb = read_piece (rw (mid_part, er) at eb) ∙ sym (ap (piece_of l) (piece_rules ∙ bind_so _ _ tt (rules_valued em ∙ ap answered y)))

@@ -18,11 +18,11 @@ use Rattle.format.proofs.Coding.Lengths.{holds_pos}
 use Rattle.format.proofs.Reading.Packs.{pack_head_says}
 use Rattle.coding.proofs.Counts.{oid_most}
 use Rattle.items.proofs.Tests.{bind_so, bind_not, need_so, need_not}
-use Rattle.heads.specs.declared.Head.TheVariants as heads
-use Rattle.heads.specs.Meet.{pack_head_of}
+use Rattle.std.proofs.Common.{Ok}
+use Rattle.heads.specs.Meet.{head, pack_head_of}
 use Rattle.tally.proofs.Maps.{mapped, run_map, total_map, mapped_good, mapped_bad, walked_good, walked_bad}
 use Rattle.tally.specs.declared.Sizes.{Sizes}
-use Rattle.tally.specs.declared.Walked.TheVariants.{Good, Bad}
+use Rattle.tally.specs.Pieces.{Good, Bad}
 use Rattle.tally.specs.Meet.{total, bits, weight_of_item, weight_of_entry, bit_of, deepen_at, step_at, level_walk}
 use Rattle.tally.proofs.Bits.{bits_map}
 
@@ -63,7 +63,7 @@ head_fault s n e f seen = bind_not _ _ n 0 (sym e)
 pub pack_fault : (f : Form) (seen s : List ℕ) (n : ℕ) → refused n 0 ≡ pack_head s → one_pack f seen s ≡ refused n 0
 pack_fault f seen s n e = head_fault s n e f seen
 
-module _ (f : Form) (seen s : List ℕ) (k u w n : ℕ) (e : pack_head_of (heads.Whole k u w n) ≡ pack_head s) where
+module _ (f : Form) (seen s : List ℕ) (k u w n : ℕ) (e : pack_head_of (Ok (head k u w n)) ≡ pack_head s) where
   -- what is known of the bytes
   pub record PackStood : Type 0 where
     pub room : w + n ≤ length s

@@ -20,9 +20,11 @@ use Rattle.format.proofs.Coding.Oids.{oid_some}
 use Rattle.format.proofs.Reading.Items.{length_item, head_says, item_says}
 use Rattle.format.proofs.Reading.Entries.{entry_says}
 use Rattle.format.proofs.Reading.Packs.{length_pack, pack_head_says, pack_says}
+use Rattle.std.proofs.Common.{Result, Ok, Err}
+use Rattle.coding.specs.declared.refusals.Refusal.{Refusal}
+use Rattle.coding.specs.Refusals.{number}
 use Rattle.heads.specs.declared.Head.{Head}
-use Rattle.heads.specs.declared.Head.TheVariants as heads
-use Rattle.heads.specs.Meet.{item_head_of, pack_head_of}
+use Rattle.heads.specs.Meet.{head, item_head_of, pack_head_of}
 use Rattle.tally.specs.Meet.{deepen_at, step_at}
 use Rattle.tally.specs.Runs.{level_run, series_run}
 use Rattle.tally.proofs.Levels.{deepen_plain, deepen_series}
@@ -105,16 +107,16 @@ module _ (l : Level) (f : Form) (seen u : List ℕ) where
       }
 
   -- the code's head: whole, or a fault that cannot be
-  pub entry_here : Bytes u → (r : Got Entry) → step_at l f seen u ≡ ok r → (h : Head) → item_head_of h ≡ head_of l u
-      → {key used width size : ℕ} → h ≡ heads.Whole key used width size → EntryHere l f u key used width size r
+  pub entry_here : Bytes u → (r : Got Entry) → step_at l f seen u ≡ ok r → (h : Result Head Refusal) → item_head_of h ≡ head_of l u
+      → {key used width size : ℕ} → h ≡ Ok (head key used width size) → EntryHere l f u key used width size r
   entry_here b r e h eh t = entry_under b r e _ _ _ _ (sym eh ∙ ap item_head_of t)
 
-  pub no_head_entry : {X : Type 0} (r : Got Entry) → step_at l f seen u ≡ ok r → (h : Head) → item_head_of h ≡ head_of l u → {n : ℕ} → h ≡ heads.Fault n → X
+  pub no_head_entry : {X : Type 0} (r : Got Entry) → step_at l f seen u ≡ ok r → (h : Result Head Refusal) → item_head_of h ≡ head_of l u → {x : Refusal} → h ≡ Err x → X
   unfolding item
-  no_head_entry {X = X} r e h eh {n = n} t =
+  no_head_entry {X = X} r e h eh {x = x} t =
       step_item l f seen u r e λ i ei _.
       bind_then _ _ _ ei λ k ek _.
-      never n 0 k (ap item_head_of (sym t) ∙ eh ∙ ek)
+      never (number x) 0 k (ap item_head_of (sym t) ∙ eh ∙ ek)
 
 -- ---- a pack
 
@@ -173,10 +175,10 @@ module _ (f : Form) (seen u : List ℕ) where
         runs = run_plain f _ ∙ ap (mapped plain) ei;
       }
 
-  pub pack_here : Bytes u → (r : Got Pack) → one_pack f seen u ≡ ok r → (h : Head) → pack_head_of h ≡ pack_head u
-      → {key used width size : ℕ} → h ≡ heads.Whole key used width size → PackHere f u key used width size r
+  pub pack_here : Bytes u → (r : Got Pack) → one_pack f seen u ≡ ok r → (h : Result Head Refusal) → pack_head_of h ≡ pack_head u
+      → {key used width size : ℕ} → h ≡ Ok (head key used width size) → PackHere f u key used width size r
   pack_here b r e h eh t = pack_whole b r e _ _ _ _ (sym eh ∙ ap pack_head_of t)
 
-  pub no_head_pack : {X : Type 0} (r : Got Pack) → one_pack f seen u ≡ ok r → (h : Head) → pack_head_of h ≡ pack_head u → {n : ℕ} → h ≡ heads.Fault n → X
+  pub no_head_pack : {X : Type 0} (r : Got Pack) → one_pack f seen u ≡ ok r → (h : Result Head Refusal) → pack_head_of h ≡ pack_head u → {x : Refusal} → h ≡ Err x → X
   unfolding one_pack
-  no_head_pack {X = X} r e h eh {n = n} t = bind_then _ _ _ e λ k ek _. never n 0 k (ap pack_head_of (sym t) ∙ eh ∙ ek)
+  no_head_pack {X = X} r e h eh {x = x} t = bind_then _ _ _ e λ k ek _. never (number x) 0 k (ap pack_head_of (sym t) ∙ eh ∙ ek)

@@ -13,8 +13,8 @@ use Rattle.format.specs.Lists.{has}
 use Rattle.heads.specs.Meet.{Past}
 use Rattle.heads.proofs.Before.{heads_none, past_more, past_between}
 use Rattle.tally.specs.declared.Sizes.{Sizes}
-use Rattle.tally.specs.declared.Walked.{Walked}
-use Rattle.tally.specs.declared.Walked.TheVariants.{Good, Bad}
+use Rattle.tally.specs.Pieces.{Walked}
+use Rattle.tally.specs.Pieces.{Good, Bad}
 use Rattle.tally.specs.Meet.{plus_sizes, Few, Within}
 use Rattle.tally.specs.Going.{Going, New, Reached}
 use Rattle.tally.proofs.Walks.{few_more, going_bad, going_done, going_over, going_more}

@@ -15,8 +15,8 @@ use Rattle.format.proofs.Reading.Runs.{skip_step}
 use Rattle.heads.specs.Meet.{Past}
 use Rattle.heads.proofs.Before.{past_none}
 use Rattle.tally.specs.declared.Sizes.{Sizes}
-use Rattle.tally.specs.declared.Walked.{Walked}
-use Rattle.tally.specs.declared.Walked.TheVariants.{Good, Bad}
+use Rattle.tally.specs.Pieces.{Walked}
+use Rattle.tally.specs.Pieces.{Good, Bad}
 use Rattle.tally.specs.Meet.{no_sizes, plus_sizes, total, bits, walked_of, Few}
 use Rattle.tally.specs.Going.{resume, Going}
 use Rattle.tally.proofs.Bits.{or_assoc}

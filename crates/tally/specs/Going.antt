@@ -9,11 +9,11 @@ use Rattle.format.specs.Run.{Step, skip, always}
 use Rattle.format.specs.Table.{Form, is_set, is_alone}
 use Rattle.items.specs.Meet.{level_of}
 use Rattle.heads.specs.Meet.{peek, Past}
-use Rattle.tally.specs.declared.Piece.{Piece}
+use Rattle.tally.specs.Pieces.{Piece}
 use Rattle.tally.specs.declared.Sizes.{Sizes}
-use Rattle.tally.specs.declared.Walked.{Walked}
+use Rattle.tally.specs.Pieces.{Walked}
 use Rattle.tally.specs.declared.stages.Stage.{Stage}
-use Rattle.tally.specs.declared.Walked.TheVariants.{Good, Bad}
+use Rattle.tally.specs.Pieces.{Good, Bad}
 use Rattle.tally.specs.Meet.{piece_of, plus_sizes, total, bits, weight_of_entry, weight_of_pack, bit_of, step_at, level_walk, series_walk, Few}
 
 -- what was walked so far, and the rest from p

@@ -1,3 +1,4 @@
+pub mod Pieces
 pub mod Going
 pub mod Meet
 pub mod Runs

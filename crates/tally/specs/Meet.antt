@@ -1,5 +1,5 @@
 -- Where the code that checks a packet meets document 01: what its answers mean.
-use Rattle.std.specs.Prelude.{ℕ, ◌+◌, ◌-◌, ◌*◌, ◌/◌, ◌%◌, ◌^◌, ◌≤◌, ◌<◌, Bool, true, false, not, ◌&&◌, ◌||◌, List, [], ◌∷◌, length, ltb, eqb}
+use Rattle.std.specs.Prelude.{ℕ, Result, Ok, Err, ◌+◌, ◌-◌, ◌*◌, ◌/◌, ◌%◌, ◌^◌, ◌≤◌, ◌<◌, Bool, true, false, not, ◌&&◌, ◌||◌, List, [], ◌∷◌, length, ltb, eqb}
 use Rattle.std.specs.Int.Bits.{bit_or}
 use Rattle.format.specs.Coding.{len_width, oid_bytes}
 use Rattle.format.specs.Answer.{Ans, ok, refused, Got, got, ◌>>=◌}
@@ -8,23 +8,31 @@ use Rattle.format.specs.Packet.{Item, Pack, Entry, plain, series, id_of_pack, ta
 use Rattle.format.specs.Run.{Step, run, always}
 use Rattle.format.specs.Read.{item, one_pack, deepen}
 use Rattle.format.specs.Sheet.{Val, Target, Part, one, targets}
-use Rattle.heads.specs.declared.Head.{Head}
-use Rattle.heads.specs.declared.Head.TheVariants as heads
-use Rattle.tally.specs.declared.Piece.{Piece}
-use Rattle.tally.specs.declared.Piece.TheVariants as piece
+use Rattle.coding.specs.declared.refusals.Fault as coding
+use Rattle.coding.specs.declared.refusals.Refusal.{Refusal}
+use Rattle.coding.specs.Refusals.{number}
+use Rattle.tally.specs.declared.Piece as pieces
 use Rattle.tally.specs.declared.Sizes.{Sizes}
-use Rattle.tally.specs.declared.Walked.{Walked}
-use Rattle.tally.specs.declared.Walked.TheVariants.{Good, Bad}
+use Rattle.tally.specs.declared.Walked as walks
+use Rattle.tally.specs.Pieces.{Piece, Whole, Fault, Walked, Good, Bad}
 
 -- an item that was read: where its value begins, how long it is, and how long in its shortest form
 abbrev pub piece_of : Level → Ans (Got Item) → Piece
 piece_of l (ok i) =
-    piece.Whole i.val.tag (i.used - length i.val.value) (length i.val.value) (length (short (rule_of l i.val.tag) i.val.value))
-piece_of l (refused n p) = piece.Fault n
+    Whole i.val.tag (i.used - length i.val.value) (length i.val.value) (length (short (rule_of l i.val.tag) i.val.value))
+piece_of l (refused n p) = Fault n
 
-abbrev pub piece_fault : Head → Piece
-piece_fault (heads.Whole k u w n) = piece.Fault 0
-piece_fault (heads.Fault n) = piece.Fault n
+-- as the code has it, and a walk
+abbrev pub pieced : Result pieces.Piece Refusal → Piece
+pieced (Ok x) = Whole x.tag x.from x.size x.short
+pieced (Err r) = Fault (number r)
+
+abbrev pub walk_of : walks.Walked → Walked
+walk_of w = Good w.sizes w.held
+
+abbrev pub walked : Result walks.Walked coding.Fault → Walked
+walked (Ok w) = walk_of w
+walked (Err e) = Bad (number e.refusal) e.place
 
 -- ---- sizes: the bytes in the sheet, the rows, the bytes in normal form, and those of a series' packs
 
@@ -107,6 +115,11 @@ unmet false located = 20
 unmet true false = 14
 unmet true true = 0
 
+-- with what one is refused at its end, as the code says it
+abbrev pub unended : Result (Unit {0}) Refusal → ℕ
+unended (Ok u) = 0
+unended (Err r) = number r
+
 -- with what one that holds these is refused at its end
 unfoldable pub ended_by : Form → ℕ → ℕ
 ended_by f held = unmet (alike (is_held 19 held) (is_held 20 held)) (not (is_alone f) || is_held 17 held)
@@ -125,10 +138,6 @@ series_walk f s = walked_of weight_of_pack (λ p. 0) (run always id_of_pack (one
 abbrev pub later_by : ℕ → Walked → Walked
 later_by k (Good a m) = Good a m
 later_by k (Bad n p) = Bad n (k + p)
-
-abbrev pub stop_at : ℕ → Piece → Walked
-stop_at p (piece.Whole t f n s) = Bad 0 0
-stop_at p (piece.Fault n) = Bad n p
 
 -- a series, given its packs, whose bytes begin at k
 abbrev pub series_from : ℕ → Walked → Walked

@@ -1,25 +1,25 @@
-// What a walk over a level or a series says: an item that may stand there, the sizes of what was walked, or the first fault.
+// What a walk over a level or a series says: an item that may stand there, and the sizes of what was walked.
 #![tactic(auto)]
 
 ghost use Rattle.std.specs.Prelude.{◌≡◌, ◌≤◌, ◌<◌, true, ◌&&◌, eqb};
 ghost use Rattle.format.specs.Table.{alike};
 ghost use Rattle.items.specs.Meet.{form_of, level_of};
-ghost use Rattle.tally.specs.Meet.{item_sizes, stop_at, later_by, series_from, bit_of, is_held, ended_by, Larger, Within};
+ghost use Rattle.tally.specs.Pieces.{Good};
+ghost use Rattle.tally.specs.Meet.{item_sizes, unended, walk_of, walked, series_from, bit_of, is_held, ended_by, Larger, Within};
 
-// An item that may stand where it does: its tag, where its value begins, its length, and its shortest length; or the refusal's number.
-#[derive(Clone, Copy)]
-pub enum Piece {
-    Whole {
-        tag: u64,
-        from: usize,
-        size: usize,
-        short: usize,
-    },
-    Fault(u64),
+use coding::refusals::{Fault, Refusal, later};
+
+// An item that may stand where it does: its tag, where its value begins, its length, and its shortest length.
+#[derive(Clone, Copy, Debug, PartialEq, Eq)]
+pub struct Piece {
+    pub tag: u64,
+    pub from: usize,
+    pub size: usize,
+    pub short: usize,
 }
 
 // The bytes in the sheet, the rows, the bytes in normal form, and those of a series' packs.
-#[derive(Clone, Copy)]
+#[derive(Clone, Copy, Debug, PartialEq, Eq)]
 pub struct Sizes {
     pub sheet: usize,
     pub rows: usize,
@@ -29,44 +29,11 @@ pub struct Sizes {
 
 // ---- walks
 
-// What was walked, with the bits of the tags that it holds, for the rules at its end; or the first fault, from the start of what was walked.
-#[derive(Clone, Copy)]
-pub enum Walked {
-    Good { sizes: Sizes, held: u64 },
-    Bad { number: u64, place: usize },
-}
-
-pub fn stop(a: Piece, p: usize) -> Walked
-    ensures { result ≡ stop_at p a }
-{
-    match a {
-        Piece::Whole {
-            tag: _,
-            from: _,
-            size: _,
-            short: _,
-        } => Walked::Bad {
-            number: 0,
-            place: 0,
-        },
-        Piece::Fault(n) => Walked::Bad {
-            number: n,
-            place: p,
-        },
-    }
-}
-
-pub fn later(w: Walked, k: usize) -> Walked
-    requires { Within w 65536 × (k ≤ 65536) }
-    ensures { result ≡ later_by k w }
-{
-    match w {
-        Walked::Good { sizes, held } => Walked::Good { sizes, held },
-        Walked::Bad { number, place } => Walked::Bad {
-            number,
-            place: k + place,
-        },
-    }
+// What was walked, with the bits of the tags that it holds, for the rules at its end.
+#[derive(Clone, Copy, Debug, PartialEq, Eq)]
+pub struct Walked {
+    pub sizes: Sizes,
+    pub held: u64,
 }
 
 pub fn larger(a: u64, b: u64) -> u64
@@ -119,45 +86,40 @@ fn alike(a: bool, b: bool) -> bool
     if a { b } else { !b }
 }
 
-// With what a pack or a target is refused at its end, 0 if it is not: 19 and 20 stand together, and one that stands alone must hold its location.
-pub fn ended_of(alone: bool, held: u64) -> u64
-    ensures { result ≡ ended_by (form_of alone) held }
+// 20 and 14, where a pack or a target ends: 19 and 20 stand together, and one that stands alone must hold its location.
+pub fn ended_of(alone: bool, held: u64) -> Result<(), Refusal>
+    ensures { unended result ≡ ended_by (form_of alone) held }
 {
     if !alike(is_held(19, held), is_held(20, held)) {
-        return 20;
+        return Err(Refusal::HalfCentroid);
     }
     if coding::either(!alone, is_held(17, held)) {
-        return 0;
+        return Ok(());
     }
-    14
+    Err(Refusal::Missing)
 }
 
 // An item that is no series.
 pub fn one_item(set: bool, tag: u64, n: usize) -> Walked
     requires { (tag ≤ 16383) × (n ≤ 65536) }
-    ensures { result ≡ Walked.Good (item_sizes (level_of set) tag n) (bit_of tag) }
+    ensures { walk_of result ≡ Good (item_sizes (level_of set) tag n) (bit_of tag) }
 {
-    Walked::Good {
+    Walked {
         sizes: weights::plain_sizes(set, tag, n),
         held: bit_of(tag),
     }
 }
 
 // A series, given its packs, whose bytes begin at k.
-pub fn series_of(w: Walked, k: usize) -> Walked
-    requires { Within w 65536 × (k ≤ 65536) }
-    ensures { result ≡ series_from k w }
+pub fn series_of(packs: Result<Walked, Fault>, k: usize) -> Result<Walked, Fault>
+    requires { Within (walked packs) 65536 × (k ≤ 65536) }
+    ensures { walked result ≡ series_from k (walked packs) }
 {
-    match w {
-        Walked::Good { sizes, held: _ } => Walked::Good {
-            sizes: weights::series_sizes(sizes),
-            held: 0,
-        },
-        Walked::Bad { number, place } => Walked::Bad {
-            number,
-            place: k + place,
-        },
-    }
+    let series = later(packs, k)?;
+    Ok(Walked {
+        sizes: weights::series_sizes(series.sizes),
+        held: 0,
+    })
 }
 
 pub mod stages; // stages.rt: where a walk goes on

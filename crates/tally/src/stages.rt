@@ -1,11 +1,12 @@
 // Where a walk goes on, and what was walked till there: a quick way hands it to the walk, and one walk to the next.
 ghost use Rattle.std.specs.Prelude.{◌≡◌};
-ghost use Rattle.tally.specs.Meet.{series_sizes, plus_sizes, Small};
+ghost use Rattle.tally.specs.Pieces.{Good};
+ghost use Rattle.tally.specs.Meet.{walk_of, series_sizes, plus_sizes, Small};
 ghost use Rattle.tally.specs.Going.{stage_at};
 
 use super::{Sizes, Walked};
 
-#[derive(Clone, Copy)]
+#[derive(Clone, Copy, Debug, PartialEq, Eq)]
 pub struct Stage {
     pub at: usize,
     pub sizes: Sizes,
@@ -38,9 +39,10 @@ pub fn after_series(q: Stage, next: usize, sizes: Sizes) -> Stage
 
 // What was walked till there.
 pub fn walked(q: Stage) -> Walked
-    ensures { result ≡ Walked.Good q.sizes q.held }
+    ensures { walk_of result ≡ Good q.sizes q.held }
 {
-    let sizes = q.sizes;
-    let held = q.held;
-    Walked::Good { sizes, held }
+    Walked {
+        sizes: q.sizes,
+        held: q.held,
+    }
 }

@@ -4,6 +4,7 @@ use Prim.Native.Nat.{ℕ, ◌+◌, ◌-◌, ◌^◌, ◌≤◌, ◌<◌}
 use native.Mathlib.Omega.{arith}
 use mathlib.Core.Bool.{Bool, true, false, not}
 use mathlib.Core.List.{List}
+use Rattle.std.proofs.Common.{Result, Ok, Err}
 use lib.ListN.{length, take, drop, length-drop}
 use lib.Seq.{drop-drop}
 use lib.Dec.{ltb}
@@ -15,16 +16,17 @@ use Rattle.format.specs.Table.{Form, set, standing}
 use Rattle.format.specs.Sheet.{IT, TS, TG, is, field, value_at}
 use Rattle.format.proofs.Sheets.Values.{mark_says}
 use Rattle.coding.proofs.Rooms.{tail_part}
-use Rattle.items.specs.Meet.{answer_of, level_of}
+use Rattle.coding.specs.declared.refusals.Refusal.{Refusal}
+use Rattle.coding.specs.Refusals.{number}
+use Rattle.items.specs.Meet.{answered, level_of}
 use Rattle.items.proofs.Tests.{need_so, need_not}
 use Rattle.heads.specs.Meet.{peek, Past, Clear}
-use Rattle.heads.specs.Records.{field_answer, peek_val, peek_record}
+use Rattle.heads.specs.Records.{fields, told_field, field_answer, peek_val, peek_record}
 use Rattle.heads.specs.declared.records.Field.{Field}
-use Rattle.heads.specs.declared.records.Field.TheVariants as fields
 use Rattle.heads.proofs.Spans.{target_there, series_there, part_val}
 use Rattle.heads.proofs.SheetRuns.{field_key}
-use Rattle.tally.specs.declared.Piece.{Piece}
-use Rattle.tally.specs.declared.Piece.TheVariants as piece
+use Rattle.tally.specs.Pieces.{Piece}
+use Rattle.tally.specs.Pieces as piece
 use Rattle.tally.proofs.Pieces.{answer_none, answer_some}
 use Rattle.format.proofs.Words.Answers.{no_bool}
 use Rattle.tally_records.specs.Meet.{value_next, piece_by, value_whole, series_whole, target_whole, series_opens, target_opens, part_piece}
@@ -45,11 +47,12 @@ module _ (f : Form) (s : List ℕ) (p : ℕ) {x : Bool} (ex : x ≡ is TG (drop 
     opens = need_so _ _ _ (follows ∙ tx)
 
     -- k is the answer on where it stands
-    pub series_standing : (k : ℕ) → answer_of k ≡ standing set f seen 101 true → (k ≡ 0 → ⊥) → piece.Fault k ≡ piece_by series_whole (series_opens f seen (drop p s))
-    series_standing k ek z = sym (ap (piece_by series_whole) (opens ∙ answer_some k ek z))
+    module _ {k : Result (Unit {0}) Refusal} (ek : answered k ≡ standing set f seen 101 true) where
+      pub series_standing : {x : Refusal} → k ≡ Err x → piece.Fault (number x) ≡ piece_by series_whole (series_opens f seen (drop p s))
+      series_standing z = sym (ap (piece_by series_whole) (opens ∙ answer_some ek z))
 
-    pub series_whole_lem : (k : ℕ) → answer_of k ≡ standing set f seen 101 true → k ≡ 0 → piece.Whole 101 2 0 0 ≡ piece_by series_whole (series_opens f seen (drop p s))
-    series_whole_lem k ek z = sym (ap (piece_by series_whole) (opens ∙ answer_none k ek z))
+      pub series_whole_lem : k ≡ Ok tt → piece.Whole 101 2 0 0 ≡ piece_by series_whole (series_opens f seen (drop p s))
+      series_whole_lem z = sym (ap (piece_by series_whole) (opens ∙ answer_none ek z))
 
 -- ---- a target
 
@@ -98,9 +101,9 @@ module _ (s : List ℕ) (p : ℕ) (seen : List ℕ) where
 
 -- ---- the key at p, where the mark says what stands there
 
-pub value_key : (b : Bool) (s : List ℕ) (p : ℕ) {h : Field} {k n : ℕ} → h ≡ field_answer (field (level_of b) (drop 2 (take (length s - p) (drop p s)))) → h ≡ fields.Whole k n
+pub value_key : (b : Bool) (s : List ℕ) (p : ℕ) {h : Result Field Refusal} {k n : ℕ} → told_field h ≡ field_answer (field (level_of b) (drop 2 (take (length s - p) (drop p s)))) → h ≡ Ok (fields k n)
     → peek true false b (drop p s) ≡ peek_val (drop p s) → k ≡ (peek true false b (drop p s)).val
-value_key b s p e t z = field_key (level_of b) (drop p s) (rw tail_part at e) t ∙ sym (ap (λ (x : Got ℕ). x.val) z)
+value_key b s p {k = k} {n = n} e t z = field_key (level_of b) (drop p s) (fields k n) (sym (ap told_field t) ∙ rw tail_part at e) ∙ sym (ap (λ (x : Got ℕ). x.val) z)
 
 pub series_key : (s : List ℕ) → is TS s ≡ true → 101 ≡ (peek true false true s).val
 unfolding peek peek_record

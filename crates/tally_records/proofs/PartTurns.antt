@@ -22,13 +22,13 @@ use Rattle.items.proofs.Tests.{bind_so, bind_not}
 use Rattle.heads.specs.Meet.{peek}
 use Rattle.heads.proofs.Spans.{is_room}
 use Rattle.heads.proofs.SheetRuns.{series_peek}
-use Rattle.tally.specs.declared.Piece.{Piece}
-use Rattle.tally.specs.declared.Piece.TheVariants as piece
+use Rattle.tally.specs.Pieces.{Piece}
+use Rattle.tally.specs.Pieces as piece
 use Rattle.tally.specs.declared.Sizes.{Sizes}
 use Rattle.tally.specs.declared.stages.Stage.{Stage}
-use Rattle.tally.specs.declared.Walked.{Walked}
-use Rattle.tally.specs.declared.Walked.TheVariants.{Good, Bad}
-use Rattle.tally.specs.Meet.{sizes, no_sizes, lengthened, item_sizes, series_sizes, weight_of_target, bit_of, series_from, stop_at, later_by, Few, Small, Within}
+use Rattle.tally.specs.Pieces.{Walked}
+use Rattle.tally.specs.Pieces.{Good, Bad}
+use Rattle.tally.specs.Meet.{sizes, no_sizes, lengthened, item_sizes, series_sizes, weight_of_target, bit_of, series_from, later_by, Few, Small, Within}
 use Rattle.tally.proofs.Walks.{few_more, going_start}
 use Rattle.tally.proofs.Series.{after_not}
 use Rattle.tally.proofs.ItemTurns.{level_is}
@@ -121,9 +121,9 @@ told_series f seen u k b (Good a c) e h =
 
 module _ (b : Bool) (f : Form) {s : List ℕ} {q : Stage} (g : RecordsFrom b f s q) (h : q.at < length s) (o : more_at (level_of b) (drop q.at s) ≡ true) {a : Piece}
     (ea : IsPart b f s q.at q.top q.low a) where
-  pub piece_fault : {n : ℕ} {r : Walked} → a ≡ piece.Fault n → r ≡ stop_at q.at a → (r ≡ records_walk (level_of b) f s) × Within r (length s)
+  pub piece_fault : {n : ℕ} {r : Walked} → a ≡ piece.Fault n → r ≡ Bad n q.at → (r ≡ records_walk (level_of b) f s) × Within r (length s)
   piece_fault {n = n} t e =
-      turn_bad g h o n 0 (e ∙ ap (stop_at q.at) t ∙ ap (Bad n) (sym (add-zero q.at))) (part_fault f g.seen (drop q.at s) n b (sym t ∙ ea g.seen g.past)) (omega arith)
+      turn_bad g h o n 0 (e ∙ ap (Bad n) (sym (add-zero q.at))) (part_fault f g.seen (drop q.at s) n b (sym t ∙ ea g.seen g.past)) (omega arith)
 
 -- a `TS` at p, and its targets as the code lends them
 pub ts_room : (s : List ℕ) (p : ℕ) → is TS (drop p s) ≡ true → p + 2 ≤ length s
@@ -137,9 +137,7 @@ pub record PartAt (b : Bool) (f : Form) (s : List ℕ) (q : Stage) (tag from siz
   pub going : RecordsFrom b f s q
   pub here : q.at < length s
   pub more : more_at (level_of b) (drop q.at s) ≡ true
-  pub it : Piece
-  pub told : IsPart b f s q.at q.top q.low it
-  pub whole : it ≡ piece.Whole tag from size small
+  pub told : IsPart b f s q.at q.top q.low (piece.Whole tag from size small)
   pub bytes : Bytes s
   pub most : length s ≤ 65536
 
@@ -148,7 +146,7 @@ module _ {b : Bool} {f : Form} {s : List ℕ} {q : Stage} {tag from size small :
   here = drop q.at s
 
   is_piece : piece.Whole tag from size small ≡ part_piece (level_of b) f i.going.seen here
-  is_piece = sym i.whole ∙ i.told i.going.seen i.going.past
+  is_piece = i.told i.going.seen i.going.past
 
   -- w is the code's answer on the part
   abbrev pub PartTold : Walked → Type 0

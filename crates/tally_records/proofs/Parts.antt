@@ -23,8 +23,8 @@ use Rattle.items.specs.Meet.{level_of}
 use Rattle.items.proofs.Tests.{bind_so, bind_not}
 use Rattle.heads.specs.Meet.{peek}
 use Rattle.heads.proofs.SheetRuns.{value_peek}
-use Rattle.tally.specs.declared.Piece.{Piece}
-use Rattle.tally.specs.declared.Piece.TheVariants as piece
+use Rattle.tally.specs.Pieces.{Piece}
+use Rattle.tally.specs.Pieces as piece
 use Rattle.tally.proofs.Levels.{here_zero}
 use Rattle.tally_records.specs.Meet.{piece_by, value_whole, series_whole, target_whole, series_opens, target_opens, part_piece, more_at, part_step}
 use Rattle.tally_records.proofs.Values.{field_here}

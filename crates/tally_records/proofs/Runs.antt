@@ -17,7 +17,7 @@ use Rattle.format.proofs.Sheets.Targets.{target_faithful}
 use Rattle.format.proofs.Coding.Oids.{oid_some}
 use Rattle.coding.proofs.Counts.{len_some, len_most, oid_most}
 use Rattle.tally.specs.declared.Sizes.{Sizes}
-use Rattle.tally.specs.declared.Walked.TheVariants.{Good, Bad}
+use Rattle.tally.specs.Pieces.{Good, Bad}
 use Rattle.tally.specs.Meet.{item_sizes, pack_sizes, series_sizes, total, bits, bit_of, weight_of_val, weight_of_target, Few}
 use Rattle.tally.proofs.Bits.{bits_map}
 use Rattle.tally.proofs.Maps.{mapped, run_map, mapped_good, mapped_bad, walked_good, walked_bad}

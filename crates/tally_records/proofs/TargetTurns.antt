@@ -21,13 +21,13 @@ use Rattle.coding.proofs.Rooms.{tail_part}
 use Rattle.items.proofs.Tests.{bind_so, bind_not}
 use Rattle.heads.specs.Meet.{peek}
 use Rattle.heads.proofs.SheetRuns.{target_peek}
-use Rattle.tally.specs.declared.Piece.{Piece}
-use Rattle.tally.specs.declared.Piece.TheVariants as piece
+use Rattle.tally.specs.Pieces.{Piece}
+use Rattle.tally.specs.Pieces as piece
 use Rattle.tally.specs.declared.Sizes.{Sizes}
 use Rattle.tally.specs.declared.stages.Stage.{Stage}
-use Rattle.tally.specs.declared.Walked.{Walked}
-use Rattle.tally.specs.declared.Walked.TheVariants.{Good, Bad}
-use Rattle.tally.specs.Meet.{ended_by, no_sizes, pack_sizes, plus_sizes, total, weight_of_val, weight_of_target, stop_at, later_by, Few, Small, Within}
+use Rattle.tally.specs.Pieces.{Walked}
+use Rattle.tally.specs.Pieces.{Good, Bad}
+use Rattle.tally.specs.Meet.{ended_by, no_sizes, pack_sizes, plus_sizes, total, weight_of_val, weight_of_target, later_by, Few, Small, Within}
 use Rattle.tally.specs.Going.{Going}
 use Rattle.tally.proofs.Walks.{few_more, going_start}
 use Rattle.tally.proofs.Series.{after_not}
@@ -73,18 +73,16 @@ module _ (f : Form) (seen u : List ℕ) (i : ℕ) (k : TargetStood f seen u i) w
 -- ---- the turn
 
 module _ (f : Form) {s : List ℕ} {q : Stage} (g : TargetsFrom f s q) (h : q.at < length s) (o : is TG (drop q.at s) ≡ true) {a : Piece} (ea : IsTarget s q.at q.top q.low a) where
-  pub head_fault : {n : ℕ} {r : Walked} → a ≡ piece.Fault n → r ≡ stop_at q.at a → (r ≡ targets_walk f s) × Within r (length s)
+  pub head_fault : {n : ℕ} {r : Walked} → a ≡ piece.Fault n → r ≡ Bad n q.at → (r ≡ targets_walk f s) × Within r (length s)
   head_fault {n = n} t e =
-      turn_bad g h o n 0 (e ∙ ap (stop_at q.at) t ∙ ap (Bad n) (sym (add-zero q.at))) (target_fault f g.seen (drop q.at s) n (sym t ∙ ea g.seen g.past)) (omega arith)
+      turn_bad g h o n 0 (e ∙ ap (Bad n) (sym (add-zero q.at))) (target_fault f g.seen (drop q.at s) n (sym t ∙ ea g.seen g.past)) (omega arith)
 
 -- a target that the code has found where the walk goes on, in a series of no more bytes than a sheet's
 pub record TargetAt (f : Form) (s : List ℕ) (q : Stage) (id from size small : ℕ) : Type 0 where
   pub going : TargetsFrom f s q
   pub here : q.at < length s
   pub more : is TG (drop q.at s) ≡ true
-  pub it : Piece
-  pub told : IsTarget s q.at q.top q.low it
-  pub whole : it ≡ piece.Whole id from size small
+  pub told : IsTarget s q.at q.top q.low (piece.Whole id from size small)
   pub bytes : Bytes s
   pub most : length s ≤ 65536
 
@@ -93,7 +91,7 @@ module _ {f : Form} {s : List ℕ} {q : Stage} {id from size small : ℕ} (i : T
   here = drop q.at s
 
   stood : TargetStood f i.going.seen here id
-  stood = target_stood f i.going.seen here id from size small (sym i.whole ∙ i.told i.going.seen i.going.past)
+  stood = target_stood f i.going.seen here id from size small (i.told i.going.seen i.going.past)
 
   pub target_room : (q.at + 10 ≤ length s) × (id < 2 ^ 63)
   target_room = (omega (arith, stood.ten, length-drop q.at s), stood.low)

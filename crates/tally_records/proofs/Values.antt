@@ -4,6 +4,7 @@ use Prim.Native.Nat.{ℕ, ◌+◌, ◌-◌, ◌≤◌, ◌<◌}
 use native.Mathlib.Omega.{arith}
 use mathlib.Core.Bool.{Bool, true, false, not, ◌&&◌}
 use mathlib.Core.List.{List, [], ◌∷◌}
+use Rattle.std.proofs.Common.{Result, Ok, Err}
 use lib.ListN.{length, take, drop, length-drop}
 use lib.Seq.{drop-drop, length-take-le}
 use lib.Dec.{eqb}
@@ -17,15 +18,16 @@ use Rattle.format.proofs.Words.Answers.{no_bool, and_both, need_then, ok_inj}
 use Rattle.format.proofs.Table.Values.{short_size, short_keeps}
 use Rattle.format.proofs.Reading.Packets.{same_eq, same_refl}
 use Rattle.coding.proofs.Rooms.{tail_part}
-use Rattle.items.specs.Meet.{answer_of}
+use Rattle.coding.specs.declared.refusals.Refusal.{Refusal}
+use Rattle.coding.specs.Refusals.{number}
+use Rattle.items.specs.Meet.{answered}
 use Rattle.items.proofs.Tests.{bind_so, bind_not, need_so, need_not}
 use Rattle.heads.specs.declared.records.Field.{Field}
-use Rattle.heads.specs.declared.records.Field.TheVariants as fields
 use Rattle.heads.specs.Meet.{Past}
-use Rattle.heads.specs.Records.{field_answer}
+use Rattle.heads.specs.Records.{fields, told_field, field_answer}
 use Rattle.heads.proofs.Heads.{mid_part}
-use Rattle.tally.specs.declared.Piece.{Piece}
-use Rattle.tally.specs.declared.Piece.TheVariants as piece
+use Rattle.tally.specs.Pieces.{Piece}
+use Rattle.tally.specs.Pieces as piece
 use Rattle.tally.proofs.Pieces.{answer_none, answer_some}
 use Rattle.tally_records.specs.Meet.{piece_by, value_whole}
 
@@ -72,19 +74,6 @@ module _ (r : Rule) (v : List ℕ) where
 
 -- ---- the fields
 
--- a field is refused by 17 alone
-need_by : {B X : Type 0} (t : Bool) (m : ℕ) (f : Unit {0} → Ans B) (n p : ℕ) → need t m >>= f ≡ refused n p → (n ≡ m → X) → (f tt ≡ refused n p → X) → X
-unfolding ◌>>=◌ need
-need_by true m f n p e a b = b e
-need_by false m f n p e a b = a (cc)
-
-field_by : (l : Level) (s : List ℕ) (n p : ℕ) → field l s ≡ refused n p → n ≡ 17
-unfolding field
-field_by l s n p e =
-    need_by _ _ _ _ _ e (λ q. q) λ e₁.
-    need_by _ _ _ _ _ e₁ (λ q. q) λ e₂.
-    need_by _ _ _ _ _ e₂ (λ q. q) λ e₃. absurd (let z : ◌≡◌ {A = ℕ} 0 1 = cc in omega arith)
-
 -- the fields of a record u, as they were read
 pub record FieldHere (l : Level) (u : List ℕ) (v : Got Val) : Type 0 where
   pub value_is : v.val.value ≡ take (length v.val.value) (drop 6 u)
@@ -121,30 +110,30 @@ field_ok l u v r k n ek en =
     let w : v.used ≡ 4 + n = h.used_is ∙ ap (λ m. 4 + m) en in
     record { reads = r ∙ λ i. ok (got (record { tag = ek i; value = q i }) (w i)); room = omega (arith, h.room) }
 
-fielded : (l : Level) (u : List ℕ) (k n : ℕ) → fields.Whole k n ≡ field_answer (field l (drop 2 u)) → Fielded l u k n
+fielded : (l : Level) (u : List ℕ) (k n : ℕ) → ok (fields k n) ≡ field_answer (field l (drop 2 u)) → Fielded l u k n
 fielded l u k n e = go (field l (drop 2 u)) refl e
   where
-    go : (x : Ans (Got Val)) → field l (drop 2 u) ≡ x → fields.Whole k n ≡ field_answer x → Fielded l u k n
-    go (ok v) r e = field_ok l u v r k n (cc) (cc)
-    go (refused m q) r e = absurd (let z : ◌≡◌ {A = ℕ} 0 1 = cc in omega arith)
+    go : (x : Ans (Got Val)) → field l (drop 2 u) ≡ x → ok (fields k n) ≡ field_answer x → Fielded l u k n
+    go (ok v) r e = let q : fields k n ≡ fields v.val.tag (length v.val.value) = ok_inj _ _ e in field_ok l u v r k n (sym (ap (λ (x : Field). x.tag) q)) (sym (ap (λ (x : Field). x.size) q))
+    go (refused m q) r e = absurd (cc)
 
-field_fault : (l : Level) (u : List ℕ) (n : ℕ) → fields.Fault n ≡ field_answer (field l (drop 2 u)) → (q : ℕ) × (field l (drop 2 u) ≡ refused 17 q)
+field_fault : (l : Level) (u : List ℕ) (n : ℕ) → refused n 0 ≡ field_answer (field l (drop 2 u)) → field l (drop 2 u) ≡ refused n 0
 field_fault l u n e = go (field l (drop 2 u)) refl e
   where
-    go : (x : Ans (Got Val)) → field l (drop 2 u) ≡ x → fields.Fault n ≡ field_answer x → (q : ℕ) × (field l (drop 2 u) ≡ refused 17 q)
-    go (ok v) r e = absurd (let z : ◌≡◌ {A = ℕ} 0 1 = cc in omega arith)
-    go (refused m q) r e = (q, r ∙ ap (λ k. refused k q) (field_by l (drop 2 u) m q r))
+    go : (x : Ans (Got Val)) → field l (drop 2 u) ≡ x → refused n 0 ≡ field_answer x → field l (drop 2 u) ≡ refused n 0
+    go (ok v) r e = absurd (cc)
+    go (refused m q) r e = let a : m ≡ n = cc in let b : q ≡ 0 = cc in r ∙ rw (a, b)
 
 -- ---- h is the answer on the fields
 
-module _ (u : List ℕ) (l : Level) {h : Field} (eh : h ≡ field_answer (field l (drop 2 u))) where
-  pub value_cut : (f : Form) (seen : List ℕ) {n : ℕ} → h ≡ fields.Fault n → piece.Fault 17 ≡ piece_by value_whole (value_at l f seen u)
+module _ (u : List ℕ) (l : Level) {h : Result Field Refusal} (eh : told_field h ≡ field_answer (field l (drop 2 u))) where
+  pub value_cut : (f : Form) (seen : List ℕ) {x : Refusal} → h ≡ Err x → piece.Fault (number x) ≡ piece_by value_whole (value_at l f seen u)
   unfolding value_at
-  value_cut f seen {n} th = let (q, e) = field_fault l u n (sym th ∙ eh) in ap (piece_by value_whole) (sym (bind_not _ _ 17 q e))
+  value_cut f seen {x} th = ap (piece_by value_whole) (sym (bind_not _ _ (number x) 0 (field_fault l u (number x) (sym (ap told_field th) ∙ eh))))
 
-  module _ {k n : ℕ} (th : h ≡ fields.Whole k n) where
+  module _ {k n : ℕ} (th : h ≡ Ok (fields k n)) where
     read : Fielded l u k n
-    read = fielded l u k n (sym th ∙ eh)
+    read = fielded l u k n (sym (ap told_field th) ∙ eh)
 
     abbrev value : List ℕ
     value = take n (drop 6 u)
@@ -180,26 +169,26 @@ module _ (u : List ℕ) (l : Level) {h : Field} (eh : h ≡ field_answer (field 
         rules_standing = need_so _ _ _ (rw value_size (lt-ltb 0 n (omega (arith, some))))
 
         -- j is the answer on where it stands
-        module _ {j : ℕ} (ej : answer_of j ≡ standing l f seen k true) where
-          pub value_standing : (j ≡ 0 → ⊥) → piece.Fault j ≡ piece_by value_whole (value_at l f seen u)
-          value_standing z = stopped (rules_standing ∙ bind_not _ _ _ 0 (answer_some j ej z))
+        module _ {j : Result (Unit {0}) Refusal} (ej : answered j ≡ standing l f seen k true) where
+          pub value_standing : {x : Refusal} → j ≡ Err x → piece.Fault (number x) ≡ piece_by value_whole (value_at l f seen u)
+          value_standing z = stopped (rules_standing ∙ bind_not _ _ _ 0 (answer_some ej z))
 
-          module _ (z : j ≡ 0) {rule : Rule} (er : rule ≡ rule_of l k) where
+          module _ (z : j ≡ Ok tt) {rule : Rule} (er : rule ≡ rule_of l k) where
             rules_valued : {a : Ans (Unit {0})} → a ≡ valued rule (take (6 + n - 6) (drop 6 u)) → rules ≡ a
-            rules_valued e = rules_standing ∙ bind_so _ _ tt (answer_none j ej z) ∙ sym (rw (mid_part, er) at e)
+            rules_valued e = rules_standing ∙ bind_so _ _ tt (answer_none ej z) ∙ sym (rw (mid_part, er) at e)
 
             -- m is the answer on the value
-            module _ {m : ℕ} (em : answer_of m ≡ valued rule (take (6 + n - 6) (drop 6 u))) where
-              pub value_valued : (m ≡ 0 → ⊥) → piece.Fault m ≡ piece_by value_whole (value_at l f seen u)
-              value_valued y = stopped (rules_valued em ∙ answer_some m refl y)
+            module _ {m : Result (Unit {0}) Refusal} (em : answered m ≡ valued rule (take (6 + n - 6) (drop 6 u))) where
+              pub value_valued : {x : Refusal} → m ≡ Err x → piece.Fault (number x) ≡ piece_by value_whole (value_at l f seen u)
+              value_valued y = stopped (rules_valued em ∙ answer_some refl y)
 
               -- b is the size of its shortest form
-              module _ (y : m ≡ 0) {b : ℕ} (eb : b ≡ length (short rule (take (6 + n - 6) (drop 6 u)))) where
+              module _ (y : m ≡ Ok tt) {b : ℕ} (eb : b ≡ length (short rule (take (6 + n - 6) (drop 6 u)))) where
                 short_is : b ≡ length (short (rule_of l k) value)
                 short_is = rw (mid_part, er) at eb
 
                 ruled : value_at l f seen u ≡ shortest
-                ruled = value_rules ∙ bind_so _ _ tt (rules_valued em ∙ ap answer_of y)
+                ruled = value_rules ∙ bind_so _ _ tt (rules_valued em ∙ ap answered y)
 
                 pub value_long : (b ≡ n → ⊥) → piece.Fault 17 ≡ piece_by value_whole (value_at l f seen u)
                 value_long d = sym (ap (piece_by value_whole) (ruled ∙ need_not _ _ _ (not_short (rule_of l k) value (λ q. d (short_is ∙ q ∙ value_size)))))

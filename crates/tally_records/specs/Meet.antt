@@ -8,10 +8,10 @@ use Rattle.format.specs.Run.{Step, run}
 use Rattle.format.specs.Sheet.{Val, Part, one, targets, tag_of_part, id_of_target, IT, TS, TG, TI, is, value_at, target_at, part_at}
 use Rattle.items.specs.Meet.{level_of}
 use Rattle.heads.specs.Meet.{peek, Past}
-use Rattle.tally.specs.declared.Piece.{Piece}
-use Rattle.tally.specs.declared.Piece.TheVariants as piece
+use Rattle.tally.specs.Pieces.{Piece}
+use Rattle.tally.specs.Pieces as piece
 use Rattle.tally.specs.declared.Sizes.{Sizes}
-use Rattle.tally.specs.declared.Walked.{Walked}
+use Rattle.tally.specs.Pieces.{Walked}
 use Rattle.tally.specs.Meet.{series_sizes, total, weight_of_val, weight_of_target, walked_of, bit_of}
 
 -- ---- one record: what was read, or the refusal's number

@@ -16,10 +16,7 @@ use tally::stages::Stage;
 pub fn goes_on(s: &[u8], p: usize, set: bool) -> bool
     ensures { result ≡ more_at (level_of set) (drop p s.now) }
 {
-    if set {
-        return true;
-    }
-    records::is_mark(s, p, records::TI)
+    set || records::is_mark(s, p, records::TI)
 }
 
 // Where a walk goes on after one more with this tag or id, of these sizes: it takes as many bytes as it adds to the sheet.

@@ -22,8 +22,7 @@ use Rattle.format.proofs.Words.Answers.{bind_then}
 use Rattle.format.proofs.Demands.Demand1.{numbered}
 use Rattle.format.proofs.Demands.Demand2.{packed_then, write_then, normal}
 use Rattle.format.proofs.Demands.Sizes.{sizes}
-use Rattle.answers.specs.declared.Answer.{Answer}
-use Rattle.answers.specs.Meet.{left_of}
+use Rattle.answers.specs.Meet.{Answer, left_of}
 use Rattle.answers.proofs.Results.{call_refused}
 
 -- a packet that is written is within its limit

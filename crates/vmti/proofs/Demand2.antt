@@ -20,7 +20,7 @@ use Rattle.format.proofs.Sheets.Sheets.{sheet_says, sheet_back}
 use Rattle.format.proofs.Demands.Accepted.{read_is, read_then}
 use Rattle.format.proofs.Demands.Demand1.{numbered}
 use Rattle.format.proofs.Demands.Demand2.{normal_is, normal, write_then, sheet_again}
-use Rattle.answers.specs.declared.Answer.{Answer}
+use Rattle.answers.specs.Meet.{Answer}
 use Rattle.answers.specs.Calls.{Reads, Writes, Normalises}
 use Rattle.answers.proofs.Results.{one_result}
 use Rattle.vmti.specs.Demand2.{Reading, Normalising, Fits, Writing, Demand2}

@@ -13,7 +13,7 @@ use Rattle.format.specs.Demands.Demand3 as Definitions
 use Rattle.format.specs.Demands.Kept.{Kept}
 use Rattle.format.proofs.Demands.Demand1.{numbered}
 use Rattle.format.proofs.Demands.Demand3.{demand_3}
-use Rattle.answers.specs.declared.Answer.{Answer}
+use Rattle.answers.specs.Meet.{Answer}
 use Rattle.answers.specs.Calls.{Edits}
 use Rattle.answers.specs.Given.{written}
 use Rattle.vmti.specs.Demand3.{Editing, Edited, Demand3}

@@ -6,7 +6,7 @@ use Rattle.format.specs.Table.{Form}
 use Rattle.edit_rules.specs.declared.Change as told
 use Rattle.edit_rules.specs.declared.Asked.{Asked}
 use Rattle.edit_rules.specs.Meet.{changes_of, two_of, asked_holder}
-use Rattle.answers.specs.declared.Answer.{Answer}
+use Rattle.answers.specs.Meet.{Answer}
 use Rattle.answers.specs.Calls.{Edits}
 use Rattle.vmti.specs.Meet.{holder_named, asked_by}
 

@@ -22,8 +22,7 @@ use Rattle.format.proofs.Sheets.Content.{content_valid}
 use Rattle.format.proofs.Demands.Accepted.{read_is}
 use Rattle.format.proofs.Demands.Demand1.{numbered}
 use Rattle.format.proofs.Demands.Targets.{add_demand, drop_demand, from_other}
-use Rattle.answers.specs.declared.Answer.{Answer}
-use Rattle.answers.specs.Meet.{left_of}
+use Rattle.answers.specs.Meet.{Answer, left_of}
 use Rattle.answers.specs.Calls.{Reads, Adds, Drops}
 use Rattle.answers.specs.Given.{Given, Accepted, written}
 use Rattle.answers.proofs.Given.{by_room, given, refusing, accepted_only, wrote, one_left}

@@ -3,7 +3,7 @@
 use Rattle.std.specs.Prelude.{List, ℕ, length}
 use Rattle.format.specs.Table.{Form}
 use Rattle.format.specs.Edit.{Holder, Changes}
-use Rattle.answers.specs.declared.Answer.{Answer}
+use Rattle.answers.specs.Meet.{Answer}
 use Rattle.answers.specs.Given.{Answered}
 use Rattle.answers.specs.Calls.{Reads, Writes, Normalises, Edits, Adds, Drops}
 

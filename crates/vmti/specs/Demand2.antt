@@ -7,7 +7,7 @@ use Rattle.format.specs.Table.{Form}
 use Rattle.format.specs.Sheet.{Sheet, content, form_of, sheet_bytes}
 use Rattle.format.specs.Calls.{packet_of, read, write}
 use Rattle.format.specs.Valid.{Lies, SheetValid}
-use Rattle.answers.specs.declared.Answer.{Answer}
+use Rattle.answers.specs.Meet.{Answer}
 use Rattle.answers.specs.Given.{Given, Refusing, Accepted, written}
 use Rattle.answers.specs.Calls.{Reads, Writes, Normalises}
 

@@ -6,8 +6,7 @@ use Rattle.format.specs.Sheet.{content, sheet_bytes}
 use Rattle.format.specs.Edit.{Holder, Changes, edit_sheet}
 use Rattle.format.specs.Demands.Demand3.{Why, Distinct, Changed, Allowed}
 use Rattle.format.specs.Demands.Kept.{Kept}
-use Rattle.answers.specs.declared.Answer.{Answer}
-use Rattle.answers.specs.Meet.{answer_of}
+use Rattle.answers.specs.Meet.{Answer, answer_of}
 use Rattle.answers.specs.Given.{Given, Accepted, written}
 use Rattle.answers.specs.Calls.{Writes, Normalises, Edits}
 

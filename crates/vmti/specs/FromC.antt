@@ -6,8 +6,7 @@ use Rattle.format.specs.Table.{Form}
 use Rattle.format.specs.Calls.{read, write, normalise}
 use Rattle.format.specs.Edit.{Holder, Changes, edit}
 use Rattle.format.specs.Targets.{add_target, drop_target}
-use Rattle.answers.specs.declared.Answer.{Answer}
-use Rattle.answers.specs.Meet.{answer_of}
+use Rattle.answers.specs.Meet.{Answer, answer_of}
 use Rattle.answers.specs.Calls.{Reads, Writes, Normalises, Edits, Adds, Drops}
 use Rattle.vmti.specs.Meet.{Returns}
 

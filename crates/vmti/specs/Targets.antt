@@ -8,8 +8,7 @@ use Rattle.format.specs.Sheet.{Target, content, target_bytes, sheet_bytes}
 use Rattle.format.specs.Targets.{TargetChange, added, dropped, targets_in, change_sheet}
 use Rattle.format.specs.Valid.{TargetValid, Lies}
 use Rattle.format.specs.Demands.Targets.{TargetKept, TargetChanged, WhyAdd, WhyDrop, recounted_sheet}
-use Rattle.answers.specs.declared.Answer.{Answer}
-use Rattle.answers.specs.Meet.{answer_of}
+use Rattle.answers.specs.Meet.{Answer, answer_of}
 use Rattle.answers.specs.Given.{Given, Accepted, written}
 use Rattle.answers.specs.Calls.{Reads, Writes, Normalises, Adds, Drops}
 

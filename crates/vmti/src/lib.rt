@@ -5,11 +5,12 @@ ghost use Rattle.std.specs.Prelude.{◌≡◌, ◌+◌, ◌*◌, ◌≤◌, [], 
 ghost use Rattle.format.specs.Calls as Calls;
 ghost use Rattle.format.specs.Edit as Edit;
 ghost use Rattle.format.specs.Targets as Targets;
+ghost use Rattle.answers.specs.Meet.{answer};
 ghost use Rattle.vmti.specs.Meet.{Returns, form_named, holder_named, change_named, change_told, asked_by};
 
 use add_drop::adding::add_target;
 use add_drop::dropping::drop_target;
-use answers::Answer;
+use coding::refusals::Fault;
 use edit::edit;
 use edit::two::edit_two;
 use edit_rules::{Asked, Change};
@@ -18,11 +19,14 @@ use read::read;
 use write::write;
 
 // 256 times the place or count, plus the refusal's number.
-fn one_number(a: Answer) -> u64
-    requires { (a.number ≤ 20) × (a.place ≤ 65536) }
-    ensures { result ≡ 256 * a.place + a.number }
+fn one_number(told: Result<usize, Fault>) -> u64
+    requires { ((answer told).number ≤ 20) × ((answer told).place ≤ 65536) }
+    ensures { result ≡ 256 * (answer told).place + (answer told).number }
 {
-    256 * (a.place as u64) + a.number
+    match told {
+        Ok(count) => 256 * (count as u64),
+        Err(fault) => 256 * (fault.place as u64) + fault.refusal.number(),
+    }
 }
 
 // Form 0 is embedded, any other number standalone.

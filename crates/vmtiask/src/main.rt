@@ -1,56 +1,78 @@
-// Answers questions on standard input, locate and show, each in a frame. docs/QUESTIONS.md has the format. Numbers go in and out as bytes, and each
-// function is short: what the check of a function costs grows with its statements times its variables.
+// Answers questions on standard input, locate and show, each in a frame. docs/QUESTIONS.md has the format.
 #![tactic(auto)]
 
 ghost use Rattle.std.specs.Prelude.{◌≤◌, false, ◌≡◌, length};
 
-// The standard streams, by number.
+// The standard streams, by number: std's would rest the program on one more C function.
 const INPUT: i32 = 0;
 
 const OUTPUT: i32 = 1;
 
-// The kinds of a question.
-const LOCATE: u64 = 0x4C;
+// What may be asked.
+#[derive(Clone, Copy)]
+enum Kind {
+    Locate,
+    Show,
+}
 
-const SHOW: u64 = 0x53;
+impl TryFrom<u64> for Kind {
+    type Error = End;
 
-// Why no question follows; 0 as long as one may.
-const END: u64 = 1;
+    fn try_from(byte: u64) -> Result<Kind, End> {
+        match byte {
+            0x4C => Ok(Kind::Locate),
+            0x53 => Ok(Kind::Show),
+            _ => Err(End::UnknownKind),
+        }
+    }
+}
 
-const CUT_OFF: u64 = 2;
+// Why no question follows.
+#[derive(Clone, Copy)]
+enum End {
+    Ended,
+    CutOff,
+    TooLong,
+    UnknownKind,
+}
 
-const TOO_LONG: u64 = 3;
-
-const UNKNOWN: u64 = 4;
+impl End {
+    fn number(self) -> u64 {
+        match self {
+            End::Ended => 1,
+            End::CutOff => 2,
+            End::TooLong => 3,
+            End::UnknownKind => 4,
+        }
+    }
+}
 
 // A number, eight bytes.
 fn number(n: u64) {
-    let mut out = [0u8; 8];
-    stores::put_number(&mut out, 0, n, 8);
-    io::write_all(OUTPUT, &out);
+    io::write_all(OUTPUT, &n.to_be_bytes());
 }
 
 // Every number of a table, in one write.
 fn numbers(table: &[u64])
     requires { length table.now ≤ 16384 }
 {
-    let mut out = [0u8; 131072];
-    let mut to: usize = 0;
-    let mut i: usize = 0;
-    while i < table.len() {
-        to = stores::put_number(&mut out, to, table[i], 8);
-        i += 1;
+    let mut bytes = [0u8; 131072];
+    for (room, n) in bytes.chunks_exact_mut(8).zip(table) {
+        room.copy_from_slice(&n.to_be_bytes());
     }
-    io::write_all(OUTPUT, &out[..to]);
+    io::write_all(OUTPUT, &bytes[..8 * table.len()]);
 }
 
 // The answer to locate: its number and place or count, then the whole table, written or not.
 fn located(packet: &[u8], alone: bool, table: &mut [u64])
     requires { length table.old ≤ 16384 }
 {
-    let a = locate::locate_numbers(packet, alone, table);
-    number(a.number);
-    number(a.place as u64);
+    let (why, place) = match locate::locate_numbers(packet, alone, table) {
+        Ok(count) => (0, count),
+        Err(fault) => (fault.refusal.number(), fault.place),
+    };
+    number(why);
+    number(place as u64);
     numbers(table);
 }
 
@@ -59,33 +81,7 @@ fn located_of(packet: &[u8], alone: bool, room: usize)
     requires { room ≤ 4096 }
 {
     let mut table = [7u64; 16384];
-    let end = 4 * room;
-    located(packet, alone, &mut table[..end]);
-}
-
-// The answer to show: whose packet, the offset and size of the part, and its bytes.
-fn shown<'a>(reviewer: &'a [u8], detector: &'a [u8], alone: bool, set: bool, id: u64, tag: u64) {
-    let p = show::shown(reviewer, detector, alone, set, id, tag);
-    number(p.detectors as u64);
-    number(p.offset as u64);
-    number(p.size as u64);
-    io::write_all(OUTPUT, show::show(reviewer, detector, alone, set, id, tag));
-}
-
-// The number that the next bytes spell; those that the input has no more are as they were.
-fn spelled_in(bytes: &mut [u8]) -> u64
-    requires { length bytes.old ≤ 8 }
-{
-    io::read_full(INPUT, bytes);
-    coding::number_of(bytes, bytes.len())
-}
-
-// The number that the next k bytes spell, as if 0 followed the input.
-fn number_in(k: usize) -> u64
-    requires { k ≤ 8 }
-{
-    let mut bytes = [0u8; 8];
-    spelled_in(&mut bytes[..k])
+    located(packet, alone, &mut table[..4 * room]);
 }
 
 // What heads a frame.
@@ -101,6 +97,27 @@ struct Head {
     detectors: usize,
 }
 
+// The answer to show: whose packet, the offset and size of the part, and its bytes.
+fn shown(reviewer: &[u8], detector: &[u8], head: Head) {
+    let part = show::shown(reviewer, detector, head.alone, head.set, head.id, head.tag);
+    number(u64::from(part.detectors));
+    number(part.offset as u64);
+    number(part.size as u64);
+    io::write_all(
+        OUTPUT,
+        show::show(reviewer, detector, head.alone, head.set, head.id, head.tag),
+    );
+}
+
+// The number that the next k bytes spell; those that the input has no more are 0.
+fn number_in(k: usize) -> u64
+    requires { k ≤ 8 }
+{
+    let mut bytes = [0u8; 8];
+    io::read_full(INPUT, &mut bytes[8 - k..]);
+    u64::from_be_bytes(bytes)
+}
+
 fn head_in() -> Head {
     Head {
         kind: number_in(1),
@@ -114,66 +131,56 @@ fn head_in() -> Head {
     }
 }
 
-fn is_long(room: usize, reviewers: usize, detectors: usize) -> bool
-    ensures { result ≡ false → (room ≤ 4096) × (reviewers ≤ 16384) × (detectors ≤ 16384) }
-{
-    if 4096 < room {
-        return true;
+impl Head {
+    fn is_long(self) -> bool
+        ensures { result ≡ false → (self.room ≤ 4096) × (self.reviewers ≤ 16384) × (self.detectors ≤ 16384) }
+    {
+        4096 < self.room || 16384 < self.reviewers || 16384 < self.detectors
     }
-    if 16384 < reviewers {
-        return true;
-    }
-    16384 < detectors
 }
 
 // The answer to a question. The detector's packet follows the reviewer's; locate is asked of the reviewer's.
-fn answered(h: Head, packets: &[u8]) -> u64
-    requires { (h.reviewers ≤ length packets.now) × (h.room ≤ 4096) }
+fn answered(head: Head, packets: &[u8]) -> Result<(), End>
+    requires { (head.reviewers ≤ length packets.now) × (head.room ≤ 4096) }
 {
-    let n = h.reviewers;
-    if h.kind == LOCATE {
-        located_of(&packets[..n], h.alone, h.room);
-        return 0;
+    let (reviewer, detector) = packets.split_at(head.reviewers);
+    match Kind::try_from(head.kind)? {
+        Kind::Locate => located_of(reviewer, head.alone, head.room),
+        Kind::Show => shown(reviewer, detector, head),
     }
-    if h.kind == SHOW {
-        shown(&packets[..n], &packets[n..], h.alone, h.set, h.id, h.tag);
-        return 0;
-    }
-    UNKNOWN
+    Ok(())
 }
 
-// The packets, and the kind once more: where the input ended before, that is not there.
-fn packets_in(h: Head, packets: &mut [u8]) -> u64
-    requires { (h.reviewers ≤ length packets.old) × (h.room ≤ 4096) }
-{
-    io::read_full(INPUT, packets);
-    if number_in(1) != h.kind {
-        return CUT_OFF;
-    }
-    answered(h, packets)
-}
-
-// One question.
-fn question() -> u64 {
+// One question: what heads it, the packets, and the kind once more. Where the input ended before, that is not there.
+fn question() -> Result<(), End> {
     let mut packets = [0u8; 32768];
-    let h = head_in();
-    if h.kind == 0 {
-        return END;
+    let head = head_in();
+    if head.kind == 0 {
+        return Err(End::Ended);
     }
-    if is_long(h.room, h.reviewers, h.detectors) {
-        return TOO_LONG;
+    if head.is_long() {
+        return Err(End::TooLong);
     }
-    let size = h.reviewers + h.detectors;
-    packets_in(h, &mut packets[..size])
+    let packets = &mut packets[..head.reviewers + head.detectors];
+    io::read_full(INPUT, packets);
+    if number_in(1) != head.kind {
+        return Err(End::CutOff);
+    }
+    answered(head, packets)
 }
 
-// A proved loop has to end, and nothing says that the input does: it counts its turns down from a number that no run uses up.
-fn main() {
-    let mut turns = u64::MAX;
-    let mut why: u64 = 0;
-    while turns > 0 && why == 0 {
-        why = question();
-        turns -= 1;
+// A proved loop has to end, and nothing says that the input does: it counts its turns, and no run uses them up.
+fn questions() -> Result<(), End> {
+    for _ in 0..u64::MAX {
+        question()?;
     }
+    Ok(())
+}
+
+fn main() {
+    let why = match questions() {
+        Ok(()) => 0,
+        Err(end) => end.number(),
+    };
     number(why);
 }

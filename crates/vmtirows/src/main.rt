@@ -3,7 +3,10 @@
 
 ghost use Rattle.std.specs.Prelude.{◌*◌, ◌≤◌, length};
 
-// The standard streams, by number.
+use coding::refusals::Fault;
+use write_rows::table::{Row, row_at};
+
+// The standard streams, by number: std's would rest the program on one more C function.
 const INPUT: i32 = 0;
 
 const OUTPUT: i32 = 1;
@@ -14,10 +17,10 @@ fn number(n: u64, after: &[u8]) {
     io::write_all(OUTPUT, after);
 }
 
-fn refused(number_of: u64, place: usize) {
+fn refused(fault: Fault) {
     io::write_all(OUTPUT, b"refused ");
-    number(number_of, b" ");
-    number(place as u64, b"\n");
+    number(fault.refusal.number(), b" ");
+    number(fault.place as u64, b"\n");
 }
 
 fn form(alone: bool) {
@@ -28,38 +31,34 @@ fn form(alone: bool) {
     }
 }
 
-fn row(r: &[u64])
-    requires { 4 ≤ length r.now }
-{
-    number(r[0], b" ");
-    number(r[1], b" ");
-    number(r[2], b" ");
-    number(r[3], b"\n");
+fn row(r: Row) {
+    number(r.target, b" ");
+    number(r.tag, b" ");
+    number(r.offset, b" ");
+    number(r.size, b"\n");
 }
 
 // Four numbers to a row.
 fn rows(table: &[u64], count: usize)
     requires { 4 * count ≤ length table.now }
 {
-    let mut i: usize = 0;
-    while i < count {
-        row(&table[4 * i..]);
-        i += 1;
+    for i in 0..count {
+        row(row_at(table, i));
     }
 }
 
 fn report(packet: &[u8]) {
     let mut table = [0u64; 16384];
     let alone = coding::has_key(packet);
-    let a = locate::locate_numbers(packet, alone, &mut table);
-    if a.number != 0 {
-        refused(a.number, a.place);
-        return;
+    match locate::locate_numbers(packet, alone, &mut table) {
+        Ok(count) => {
+            form(alone);
+            number(packet.len() as u64, b" ");
+            number(count as u64, b"\n");
+            rows(&table, count);
+        }
+        Err(fault) => refused(fault),
     }
-    form(alone);
-    number(packet.len() as u64, b" ");
-    number(a.place as u64, b"\n");
-    rows(&table, a.place);
 }
 
 fn main() {

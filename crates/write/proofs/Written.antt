@@ -1,10 +1,12 @@
 -- The call `write`, case by case: a refusal, a packet over its limit, too little room, and the packet written.
 use mathlib.Core.Path.{◌≡◌, refl, sym, ap, ◌∙◌}
-use Prim.Native.Nat.{ℕ, ◌-◌, ◌≤◌}
+use Prim.Native.Nat.{ℕ, ◌+◌, ◌-◌, ◌≤◌, ◌<◌}
 use native.Mathlib.Omega.{arith}
 use mathlib.Core.Bool.{Bool, true}
-use mathlib.Core.List.{List, map}
+use mathlib.Core.List.{List, [], map}
 use lib.ListN.{length, take, drop, length-drop}
+use lib.Seq.{sets}
+use borrow.Rule.Slice.PartMut.{put_mid}
 use Rattle.format.specs.Answer.{Ans, ok, refused}
 use Rattle.format.specs.Coding.{Bytes}
 use Rattle.format.specs.Lists.{flat_all}
@@ -18,18 +20,18 @@ use Rattle.items.specs.Meet.{form_of}
 use Rattle.items.proofs.Tests.{bind_so, bind_not}
 use Rattle.coding.proofs.Rooms.{tail_part}
 use Rattle.tally.specs.Meet.{total, weight_of_part}
-use Rattle.check_sheet.specs.declared.Sheeted.{Sheeted}
-use Rattle.check_sheet.specs.declared.Sheeted.TheVariants.{Fine, Wrong}
+use Rattle.check_sheet.specs.Sheets.{Sheeted, Fine, Wrong}
 use Rattle.check_sheet.specs.Meet.{sheeted_of}
 use Rattle.check_sheet.proofs.Sizings.{packet_large, inner_less}
-use Rattle.frames.specs.Meet.{frame_size}
+use Rattle.stores.proofs.Puts.{Puts}
+use Rattle.frames.specs.Meet.{frame_size, open_bytes, seal_bytes}
 use Rattle.write_packet.specs.Meet.{records_normal}
-use Rattle.write_packet.specs.Writing.{RecordsAsked}
+use Rattle.write_packet.specs.Writing.{RecordsAsked, RecordsLeft}
 use Rattle.write_packet.proofs.Sheet.{SheetRead, sheet_read, packet_whole, parts_ran, inner_parts}
-use Rattle.answers.specs.declared.Answer.{Answer}
-use Rattle.answers.specs.Meet.{left_of}
+use Rattle.answers.specs.Meet.{Answer, left_of, answer_of}
 use Rattle.answers.proofs.Leaving.{left_refused}
-use Rattle.answers.proofs.Packing.{Packs}
+use Rattle.answers.proofs.Framed.{Fits, open_asked, rest_from, rest_room, entries_end, close_asked, all_written}
+use Rattle.answers.proofs.Packing.{Packs, packs_long, packs_short, packs_fit, packs_done, entries_small}
 use Rattle.write.specs.Meet.{sheet_refusal}
 
 same_form : (f : Form) → form_of (is_alone f) ≡ f
@@ -120,3 +122,51 @@ module _ {s : List ℕ} (w : FoundFine s) where
       h,
       omega (arith, ap length written_is, entries),
     )
+
+-- ---- the same at the places of the code: found fine, its size known, within the limit, with room, opened, and with its entries written
+
+module _ (s : List ℕ) {a : Bool} {n i : ℕ} (e : Fine a n i ≡ sheeted_of (unsheet s)) (b : Bytes s) where
+  abbrev pub it : FoundFine s
+  it = record { said = _; alone = a; normal = n; inner = i; meets = e; bytes = b; told = refl }
+
+  pub size_asked : n ≤ 1048576
+  size_asked = write_large it
+
+  pub parts_begin : 3 ≤ length s
+  parts_begin = parts_from it
+
+  module _ {size : ℕ} (ez : size ≡ frame_size (form_of a) n) (lent : List ℕ) where
+    packs : Packs (write s) (form_of a) (es it) n size
+    packs = write_packs it ez
+
+    pub over_limit : 8192 < size → {r : Answer} → r ≡ answer_of 1 0 → left_of r lent ≡ leaves lent (write s)
+    over_limit h er = packs_long packs lent h er
+
+    module _ (small : size ≤ 8192) where
+      pub no_room : length lent < size → {r : Answer} → r ≡ answer_of 16 size → left_of r lent ≡ leaves lent (write s)
+      no_room h er = packs_short packs lent small h er
+
+      module _ (room : size ≤ length lent) where
+        fits : Fits (form_of a) (es it) lent n size
+        fits = packs_fit packs lent small room
+
+        pub opening : (n ≤ 1048576) × (length (open_bytes (form_of a) n) ≤ length lent)
+        opening = open_asked fits
+
+        module _ {k : ℕ} {out : List ℕ} (eo : (k ≡ length (open_bytes (form_of a) n)) × (out ≡ sets lent 0 (open_bytes (form_of a) n))) where
+          pub entries_from : k ≤ length out
+          entries_from = rest_from fits eo
+
+          pub entries_asked : RecordsAsked i true (form_of a) (lent_parts it) (length (take (length out - k) (drop k out)))
+          entries_asked = parts_asked it (entries_small packs lent small) (rest_room fits eo (written_is it))
+
+          module _ {m : ℕ} {o : List ℕ} (left : RecordsLeft i (lent_parts it) (take (length out - k) (drop k out)) m o) where
+            pub entries_to : k + m ≤ 8192
+            entries_to = entries_end fits eo (written_is it) (left _ entries_asked)
+
+            pub closing : (k + m + length (seal_bytes (form_of a) []) ≤ length (put_mid k (length out - k) out o)) × (k + m + length (seal_bytes (form_of a) []) ≤ 8192)
+            closing = close_asked fits eo (written_is it) (left _ entries_asked)
+
+            pub closed_left : {j : ℕ} {last : List ℕ} → Puts (put_mid k (length out - k) out o) (k + m) (seal_bytes (form_of a) (take (k + m) (put_mid k (length out - k) out o))) j last
+                → left_of (answer_of 0 size) last ≡ leaves lent (write s)
+            closed_left p = packs_done packs lent small room (all_written fits eo (written_is it) (left _ entries_asked) p) refl

@@ -15,10 +15,12 @@ use Rattle.format.specs.Packet.{Pack, id_of_pack}
 use Rattle.format.specs.Read.{pack_head, one_pack}
 use Rattle.format.proofs.Words.Bytes.{bytes_drop}
 use Rattle.format.proofs.Reading.Packs.{pack_head_says}
+use Rattle.std.proofs.Common.{Ok, Err}
+use Rattle.coding.specs.declared.refusals.Refusal.{Refusal}
 use Rattle.coding.proofs.Rooms.{tail_part}
 use Rattle.heads.specs.declared.Head.{Head}
-use Rattle.heads.specs.declared.Head.TheVariants as heads
-use Rattle.heads.specs.Meet.{pack_head_of}
+use Rattle.heads.specs.Meet.{pack_head_from, pack_head_of}
+use Rattle.heads.proofs.Heads.{pack_within, pack_some}
 use Rattle.tally.specs.Runs.{Ran, made_of, level_run, series_run}
 use Rattle.tally.proofs.PackTurns.{drop_take}
 use Rattle.tally.proofs.Steps.{PackHere, pack_here, no_head_pack}
@@ -27,19 +29,28 @@ use Rattle.stores.proofs.Puts.{Puts}
 use Rattle.write_laws.proofs.Writing.{Emits, writing_start, writing_done, Next, next_here, next_room, writing_more}
 use Rattle.write_laws.proofs.Entries.{ran, ran_ok}
 
+-- a pack's id lies within its bytes
+pack_body : (s : List ℕ) (h : Head) → ok (pack_head_from h) ≡ pack_head s → Bytes s → h.used ≤ h.size
+pack_body s h e b = let k = pack_head_says s _ b (sym e) in omega (arith, k.id_took.room, k.size_is)
+
+-- where a head that the code read at p ends, with all that it heads
+module _ (s : List ℕ) (p : ℕ) (h : Head) (e : ok (pack_head_from h) ≡ pack_head (take (length s - p) (drop p s))) (l : p < length s) where
+  pub pack_spans : (p + h.width + h.size ≤ length s) × (Bytes s → (0 < h.width) × (h.used ≤ h.size))
+  pack_spans =
+      let e' = rw tail_part at e in
+      (omega (arith, pack_within (drop p s) h e', length-drop p s), λ i. (pack_some (drop p s) h e' (bytes_drop p s i), pack_body (drop p s) h e' (bytes_drop p s i)))
+
 -- from the state σ₀ on
 pub record SeriesWriting (f : Form) (s out₀ out : List ℕ) (p k : ℕ) {S : Type 0} {emit : S → Pack → List ℕ} {next : S → Pack → S} {emits : S → List Pack → List ℕ}
     (law : Emits emit next emits) (σ₀ σ : S) : Type 0 where
   pub writes : Writing always emits id_of_pack (one_pack f) (made_of (emits σ₀) (series_run f s)) s out₀ out σ p k
 
--- the code read a whole head at p
-pub record PackAt (f : Form) (s out₀ out : List ℕ) (p k key used width size : ℕ) {S : Type 0} {emit : S → Pack → List ℕ} {next : S → Pack → S} {emits : S → List Pack → List ℕ}
+-- the code read a head at p
+pub record PackAt (f : Form) (s out₀ out : List ℕ) (p k : ℕ) (h : Head) {S : Type 0} {emit : S → Pack → List ℕ} {next : S → Pack → S} {emits : S → List Pack → List ℕ}
     (law : Emits emit next emits) (σ₀ σ : S) : Type 0 where
   pub going : SeriesWriting f s out₀ out p k law σ₀ σ
   pub here : p < length s
-  pub head : Head
-  pub reads : pack_head_of head ≡ pack_head (take (length s - p) (drop p s))
-  pub whole : head ≡ heads.Whole key used width size
+  pub reads : ok (pack_head_from h) ≡ pack_head (take (length s - p) (drop p s))
   pub bytes : Bytes s
   pub most : length s ≤ 8192
   pub room : length (made_of (emits σ₀) (series_run f s)) ≤ length out₀
@@ -56,41 +67,41 @@ module _ {S : Type 0} {emit : S → Pack → List ℕ} {next : S → Pack → S}
     pub series_done : length s ≤ p → (k ≡ length (made_of (emits σ₀) (series_run f s))) × (out ≡ sets out₀ 0 (made_of (emits σ₀) (series_run f s)))
     series_done h = writing_done law _ _ _ _ _ _ g.writes h
 
-    pack_next : p < length s → Next law _ _ _ _ _ _ g.writes
-    pack_next h = next_here law _ _ _ _ _ _ g.writes h refl
+    pub pack_comes : p < length s → Next law _ _ _ _ _ _ g.writes
+    pack_comes h = next_here law _ _ _ _ _ _ g.writes h refl
 
     -- where a pack stands, the code reads a head
-    pub pack_fault : {X : Type 0} → p < length s → {a : Head} {n : ℕ} → pack_head_of a ≡ pack_head (take (length s - p) (drop p s)) → a ≡ heads.Fault n → X
-    pack_fault h {a = a} e t =
-        let n = pack_next h in
-        no_head_pack f g.writes.seen (drop p s) n.it n.read a (rw tail_part at e) t
+    pub pack_fault : {X : Type 0} → p < length s → (r : Refusal) → pack_head_of (Err r) ≡ pack_head (take (length s - p) (drop p s)) → X
+    pack_fault h r e =
+        let n = pack_comes h in
+        no_head_pack f g.writes.seen (drop p s) n.it n.read (Err r) (rw tail_part at e) refl
 
-  module _ {key used width size : ℕ} (i : PackAt f s out₀ out p k key used width size law σ₀ σ) where
+  module _ {h : Head} (i : PackAt f s out₀ out p k h law σ₀ σ) where
     pub one_pack_lem : Next law _ _ _ _ _ _ i.going.writes
-    one_pack_lem = pack_next i.going i.here
+    one_pack_lem = pack_comes i.going i.here
 
-    pub pack_stands : PackHere f (drop p s) key used width size one_pack_lem.it
-    pack_stands = pack_here f i.going.writes.seen (drop p s) (bytes_drop p s i.bytes) one_pack_lem.it one_pack_lem.read i.head (rw tail_part at i.reads) i.whole
+    pub pack_stands : PackHere f (drop p s) h.key h.used h.width h.size one_pack_lem.it
+    pack_stands = pack_here f i.going.writes.seen (drop p s) (bytes_drop p s i.bytes) one_pack_lem.it one_pack_lem.read (Ok h) (rw tail_part at i.reads) refl
 
-    pub pack_id : key < 2 ^ 63
-    pack_id = (pack_head_says (drop p s) _ (bytes_drop p s i.bytes) (sym (rw tail_part at i.reads) ∙ ap pack_head_of i.whole)).id_range
+    pub pack_id : h.key < 2 ^ 63
+    pack_id = (pack_head_says (drop p s) _ (bytes_drop p s i.bytes) (sym (rw tail_part at i.reads))).id_range
 
-    pub pack_room : (p + width + size ≤ length s) × (0 < width) × (used ≤ size) × (length s ≤ 8192)
+    pub pack_room : (p + h.width + h.size ≤ length s) × (0 < h.width) × (h.used ≤ h.size) × (length s ≤ 8192)
     pack_room = (omega (arith, pack_stands.room, length-drop p s), pack_stands.len, pack_stands.body, i.most)
 
     -- its items, as they are lent
     abbrev pub items_at : List ℕ
-    items_at = take (p + width + size - (p + width + used)) (drop (p + width + used) s)
+    items_at = take (p + h.width + h.size - (p + h.width + h.used)) (drop (p + h.width + h.used) s)
 
-    items_are : items_at ≡ drop used (take size (drop width (drop p s)))
+    items_are : items_at ≡ drop h.used (take h.size (drop h.width (drop p s)))
     items_are =
-        let z : p + width + size - (p + width + used) ≡ size - used = omega arith in
-        rw (z, drop_take used size (drop width (drop p s)), drop-drop used width (drop p s), drop-drop (width + used) p s, ← add_assoc p width used)
+        let z : p + h.width + h.size - (p + h.width + h.used) ≡ h.size - h.used = omega arith in
+        rw (z, drop_take h.used h.size (drop h.width (drop p s)), drop-drop h.used h.width (drop p s), drop-drop (h.width + h.used) p s, ← add_assoc p h.width h.used)
 
-    pub items_long : length items_at ≡ size - used
+    pub items_long : length items_at ≡ h.size - h.used
     items_long =
-        let z : p + width + size - (p + width + used) ≡ size - used = omega arith in
-        length-take-le (p + width + size - (p + width + used)) (drop (p + width + used) s) (rw length-drop (omega (arith, pack_room))) ∙ z
+        let z : p + h.width + h.size - (p + h.width + h.used) ≡ h.size - h.used = omega arith in
+        length-take-le (p + h.width + h.size - (p + h.width + h.used)) (drop (p + h.width + h.used) s) (rw length-drop (omega (arith, pack_room))) ∙ z
 
     pub items_run : level_run pack f items_at ≡ ok pack_stands.entries
     items_run = ap (level_run pack f) items_are ∙ pack_stands.runs
@@ -105,7 +116,7 @@ module _ {S : Type 0} {emit : S → Pack → List ℕ} {next : S → Pack → S}
     pub pack_fits : k + length packed ≤ length out
     pack_fits = next_room law _ _ _ _ _ _ i.going.writes one_pack_lem i.room
 
-    pub pack_more : {k' : ℕ} {out' : List ℕ} → Puts out k packed k' out' → {σ' : S} → σ' ≡ next σ one_pack_lem.it.val → SeriesWriting f s out₀ out' (p + width + size) k' law σ₀ σ'
+    pub pack_more : {k' : ℕ} {out' : List ℕ} → Puts out k packed k' out' → {σ' : S} → σ' ≡ next σ one_pack_lem.it.val → SeriesWriting f s out₀ out' (p + h.width + h.size) k' law σ₀ σ'
     pack_more e es =
         let w = pack_stands in
         record {

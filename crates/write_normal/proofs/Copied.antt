@@ -17,6 +17,7 @@ use Rattle.format.proofs.Words.Bytes.{bytes_drop, Took}
 use Rattle.format.proofs.Coding.Lengths.{length_len}
 use Rattle.format.proofs.Reading.Packs.{PackRead, pack_says}
 use Rattle.format.proofs.Sheets.Same.{items_shrink}
+use Rattle.heads.specs.declared.Head.{Head}
 use Rattle.tally.specs.Meet.{total, weight_of_item}
 use Rattle.tally.specs.Runs.{made_of}
 use Rattle.write_laws.proofs.Writing.{each}
@@ -29,7 +30,7 @@ front_apart : (p : Pack) (t : List ℕ) → flat_pack p ++ t ≡ (len_bytes p.wi
 unfolding flat_pack pack_body
 front_apart p t = simp append_assoc
 
-module _ {f : Form} {s out₀ out : List ℕ} {p k key used width size : ℕ} (i : PackAt f s out₀ out p k key used width size (each pack_normal) tt tt) where
+module _ {f : Form} {s out₀ out : List ℕ} {p k : ℕ} {h : Head} (i : PackAt f s out₀ out p k h (each pack_normal) tt tt) where
   said : Took (flat_pack (one_pack_lem i).it.val) (drop p s) (one_pack_lem i).it.used × PackRead f i.going.writes.seen (one_pack_lem i).it.val
   said = pack_says f i.going.writes.seen (drop p s) (one_pack_lem i).it (bytes_drop p s i.bytes) (one_pack_lem i).read
 
@@ -39,28 +40,28 @@ module _ {f : Form} {s out₀ out : List ℕ} {p k key used width size : ℕ} (i
   items_flat : items_at i ≡ flat_all flat_item (pack_stands i).items
   items_flat =
       let w = pack_stands i in
-      let q : Pack = record { width = width; id = key; items = w.items } in
-      let front : List ℕ = len_bytes width (length (pack_body q)) ++ oid_bytes key in
+      let q : Pack = record { width = h.width; id = h.key; items = w.items } in
+      let front : List ℕ = len_bytes h.width (length (pack_body q)) ++ oid_bytes h.key in
       let items : List ℕ = flat_all flat_item w.items in
       let rest : List ℕ = drop (one_pack_lem i).it.used (drop p s) in
       let z : drop p s ≡ front ++ (items ++ rest) = said.0.bytes ∙ ap (λ x. flat_pack x ++ rest) w.it_is ∙ front_apart q rest in
-      let lf : length front ≡ width + used = length-append (len_bytes width (length (pack_body q))) (oid_bytes key) ∙ ap (λ x. x + length (oid_bytes key)) (length_len width (length (pack_body q))) ∙ ap (λ x. width + x) w.oid in
-      let lb : length (pack_body q) ≡ size = ap (λ x. length (pack_body x)) (sym w.it_is) ∙ w.body_is in
-      let li : length items ≡ p + width + size - (p + width + used) = omega (arith, lb, body_size q, w.oid) in
-      let d : drop (p + width + used) s ≡ items ++ rest
-      = ap (λ x. drop x s) (add_assoc p width used) ∙ sym (drop-drop (width + used) p s) ∙ ap (drop (width + used)) z ∙ drop_at front (items ++ rest) (width + used) lf in
-      ap (take (p + width + size - (p + width + used))) d ∙ take_at items rest _ li
+      let lf : length front ≡ h.width + h.used = length-append (len_bytes h.width (length (pack_body q))) (oid_bytes h.key) ∙ ap (λ x. x + length (oid_bytes h.key)) (length_len h.width (length (pack_body q))) ∙ ap (λ x. h.width + x) w.oid in
+      let lb : length (pack_body q) ≡ h.size = ap (λ x. length (pack_body x)) (sym w.it_is) ∙ w.body_is in
+      let li : length items ≡ p + h.width + h.size - (p + h.width + h.used) = omega (arith, lb, body_size q, w.oid) in
+      let d : drop (p + h.width + h.used) s ≡ items ++ rest
+      = ap (λ x. drop x s) (add_assoc p h.width h.used) ∙ sym (drop-drop (h.width + h.used) p s) ∙ ap (drop (h.width + h.used)) z ∙ drop_at front (items ++ rest) (h.width + h.used) lf in
+      ap (take (p + h.width + h.size - (p + h.width + h.used))) d ∙ take_at items rest _ li
     where
       body_size : (q : Pack) → length (pack_body q) ≡ length (oid_bytes q.id) + length (flat_all flat_item q.items)
       body_size q = unfold pack_body in (length-append (oid_bytes q.id) (flat_all flat_item q.items))
 
   -- n: how many bytes they are in normal form
-  pub items_same : {n : ℕ} → n ≡ (total (weight_of_item pack) (pack_stands i).items).normal → used + n ≡ size → level_normal pack f (items_at i) ≡ items_at i
+  pub items_same : {n : ℕ} → n ≡ (total (weight_of_item pack) (pack_stands i).items).normal → h.used + n ≡ h.size → level_normal pack f (items_at i) ≡ items_at i
   items_same {n = n} e z =
       let w = pack_stands i in
       let normal : List ℕ = flat_all flat_item (map item_of (map (val_of pack) w.items)) in
       let made : level_normal pack f (items_at i) ≡ normal
       = ap (made_of (flat_all (entry_normal pack))) (items_run i) ∙ ap (flat_all (entry_normal pack)) w.entries_are ∙ sym (same_normal w.items) in
       let l : length normal ≡ length (flat_all flat_item w.items)
-      = omega (arith, sym (length-append (oid_bytes key) normal) ∙ body_long key w.items, e, z, items_long i, ap length items_flat) in
+      = omega (arith, sym (length-append (oid_bytes h.key) normal) ∙ body_long h.key w.items, e, z, items_long i, ap length items_flat) in
       made ∙ (items_shrink f w.items items_valid).same l ∙ sym items_flat

@@ -13,8 +13,8 @@ use Rattle.format.specs.Sheet.{val_of, target_of, part_of}
 use Rattle.format.specs.Calls.{item_of, pack_with, pack_of, series_with, entry_of}
 use Rattle.format.specs.Valid.{All}
 use Rattle.tally.specs.declared.Sizes.{Sizes}
-use Rattle.tally.specs.declared.Walked.{Walked}
-use Rattle.tally.specs.declared.Walked.TheVariants.{Good, Bad}
+use Rattle.tally.specs.Pieces.{Walked}
+use Rattle.tally.specs.Pieces.{Good, Bad}
 use Rattle.tally.specs.Meet.{total, bits, bit_of, weight_of_val, weight_of_item, weight_of_entry, walked_of, level_walk}
 use Rattle.tally.specs.Runs.{level_run, made_of}
 use Rattle.tally.proofs.Maps.{total_map}

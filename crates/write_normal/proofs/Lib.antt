@@ -2,4 +2,5 @@ pub mod Forms
 pub mod Copied
 pub mod Pieces
 pub mod Turns
+pub mod Walks
 pub mod Packet

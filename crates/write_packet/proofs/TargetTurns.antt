@@ -2,10 +2,10 @@
 use mathlib.Core.Path.{◌≡◌, refl, sym, ap, ◌∙◌}
 use Prim.Native.Nat.{ℕ, ◌+◌, ◌-◌, ◌^◌, ◌≤◌, ◌<◌}
 use native.Mathlib.Omega.{arith}
-use mathlib.Core.Bool.{true, false}
-use mathlib.Core.List.{List, ◌++◌, map}
-use lib.ListN.{length, take, drop, length-append, length-drop}
-use lib.Seq.{sets, drop-drop, length-sets}
+use mathlib.Core.Bool.{Bool, true, false}
+use mathlib.Core.List.{List, ◌++◌, append_assoc, map}
+use lib.ListN.{length, get_or, take, drop, length-append, length-drop, take-append-drop}
+use lib.Seq.{sets, sets-eq, drop-drop, length-sets, length-take-le}
 use borrow.Rule.Slice.PartMut.{put_mid}
 use Rattle.format.specs.Answer.{ok, got}
 use Rattle.format.specs.Coding.{Bytes, bytes_number, len_width, oid_bytes}
@@ -13,6 +13,7 @@ use Rattle.format.specs.Lists.{flat_all}
 use Rattle.format.specs.Table.{Form, pack}
 use Rattle.format.specs.Sheet.{one, id_of_target, TG, is, target_at}
 use Rattle.format.proofs.Words.Bytes.{bytes_drop}
+use Rattle.std.proofs.Common.{Fits, w8}
 use Rattle.coding.proofs.Counts.{len_some, len_one}
 use Rattle.coding.proofs.Rooms.{tail_part}
 use Rattle.tally.specs.Meet.{total, weight_of_val}
@@ -26,7 +27,7 @@ use Rattle.write_laws.proofs.Writing.{each, writing_begins, none_over, writing_o
 use Rattle.write_laws.proofs.Entries.{ran, ran_ok}
 use Rattle.store_coded.specs.Fronts.{pack_front}
 use Rattle.write_packet.specs.Meet.{used_of, records_run, targets_run, target_normal, part_normal, records_normal, targets_normal}
-use Rattle.write_packet.specs.Writing.{RecordsAsked, Passes, ValsLeft, TargetsAsked}
+use Rattle.write_packet.specs.Writing.{RecordsAsked, Passes, ValsLeft, TargetsAsked, TargetsLeft}
 use Rattle.write_packet.proofs.Steps.{mark_room, TargetHere, target_here, vals_read}
 use Rattle.write_packet.proofs.Forms.{target_normal_lem, vals_normal, no_inner}
 use Rattle.store_coded.proofs.Fronts.{pack_long}
@@ -72,9 +73,6 @@ module _ {f : Form} {s out₀ out : List ℕ} {p k : ℕ} (i : TargetAt f s out�
 
   id_lent_is : id_lent ≡ drop 2 (drop p s)
   id_lent_is = tail_part (p + 2) s ∙ sym (drop-drop 2 p s)
-
-  pub id_asked : (8 ≤ 8) × (8 ≤ length id_lent)
-  id_asked = (omega arith, omega (arith, ap length id_lent_is, length-drop 2 (drop p s), stands.ten))
 
   abbrev vals_lent : List ℕ
   vals_lent = take (length s - (p + 10)) (drop (p + 10) s)
@@ -169,54 +167,32 @@ module _ {f : Form} {s out₀ out : List ℕ} {p k : ℕ} (i : TargetAt f s out�
         pub body_few : w + n ≤ 65536
         body_few = omega (arith, ed.wrote, whole_long, front_long, written_few)
 
-        -- o' is as the target leaves it, but for the head
-        pub record Placed (o' : List ℕ) : Type 0 where
-          pub same : length o' ≡ length out
-          pub whole : sets o' k (pack_front body id) ≡ sets out k written
+        -- behind a longer head they are moved on, and then comes the head
+        pub move_asked : k + 1 + w + (len_width (w + n) - 1) + n ≤ length out₁
+        move_asked = rw ed.wrote (omega (arith, len_some body, parts.fits, whole_long, front_long, early_long))
 
-        placed : {o' : List ℕ} → o' ≡ sets out₁ (k + length (pack_front body id)) normal → Placed o'
-        placed e =
-            let front : List ℕ = pack_front body id in
-            let one : 1 ≤ len_width body = len_some body in
-            record {
-              same = ap length e ∙ length-sets out₁ (k + length front) normal ∙ early_long;
-              whole =
-                  ap (λ x. sets x k front) e
-                  ∙ sets_swap out₁ k front (k + length front) normal (omega arith)
-                  ∙ sym (sets_append out₁ k front normal)
-                  ∙ ap (sets out₁ k) (sym parts.is)
-                  ∙ ap (λ x. sets x k written) early
-                  ∙ sets_under out (k + 1 + w) normal k written (omega arith) (omega (arith, whole_long, front_long, one));
-            }
+        module _ {o' : List ℕ} (eo : o' ≡ sets out₁ (k + 1 + w + (len_width (w + n) - 1)) (take n (drop (k + 1 + w) out₁))) where
+          moved : o' ≡ sets out₁ (k + length (pack_front body id)) normal
+          moved =
+              let at : k + 1 + w + (len_width body - 1) ≡ k + length (pack_front body id) = omega (arith, len_some body, front_long) in
+              let same : take (length normal) (drop (k + 1 + w) out₁) ≡ normal = rw early (stored_reads out (k + 1 + w) normal behind.1) in
+              rw (ed.wrote, same, at) at eo
 
-        -- behind a head of the usual size they stay
-        pub vals_stay : w + n < 128 → Placed out₁
-        vals_stay h =
-            let one : 1 ≡ len_width body = len_one body (omega (arith, ed.wrote)) in
-            let at : k + 1 + w ≡ k + length (pack_front body id) = omega (arith, one, front_long) in
-            placed (early ∙ sym (sets_under out (k + 1 + w) normal (k + 1 + w) normal (omega arith) (omega arith)) ∙ ap (λ x. sets x (k + 1 + w) normal) (sym early) ∙ ap (λ j. sets out₁ j normal) at)
+          moved_long : length o' ≡ length out
+          moved_long = ap length moved ∙ length-sets out₁ (k + length (pack_front body id)) normal ∙ early_long
 
-        -- behind a longer one, whose length has y bytes, they are moved
-        module _ {y : ℕ} (ey : y ≡ len_width (w + n)) where
-          wide : y ≡ len_width body
-          wide = ey ∙ ap (λ j. len_width (w + j)) ed.wrote
+          headed_is : sets o' k (pack_front body id) ≡ sets out k written
+          headed_is =
+              let front : List ℕ = pack_front body id in
+              ap (λ x. sets x k front) moved
+              ∙ sets_swap out₁ k front (k + length front) normal (omega arith)
+              ∙ sym (sets_append out₁ k front normal)
+              ∙ ap (sets out₁ k) (sym parts.is)
+              ∙ ap (λ x. sets x k written) early
+              ∙ sets_under out (k + 1 + w) normal k written (omega arith) (omega (arith, whole_long, front_long, len_some body))
 
-          pub wide_some : 1 ≤ y
-          wide_some = omega (arith, wide, len_some body)
-
-          pub move_asked : k + 1 + w + (y - 1) + n ≤ length out₁
-          move_asked = omega (arith, wide, wide_some, parts.fits, whole_long, front_long, early_long, ed.wrote)
-
-          pub vals_move : {o' : List ℕ} → o' ≡ sets out₁ (k + 1 + w + (y - 1)) (take n (drop (k + 1 + w) out₁)) → Placed o'
-          vals_move e =
-              let at : k + 1 + w + (y - 1) ≡ k + length (pack_front body id) = omega (arith, wide, wide_some, front_long) in
-              let same : take n (drop (k + 1 + w) out₁) ≡ normal = rw (ed.wrote, early) (stored_reads out (k + 1 + w) normal behind.1) in
-              placed (e ∙ ap (sets out₁ (k + 1 + w + (y - 1))) same ∙ ap (λ j. sets out₁ j normal) at)
-
-        -- and then comes the head
-        module _ {o' : List ℕ} (q : Placed o') where
           pub pack_asked : (w + n ≤ 65536) × (id < 2 ^ 63) × (k + length (pack_front (w + n) id) ≤ length o')
-          pack_asked = (body_few, id_low, rw (ed.wrote, q.same) (head_room parts))
+          pack_asked = (body_few, id_low, rw (ed.wrote, moved_long) (head_room parts))
 
           module _ {m : ℕ} {out₂ : List ℕ} (em : Puts o' k (pack_front (w + n) id) m out₂) where
             headed : Puts o' k (pack_front body id) m out₂
@@ -229,5 +205,94 @@ module _ {f : Form} {s out₀ out : List ℕ} {p k : ℕ} (i : TargetAt f s out�
             target_more =
                 let ep : p + 10 + u ≡ p + target.it.used = omega (arith, stands.used_is, used_is) in
                 let ek : m + n ≡ k + length written = omega (arith, headed.0, ed.wrote, whole_long) in
-                let (g, v) = writing_passes (each target_normal) _ _ _ _ _ _ i.going.writes target (omega (arith, stands.used_is)) (omega (arith, ep, target_next)) (headed.1 ∙ q.whole) refl ep ek in
+                let (g, v) = writing_passes (each target_normal) _ _ _ _ _ _ i.going.writes target (omega (arith, stands.used_is)) (omega (arith, ep, target_next)) (headed.1 ∙ headed_is) refl ep ek in
                 record { writes = g; passed = omega (arith, i.going.passed, v, target.passes, ep) }
+
+-- ---- where nothing is to be moved on
+
+stays : (l : List ℕ) (a n : ℕ) → a + n ≤ length l → sets l a (take n (drop a l)) ≡ l
+stays l a n h =
+    let long : length (take n (drop a l)) ≡ n = length-take-le n (drop a l) (rw length-drop (omega arith)) in
+    sets-eq (take n (drop a l)) l a (omega (arith, long))
+    ∙ ap (λ r. take a l ++ take n (drop a l) ++ r) (ap (λ j. drop (a + j) l) long ∙ sym (drop-drop n a l))
+    ∙ append_assoc (take a l) (take n (drop a l)) (drop n (drop a l))
+    ∙ ap (λ r. take a l ++ r) (take-append-drop n (drop a l))
+    ∙ take-append-drop a l
+
+pub none_moved : (l : List ℕ) (a n m : ℕ) → m < 128 → a + (len_width m - 1) + n ≤ length l → sets l (a + (len_width m - 1)) (take n (drop a l)) ≡ l
+none_moved l a n m few h =
+    let one : a + (len_width m - 1) ≡ a = omega (arith, len_one m few) in
+    rw one (stays l a n (omega arith))
+
+-- what the move is proved by
+pub ruleset moves = (none_moved, len_some)
+
+-- ---- the walk over the targets, in a form that they were accepted in, and in whatever other
+
+pub record TargetsGoing (s out₀ out : List ℕ) (p k : ℕ) : Type 0 where
+  pub form : Form
+  pub asked : TargetsAsked form s (length out₀)
+  pub goes : (f : Form) → TargetsAsked f s (length out₀) → TargetsWriting f s out₀ out p k
+  pub same : length out ≡ length out₀
+  pub room : is TG (drop p s) ≡ true → p + 10 ≤ length s
+
+module _ {s out₀ : List ℕ} where
+  targets_go : {out : List ℕ} {p k : ℕ} (f : Form) → TargetsAsked f s (length out₀) → Bytes s
+      → ((f : Form) → TargetsAsked f s (length out₀) → TargetsWriting f s out₀ out p k)
+      → TargetsGoing s out₀ out p k
+  targets_go f a h g = record { form = f; asked = a; goes = g; same = (g f a).writes.same; room = λ m. (target_room (record { going = g f a; more = m; bytes = h; asked = a })).0 }
+
+  pub targets_begin : (f : Form) → TargetsAsked f s (length out₀) → ((i : ℕ) → Fits w8 (get_or s i 0)) → TargetsGoing s out₀ out₀ 0 0
+  targets_begin f a bs = targets_go f a (λ i. (bs i).fits) (λ f a. targets_start a)
+
+  module _ {out : List ℕ} {p k : ℕ} (g : TargetsGoing s out₀ out p k) {x : Bool} (ex : x ≡ is TG (drop p s)) where
+    pub targets_end : x ≡ false → TargetsLeft s out₀ p k out
+    targets_end tx f a = targets_over (g.goes f a) (sym ex ∙ tx)
+
+    -- its id, and its values as they are lent
+    module _ (tx : x ≡ true) (bs : (i : ℕ) → Fits w8 (get_or s i 0)) {id : ℕ} (ei : id ≡ bytes_number (take 8 (take (length s - (p + 2)) (drop (p + 2) s)))) where
+      target_in : (f : Form) → TargetsAsked f s (length out₀) → TargetAt f s out₀ out p k
+      target_in f a = record { going = g.goes f a; more = sym ex ∙ tx; bytes = λ i. (bs i).fits; asked = a }
+
+      target_now : TargetAt g.form s out₀ out p k
+      target_now = target_in g.form g.asked
+
+      pub id_few : id < 2 ^ 63
+      id_few = id_low target_now ei
+
+      module _ {w : ℕ} (ew : (w ≡ length (oid_bytes id)) × (w ≤ 9)) where
+        pub vals_behind : k + 1 + w ≤ length out
+        vals_behind = (behind target_now ei ew).0
+
+        abbrev lent : List ℕ
+        lent = take (length s - (p + 10)) (drop (p + 10) s)
+
+        abbrev tail : List ℕ
+        tail = take (length out - (k + 1 + w)) (drop (k + 1 + w) out)
+
+        pub vals_here : (f : Form) × RecordsAsked 0 false f lent (length tail)
+        vals_here = (g.form, vals_asked target_now ei ew)
+
+        module _ {u n : ℕ} {o : List ℕ} (el : ValsLeft lent tail u n o) where
+          pub vals_end : (p + 10 + u ≤ length s) × (w + n ≤ 65536)
+          vals_end = ((target_next target_now ei ew el).0, body_few target_now ei ew el)
+
+          abbrev behind_it : List ℕ
+          behind_it = put_mid (k + 1 + w) (length out - (k + 1 + w)) out o
+
+          pub move_here : k + 1 + w + (len_width (w + n) - 1) + n ≤ length behind_it
+          move_here = move_asked target_now ei ew el
+
+          module _ {o' : List ℕ} (eo : o' ≡ sets behind_it (k + 1 + w + (len_width (w + n) - 1)) (take n (drop (k + 1 + w) behind_it))) where
+            pub pack_here : (w + n ≤ 65536) × (id < 2 ^ 63) × (k + length (pack_front (w + n) id) ≤ length o')
+            pack_here = pack_asked target_now ei ew el eo
+
+            module _ {m : ℕ} {out₂ : List ℕ} (em : Puts o' k (pack_front (w + n) id) m out₂) where
+              pub pack_ends : m + n ≤ 8192
+              pack_ends = ends_few target_now ei ew el eo em
+
+              pub target_goes : TargetsGoing s out₀ out₂ (p + 10 + u) (m + n)
+              target_goes = targets_go g.form g.asked (λ i. (bs i).fits) (λ f a. target_more (target_in f a) ei ew el eo em)
+
+-- what it is proved by
+pub ruleset target_turns = (targets_begin, target_goes)

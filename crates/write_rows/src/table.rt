@@ -26,13 +26,12 @@ pub fn row_at(numbers: &[u64], k: usize) -> Row
 }
 
 // The first rows, as many as count.
+#[tactic(auto, using(crate::proofs::Filling::row_stored), unfolding(crate::specs::Meet::table_of))]
 pub fn fill_rows(numbers: &[u64], count: usize, rows: &mut [Row])
     requires { (4 * count ≤ length numbers.now) × (count ≤ length rows.old) }
     ensures { rows.new ≡ table_of count numbers.now ++ drop count rows.old }
 {
-    let mut k: usize = 0;
-    while k < count {
+    for k in 0..count {
         rows[k] = row_at(numbers, k);
-        k += 1;
     }
 }

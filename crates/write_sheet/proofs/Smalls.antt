@@ -8,22 +8,24 @@ use lib.ListN.{length, take, drop, get_or, length-drop}
 use lib.Seq.{get_or-drop, get_or-take}
 use lib.Dec.{eqb, leb, ltb}
 use borrow.Author.Tests.{ne_eqb, ltb-true, ltb-false, leb-true, leb-false}
-use Rattle.format.specs.Answer.{refused, ◌>>=◌, need}
+use Rattle.format.specs.Answer.{ok, refused, got, ◌>>=◌, need}
 use Rattle.format.specs.Coding.{Bytes, tag_of, oid, oid_go, len_of}
 use Rattle.format.specs.Lists.{none?}
 use Rattle.format.specs.Table.{Form, Rule, pack, rule_of, is_number, strip, short}
 use Rattle.format.specs.Read.{head_of}
-use Rattle.coding.specs.Code.{num_of}
-use Rattle.coding.specs.declared.Num.TheVariants.{Value, Refused}
+use Rattle.std.proofs.Common.{Err, Fits, w8}
+use Rattle.coding.specs.declared.refusals.Refusal.{Refusal}
+use Rattle.coding.specs.declared.refusals.Refusal.TheVariants.{BadTag, PastEnd}
 use Rattle.coding.proofs.Lens.{len_small}
 use Rattle.coding.proofs.Oid.{tag_one}
 use Rattle.coding.proofs.Rooms.{tail_part}
-use Rattle.heads.specs.declared.Head.TheVariants as heads
+use Rattle.heads.specs.Meet.{head, item_head_of}
 use Rattle.heads.proofs.Heads.{mid_part, item_head_tag, item_head_over, item_head_short}
 use Rattle.stores.proofs.Puts.{Puts}
-use Rattle.write_laws.proofs.Entries.{value_at, value_long, entry_fault, entry_room}
-use Rattle.write_sheet.specs.Meet.{record_of, item_sheet, LevelAsked}
-use Rattle.write_sheet.specs.Quick.{LevelPassed, SmallItem}
+use Rattle.write_laws.proofs.Writing.{each}
+use Rattle.write_laws.proofs.Entries.{level_start, value_at, value_long, entry_fault, entry_room}
+use Rattle.write_sheet.specs.Meet.{record_of, item_sheet, entry_sheet, LevelAsked}
+use Rattle.write_sheet.specs.Quick.{LevelPassed, ItemsPassed, SmallItem}
 use Rattle.write_sheet.proofs.Turns.{LevelSheets, SheetEntry, one_room, one_more}
 
 -- ---- its value is shortest
@@ -79,35 +81,35 @@ module _ {f : Form} {s out₀ out : List ℕ} {p k n : ℕ} (i : Turn f s out₀
   going = record { writes = i.passed }
 
   -- what stands there was accepted: no head is at fault
-  no_fault : {X : Type 0} (m : ℕ) → refused m 0 ≡ head_of pack (drop p s) → X
-  no_fault m e = entry_fault going (omega (arith, q.here)) {a = heads.Fault m} (rw tail_part e) refl
+  no_fault : {X : Type 0} (r : Refusal) → item_head_of (Err r) ≡ head_of pack (drop p s) → X
+  no_fault r e = entry_fault going (omega (arith, q.here)) r (rw tail_part e)
 
   some_tag : 0 < tag
   some_tag = go (ltb 0 tag) refl
     where
       go : (t : Bool) → ltb 0 tag ≡ t → 0 < tag
       go true e = ltb-true 0 tag e
-      go false e = no_fault 4 (item_head_tag (drop p s) {a = Refused 4} (zero_tag (drop p s) (omega (arith, long)) (omega (arith, tag_is, ltb-false 0 tag e))) pack refl refl)
+      go false e = no_fault BadTag (item_head_tag (drop p s) pack (zero_tag (drop p s) (omega (arith, long)) (omega (arith, tag_is, ltb-false 0 tag e))))
 
   fits : 1 + 1 + n ≤ length (drop p s)
   fits = go (leb (1 + 1 + n) (length (drop p s))) refl
     where
-      eb : num_of (Value n 1) ≡ len_of (take (length (drop p s) - 1) (drop 1 (drop p s)))
+      eb : ok (got n 1) ≡ len_of (take (length (drop p s) - 1) (drop 1 (drop p s)))
       eb = rw tail_part (len_small (drop 1 (drop p s)) n size_is (rw length-drop (omega (arith, long))) q.few)
 
       go : (t : Bool) → leb (1 + 1 + n) (length (drop p s)) ≡ t → 1 + 1 + n ≤ length (drop p s)
       go true e = leb-true (1 + 1 + n) (length (drop p s)) e
       go false e =
-          no_fault 6 (item_head_over (drop p s) {a = Value tag 1} (tag_one (drop p s) (omega (arith, long)) tag tag_is q.small some_tag) refl {b = Value n 1} eb refl pack
-          {x = false} refl refl (omega (arith, long)) (omega (arith, leb-false (1 + 1 + n) (length (drop p s)) e)))
+          no_fault PastEnd (
+          item_head_over (drop p s) (tag_one (drop p s) (omega (arith, long)) tag tag_is q.small some_tag) eb pack {x = false} refl refl
+          (omega (arith, leb-false (1 + 1 + n) (length (drop p s)) e))
+          )
 
-  entry : SheetEntry false f s out₀ out p k tag 1 1 n
+  entry : SheetEntry false f s out₀ out p k (head tag 1 1 n)
   entry = record {
     going = going;
     here = omega (arith, q.here);
-    head = heads.Whole tag 1 1 n;
     reads = rw tail_part (item_head_short pack (drop p s) tag n tag_is size_is some_tag q.small q.few fits);
-    whole = refl;
     bytes = i.bytes;
     most = i.asked.few;
     room = i.asked.fits;
@@ -130,11 +132,11 @@ module _ {f : Form} {s out₀ out : List ℕ} {p k n : ℕ} (i : Turn f s out₀
   unfolding item_sheet
   record_is = ap (record_of false tag) (sym value_is ∙ sym (one_kept (rule_of pack tag) (value_at entry) one))
     where
-      head : get_or (value_at entry) 0 0 ≡ get_or s (p + 2) 0
-      head = ap (λ v. get_or v 0 0) (value_is ∙ mid_part (p + 2) n s) ∙ get_or-take n _ 0 0 q.some ∙ get_or-drop (p + 2) s 0 0 ∙ ap (λ j. get_or s j 0) (omega arith)
+      first : get_or (value_at entry) 0 0 ≡ get_or s (p + 2) 0
+      first = ap (λ v. get_or v 0 0) (value_is ∙ mid_part (p + 2) n s) ∙ get_or-take n _ 0 0 q.some ∙ get_or-drop (p + 2) s 0 0 ∙ ap (λ j. get_or s j 0) (omega arith)
 
       one : get_or (value_at entry) 0 0 ≡ 0 → length (value_at entry) ≡ 1
-      one e = value_long entry ∙ q.shortest (sym head ∙ e)
+      one e = value_long entry ∙ q.shortest (sym first ∙ e)
 
   -- x is its tag as the code read it
   module _ {x : ℕ} (ex : x ≡ tag) where
@@ -146,3 +148,40 @@ module _ {f : Form} {s out₀ out : List ℕ} {p k n : ℕ} (i : Turn f s out₀
 
     pub turn_more : {k' : ℕ} {out' : List ℕ} → Puts out k (record_of false x value) k' out' → LevelPassed false f s out₀ out' (p + 2 + n) k'
     turn_more e = rw two at (one_more entry {x = false} refl refl (rw record_read at e)).writes
+
+-- ---- the quick way over a pack's items, in a form that they were accepted in, and in whatever other
+
+pub record ItemsGoing (s out₀ out : List ℕ) (p k : ℕ) : Type 0 where
+  pub form : Form
+  pub asked : LevelAsked pack s (length out₀) form
+  pub goes : ItemsPassed s out₀ out p k
+  pub same : length out ≡ length out₀
+  pub to : p ≤ length s
+
+module _ {s out₀ : List ℕ} where
+  items_go : {out : List ℕ} {p k : ℕ} (f : Form) → LevelAsked pack s (length out₀) f → ItemsPassed s out₀ out p k → ItemsGoing s out₀ out p k
+  items_go f a g = record { form = f; asked = a; goes = g; same = (g f a).same; to = (g f a).to }
+
+  pub items_begin : (f : Form) → LevelAsked pack s (length out₀) f → ItemsGoing s out₀ out₀ 0 0
+  items_begin f a = items_go f a (λ f a. (level_start (each (entry_sheet pack)) false f tt s out₀ a.ran).writes)
+
+  module _ {out : List ℕ} {p k : ℕ} (g : ItemsGoing s out₀ out p k) where
+    pub items_pass : ItemsPassed s out₀ out p k
+    items_pass = g.goes
+
+    module _ {n : ℕ} (q : SmallItem s p n) (bs : (i : ℕ) → Fits w8 (get_or s i 0)) where
+      turn_in : (f : Form) → LevelAsked pack s (length out₀) f → Turn f s out₀ out p k n
+      turn_in f a = record { passed = g.goes f a; glanced = q; bytes = λ i. (bs i).fits; asked = a }
+
+      pub small_spans : (p + 2 + n ≤ length s) × (0 < n)
+      small_spans = let t = turn_fits (turn_in g.form g.asked) in (t.0, t.1)
+
+      module _ (x : ℕ) (ex : x ≡ get_or s p 0) where
+        pub small_room : k + length (record_of false x (take (p + 2 + n - (p + 2)) (drop (p + 2) s))) ≤ length out
+        small_room = turn_room (turn_in g.form g.asked) ex
+
+        pub small_goes : {k' : ℕ} {out' : List ℕ} → Puts out k (record_of false x (take (p + 2 + n - (p + 2)) (drop (p + 2) s))) k' out' → ItemsGoing s out₀ out' (p + 2 + n) k'
+        small_goes e = items_go g.form g.asked (λ f a. turn_more (turn_in f a) ex e)
+
+-- what it is proved by
+pub ruleset small_turns = (items_begin, items_pass, small_spans, small_room, small_goes)

@@ -6,12 +6,13 @@ ghost use Rattle.std.proofs.lemmas.List.Edits.{sets};
 ghost use Rattle.format.specs.Coding.{fixed};
 ghost use Rattle.format.specs.Sheet.{mark_number, mark_of, TG};
 ghost use Rattle.format.specs.Table.{Form, set, pack};
-ghost use Rattle.items.specs.Meet.{level_of, item_table};
+ghost use Rattle.items.specs.Meet.{level_of};
 ghost use Rattle.stores.specs.Puts.{Puts};
 ghost use Rattle.write_sheet.specs.Meet.{record_of, item_sheet, LevelAsked, SeriesAsked, LevelLeft, SeriesLeft};
 ghost use Rattle.write_sheet.specs.Quick.{RestAsked, RestLeft};
 
-use heads::{Head, records};
+use heads::records;
+use items::Table;
 
 // ---- records
 
@@ -23,6 +24,7 @@ fn mark_of(set: bool) -> u64
 }
 
 // An item's record; where it ends.
+#[tactic(auto, using(crate::proofs::Records::record_long, crate::proofs::Records::item_stored))]
 fn put_item(out: &mut [u8], at: usize, set: bool, tag: u64, v: &[u8]) -> usize
     requires { at + length (record_of set tag v.now) ≤ length out.old }
     ensures { Puts out.old at (record_of set tag v.now) result out.new }
@@ -34,14 +36,13 @@ fn put_item(out: &mut [u8], at: usize, set: bool, tag: u64, v: &[u8]) -> usize
 }
 
 // An item's record from its value as it stands in the packet; where it ends. The set's checksum has none.
-fn put_plain(table: &[u32], out: &mut [u8], at: usize, set: bool, tag: u64, v: &[u8]) -> usize
-    requires { (table.now ≡ item_table) × ((0 < length v.now) × (at + length (item_sheet (level_of set) tag v.now) ≤ length out.old)) }
+#[tactic(auto, using(crate::proofs::Records::plain_put))]
+fn put_plain(table: &Table, out: &mut [u8], at: usize, set: bool, tag: u64, v: &[u8]) -> usize
+    requires { (0 < length v.now) × (at + length (item_sheet (level_of set) tag v.now) ≤ length out.old) }
     ensures { Puts out.old at (item_sheet (level_of set) tag v.now) result out.new }
 {
-    if set {
-        if tag == 1 {
-            return at;
-        }
+    if set && tag == 1 {
+        return at;
     }
     let rule = items::rule_of(table, set, tag);
     let n = items::short_size(rule, v);
@@ -49,6 +50,7 @@ fn put_plain(table: &[u32], out: &mut [u8], at: usize, set: bool, tag: u64, v: &
 }
 
 // A target's mark and id; where they end. Most ids have at most two bytes: the zeros before those go with the mark.
+#[tactic(auto, using(crate::proofs::Records::target_stored, crate::proofs::Records::short_target_stored))]
 fn put_target(out: &mut [u8], at: usize, id: u64) -> usize
     requires { at + 10 ≤ length out.old }
     ensures { (result ≡ at + 10) × (out.new ≡ sets out.old at (TG.0 ∷ TG.1 ∷ fixed 8 id)) }
@@ -65,30 +67,24 @@ fn put_target(out: &mut [u8], at: usize, id: u64) -> usize
 
 // The items of a level from a place on, where at bytes of its sheet are written; how many bytes the sheet has.
 #[cycle(pack_items_pack_sheet_rest_sheet)]
-fn rest_sheet(table: &[u32], s: &[u8], from: usize, at: usize, set: bool, out: &mut [u8]) -> usize
-    requires { (table.now ≡ item_table) × ((f : Form) × (o : List ℕ) × RestAsked set s.now out.old from at f o) }
+#[tactic(auto, using(crate::proofs::Turns::rest_turns))]
+fn rest_sheet(table: &Table, s: &[u8], from: usize, at: usize, set: bool, out: &mut [u8]) -> usize
+    requires { (f : Form) × (o : List ℕ) × RestAsked set s.now out.old from at f o }
     ensures { RestLeft set s.now out.old from at result out.new }
 {
     let mut p = from;
     let mut k = at;
     while p < s.len() {
-        let h = heads::item_head(&s[p..], set);
-        let Head::Whole {
-            key,
-            used,
-            width,
-            size,
-        } = h
-        else {
+        let Ok(head) = heads::item_head(&s[p..], set) else {
             return k;
         };
-        let from = p + used + width;
-        let next = from + size;
-        k = if tally::is_series(set, key) {
+        let from = p + head.used + head.width;
+        let next = from + head.size;
+        k = if tally::is_series(set, head.key) {
             let m = stores::put_number(out, k, records::TS, 2);
             m + pack_sheet(table, &s[from..next], &mut out[m..])
         } else {
-            put_plain(table, out, k, set, key, &s[from..next])
+            put_plain(table, out, k, set, head.key, &s[from..next])
         };
         p = next;
     }
@@ -97,8 +93,8 @@ fn rest_sheet(table: &[u32], s: &[u8], from: usize, at: usize, set: bool, out: &
 
 // The items of a pack, the quick way first; how many bytes.
 #[cycle(pack_items_pack_sheet_rest_sheet)]
-fn pack_items(table: &[u32], s: &[u8], out: &mut [u8]) -> usize
-    requires { (table.now ≡ item_table) × ((f : Form) × LevelAsked pack s.now (length out.old) f) }
+fn pack_items(table: &Table, s: &[u8], out: &mut [u8]) -> usize
+    requires { (f : Form) × LevelAsked pack s.now (length out.old) f }
     ensures { LevelLeft pack s.now out.old result out.new }
 {
     let q = quick::small_items(s, out);
@@ -111,27 +107,21 @@ fn pack_items(table: &[u32], s: &[u8], out: &mut [u8]) -> usize
 
 // The packs of a series, the quick way first; how many bytes.
 #[cycle(pack_items_pack_sheet_rest_sheet)]
-pub fn pack_sheet(table: &[u32], s: &[u8], out: &mut [u8]) -> usize
-    requires { (table.now ≡ item_table) × ((f : Form) × SeriesAsked s.now (length out.old) f) }
+#[tactic(auto, using(crate::proofs::Turns::pack_turns))]
+pub fn pack_sheet(table: &Table, s: &[u8], out: &mut [u8]) -> usize
+    requires { (f : Form) × SeriesAsked s.now (length out.old) f }
     ensures { SeriesLeft s.now out.old result out.new }
 {
     let q = quick::packs(s, out);
     let mut p = q.used;
     let mut k = q.wrote;
     while p < s.len() {
-        let h = heads::quick_pack_head(&s[p..]);
-        let Head::Whole {
-            key,
-            used,
-            width,
-            size,
-        } = h
-        else {
+        let Ok(head) = heads::quick_pack_head(&s[p..]) else {
             return k;
         };
-        let from = p + width + used;
-        let next = p + width + size;
-        let m = put_target(out, k, key);
+        let from = p + head.width + head.used;
+        let next = p + head.width + head.size;
+        let m = put_target(out, k, head.key);
         k = m + pack_items(table, &s[from..next], &mut out[m..]);
         p = next;
     }
@@ -139,8 +129,8 @@ pub fn pack_sheet(table: &[u32], s: &[u8], out: &mut [u8]) -> usize
 }
 
 // The items of the set; how many bytes.
-pub fn item_sheet(table: &[u32], s: &[u8], out: &mut [u8]) -> usize
-    requires { (table.now ≡ item_table) × ((f : Form) × LevelAsked set s.now (length out.old) f) }
+pub fn item_sheet(table: &Table, s: &[u8], out: &mut [u8]) -> usize
+    requires { (f : Form) × LevelAsked set s.now (length out.old) f }
     ensures { LevelLeft set s.now out.old result out.new }
 {
     rest_sheet(table, s, 0, 0, true, out)

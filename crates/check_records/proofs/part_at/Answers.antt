@@ -1,22 +1,14 @@
 -- `check_records::part_at` meets its contract: told at a glance, or by the mark.
-use mathlib.Core.Path.{refl, sym, ◌∙◌}
-use native.Mathlib.Omega.{arith}
+use Rattle.std.proofs.Common.{refl, sym, ◌∙◌}
 use Rattle.tally_records.proofs.Opens.{value_next_lem, part_next, no_value, clear_set, past_set, part_series, part_unknown}
-use Rattle.quick_records.proofs.Glances.{glance_next, glance_piece}
+use Rattle.quick_records.proofs.Glances.{glance_piece}
 use Rattle.check_records.proofs.part_at.Goals as goal
 
-pub overflow_add-size : goal.overflow_add-size
-overflow_add-size c = omega (arith, glance_next (c.glance_begun-g.ensures c.if-g-gt0.true).0)
-
-pub overflow_sub-size : goal.overflow_sub-size
-overflow_sub-size c = omega (arith, glance_next (c.glance_begun-g.ensures c.if-g-gt0.true).0)
-
-pub returns-then-g-gt0 : goal.returns-then-g-gt0
-returns-then-g-gt0 c = let (g, begins) = c.glance_begun-g.ensures c.if-g-gt0.true in λ seen q. glance_piece g begins seen q
+pub returns-in-Some : goal.returns-in-Some
+returns-in-Some c = λ seen q. glance_piece c.in-Some.ensures.0 c.in-Some.ensures.1 seen q
 
 pub value_at-requires : goal.value_at-requires
-value_at-requires c =
-    record { rows = c.requires.rows; within = c.requires.within; cleared = c.requires.cleared; marked = value_next_lem c.args.set _ c.is_value.ensures c.if-is_value.true }
+value_at-requires c = record { within = c.requires.within; cleared = c.requires.cleared; marked = value_next_lem c.args.set _ c.is_value.ensures c.if-is_value.true }
 
 pub returns-then-is_value : goal.returns-then-is_value
 returns-then-is_value c = λ seen q. part_next c.args.set _ seen _ c.is_value.ensures c.if-is_value.true (c.value_at.ensures seen q)

@@ -1,10 +1,6 @@
 -- `coding::sum_of` meets its contract: after i bytes the sum is what they add up to, each by its weight.
-use Rattle.std.proofs.Common.{◌-◌}
 use Rattle.coding.proofs.Sums.{SumLeft}
 use Rattle.coding.proofs.sum_of.Given as goal
 
 abbrev pub invariant-loop-i : goal.invariant-loop-i
 invariant-loop-i l = SumLeft l.s l.n l.t l.i
-
-abbrev pub decreases-loop-i : goal.decreases-loop-i
-decreases-loop-i l = l.n - l.i

@@ -1,27 +1,33 @@
--- `edit::edit_set` meets its contract. j is where the edit was judged, and i where the call begins.
-use mathlib.Core.Path.{◌≡◌, sym, subst}
+-- `edit::edit_set` meets its contract.
+use mathlib.Core.Path.{refl, sym, subst}
+use Rattle.coding.proofs.Tried.{placed_ok, placed_err}
 use Rattle.items.specs.Meet.{form_of}
-use Rattle.edit_rules.specs.declared.one.Judged.{Judged}
-use Rattle.edit_rules.specs.Cuts.{one_cut}
 use Rattle.edit_rules.specs.Meet.{changes_of, asked_holder, Passes, OneAs}
+use Rattle.edit_rules.proofs.Rules.{err_is}
 use Rattle.edit.proofs.Editing.{set_refused, cuts_asked, cuts_left}
 use Rattle.edit.proofs.edit_set.Goals as goal
+use Rattle.edit.proofs.edit_set.Goals.{After-one_cut-cuts}
 
-pub edit_cut-requires : goal.edit_cut-requires
-edit_cut-requires c =
-    let judged : (r : Judged) → c.judge-j.result ≡ r → let i = c.args in OneAs (form_of i.alone) i.a i.v.now i.s.now r = λ r e. let i = c.args in subst (OneAs (form_of i.alone) i.a i.v.now i.s.now) e c.judge-j.ensures in
-    let passes : let i = c.args in Passes (form_of i.alone) i.a.set i.a.id (changes_of i.a i.v.now) i.s.now (one_cut c.in-Fine.place c.cut_of-c.result) i.v.now i.v.now = let i = c.args in subst (λ x. Passes (form_of i.alone) i.a.set i.a.id (changes_of i.a i.v.now) i.s.now (one_cut c.in-Fine.place x) i.v.now i.v.now) (sym c.cut_of-c.ensures) (judged _ c.in-Fine.is) in
-    cuts_asked (form_of c.args.alone) c.args.a.set c.args.a.id (changes_of c.args.a c.args.v.now) c.args.s.now passes c.requires.1.short
-
-pub returns-in-Fine : goal.returns-in-Fine
-returns-in-Fine c =
-    let judged : (r : Judged) → c.judge-j.result ≡ r → let i = c.args in OneAs (form_of i.alone) i.a i.v.now i.s.now r = λ r e. let i = c.args in subst (OneAs (form_of i.alone) i.a i.v.now i.s.now) e c.judge-j.ensures in
-    let passes : let i = c.args in Passes (form_of i.alone) i.a.set i.a.id (changes_of i.a i.v.now) i.s.now (one_cut c.in-Fine.place c.cut_of-c.result) i.v.now i.v.now = let i = c.args in subst (λ x. Passes (form_of i.alone) i.a.set i.a.id (changes_of i.a i.v.now) i.s.now (one_cut c.in-Fine.place x) i.v.now i.v.now) (sym c.cut_of-c.ensures) (judged _ c.in-Fine.is) in
+-- the rules let it through at the cut
+passes : (c : After-one_cut-cuts) → let i = c.args in Passes (form_of i.alone) i.a.set i.a.id (changes_of i.a i.v.now) i.s.now c.one_cut-cuts.result i.v.now i.v.now
+passes c =
     let i = c.args in
-    cuts_left (form_of i.alone) i.a.set i.a.id (changes_of i.a i.v.now) i.s.now passes i.out.now _ c.edit_cut.ensures
+    let j = subst (OneAs (form_of i.alone) i.a i.v.now i.s.now) (placed_ok 0 _ (sym c.in_ok-judged.ensures)) c.judge.ensures in
+    rw (c.one_cut-cuts.ensures, c.cut_of-cut.ensures) j
 
-pub returns-in-Wrong : goal.returns-in-Wrong
-returns-in-Wrong c =
-    let judged : (r : Judged) → c.judge-j.result ≡ r → let i = c.args in OneAs (form_of i.alone) i.a i.v.now i.s.now r = λ r e. let i = c.args in subst (OneAs (form_of i.alone) i.a i.v.now i.s.now) e c.judge-j.ensures in
+pub returns-in_err-judged : goal.returns-in_err-judged
+returns-in_err-judged c =
     let i = c.args in
-    set_refused (form_of i.alone) (asked_holder i.a) (changes_of i.a i.v.now) i.s.now (judged _ c.in-Wrong.is) i.out.now c.answer_of.ensures
+    let (x, e, z) = placed_err 0 c.judge.result (sym c.in_err-judged.ensures) in
+    rw (err_is _ _ c.from_residual.ensures, ← z)
+    (set_refused (form_of i.alone) (asked_holder i.a) (changes_of i.a i.v.now) i.s.now (subst (OneAs (form_of i.alone) i.a i.v.now i.s.now) e c.judge.ensures) i.out.now refl)
+
+pub edit_cuts-requires : goal.edit_cuts-requires
+edit_cuts-requires c =
+    let i = c.args in
+    cuts_asked (form_of i.alone) i.a.set i.a.id (changes_of i.a i.v.now) i.s.now (passes (goal.at.edit_cuts-requires c).After-one_cut-cuts) c.requires.0.short
+
+pub returns : goal.returns
+returns c =
+    let i = c.args in
+    cuts_left (form_of i.alone) i.a.set i.a.id (changes_of i.a i.v.now) i.s.now (passes (goal.at.returns c).After-one_cut-cuts) i.out.now _ c.edit_cuts.ensures

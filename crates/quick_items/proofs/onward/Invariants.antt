@@ -1,4 +1,4 @@
--- `quick_items::onward` meets its contract: each turn is a turn of the item walk. `a` is where an item was found to be plain.
+-- `quick_items::onward` meets its contract: each turn is a turn of the item walk.
 use Prim.Native.Nat.{◌-◌}
 use lib.ListN.{length}
 use Rattle.items.specs.Meet.{form_of}

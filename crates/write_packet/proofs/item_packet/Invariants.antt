@@ -2,13 +2,11 @@
 use Prim.Native.Nat.{◌-◌}
 use mathlib.Core.Bool.{true}
 use lib.ListN.{length}
-use Rattle.format.specs.Table.{Form}
-use Rattle.write_packet.specs.Writing.{RecordsAsked, RecordsWriting}
+use Rattle.write_packet.proofs.Turns.{RecordsGoing}
 use Rattle.write_packet.proofs.item_packet.Given as goal
 
--- whatever the form
 abbrev pub invariant-loop-p : goal.invariant-loop-p
-invariant-loop-p l = (f : Form) → RecordsAsked l.inner true f l.s (length l.initial.out) → RecordsWriting l.inner true f l.s l.initial.out l.out l.p l.k
+invariant-loop-p l = RecordsGoing l.inner true l.s l.initial.out l.out l.p l.k
 
 abbrev pub decreases-loop-p : goal.decreases-loop-p
 decreases-loop-p l = length l.s - l.p

@@ -51,7 +51,9 @@ fn main() {
     let [code, frames] = &words[..] else { fail("frames MODULE.s MODULE.su") };
     let text = |path: &String| std::fs::read_to_string(path).unwrap_or_else(|_| fail(&format!("no file {path}")));
     let (code, frames) = (text(code), text(frames));
-    let functions: BTreeMap<String, Function> = bodies(&code).into_iter().map(|(name, body)| (name.clone(), function(&name, &body))).collect();
+    let tables = tables(&code);
+    let functions: BTreeMap<String, Function> =
+        bodies(&code).into_iter().map(|(name, body)| (name.clone(), function(&name, &body, &tables))).collect();
     agree(&functions, &laid_out(&frames));
     for name in exported(&code) {
         let mut path = Vec::new();
@@ -124,11 +126,48 @@ fn bodies(code: &str) -> Vec<(String, Vec<&str>)> {
     all
 }
 
+/// The labels of each table of jumps: a match on several values goes by one.
+type Tables<'a> = BTreeMap<&'a str, Vec<&'a str>>;
+
+fn tables(code: &str) -> Tables<'_> {
+    let mut all = Tables::new();
+    let mut open = "";
+    for line in code.lines().map(instruction) {
+        if let Some(table) = line.strip_suffix(':') {
+            open = table;
+        } else if let Some((label, of)) = line.strip_prefix(".long").and_then(|rest| rest.trim().split_once('-')) {
+            if of == open {
+                all.entry(open).or_default().push(label);
+            }
+        }
+    }
+    all
+}
+
+/// Where a jump by a register may lead: the table's labels, if the last three
+/// instructions that name the register, no label after them, look up one.
+fn tabled<'a>(name: &str, before: &[&str], register: &str, tables: &'a Tables) -> &'a [&'a str] {
+    let short = register.strip_prefix("%r").filter(|rest| rest.ends_with(char::is_alphabetic)).unwrap_or(&register[1..]);
+    let block = before.iter().rev().map(|line| instruction(line)).take_while(|line| !line.ends_with(':'));
+    let steps: Vec<String> = block.skip_while(|line| !line.contains(short)).take(3).map(|line| line.replace('\t', " ")).collect();
+    let table = || {
+        let [added, looked, loaded] = &steps[..] else { return None };
+        let (table, base) = loaded.strip_prefix("leaq ")?.split_once("(%rip), ")?;
+        let place = looked.strip_prefix(&format!("movslq ({base},%"))?;
+        (place.ends_with(&format!(",4), {register}")) && *added == format!("addq {base}, {register}")).then_some(tables.get(table)?)
+    };
+    table().unwrap_or_else(|| fail(&format!("{name}: a jump by {register}, of which the code does not say where it leads")))
+}
+
+fn instruction(line: &str) -> &str {
+    line.split('#').next().unwrap_or("").trim()
+}
+
 /// Goes over a function's instructions from its start, each way once, with the
 /// bytes that it has on the stack.
-fn function(name: &str, body: &[&str]) -> Function {
+fn function(name: &str, body: &[&str], tables: &Tables) -> Function {
     let labels: BTreeMap<&str, usize> =
-        body.iter().enumerate().filter_map(|(at, line)| Some((line.split('#').next()?.trim().strip_suffix(':')?, at))).collect();
+        body.iter().enumerate().filter_map(|(at, line)| Some((instruction(line).strip_suffix(':')?, at))).collect();
     let target = |label: &str| *labels.get(label).unwrap_or_else(|| fail(&format!("{name}: no label {label}")));
     let mut all = Function::default();
     let mut seen: BTreeMap<usize, usize> = BTreeMap::new();
@@ -140,7 +179,7 @@ fn function(name: &str, body: &[&str]) -> Function {
                 Some(before) => fail(&format!("{name}: {before} and {bytes} bytes at one instruction")),
                 None => {}
             }
-            let line = body[at].split('#').next().unwrap_or("").trim();
+            let line = instruction(body[at]);
             let (word, rest) = line.split_once(char::is_whitespace).unwrap_or((line, ""));
             let rest = rest.trim();
             at += 1;
@@ -160,6 +199,10 @@ fn function(name: &str, body: &[&str]) -> Function {
                 }
                 "ud2" => break,
                 "jmp" | "jmpq" if rest.starts_with(".L") => at = target(rest),
+                "jmpq" if rest.starts_with("*%") => {
+                    todo.extend(tabled(name, &body[..at - 1], &rest[1..], tables).iter().map(|label| (target(label), bytes)));
+                    break;
+                }
                 "jmp" | "jmpq" => {
                     all.calls.push(Call { to: named(name, rest), at: bytes, last: true });
                     break;

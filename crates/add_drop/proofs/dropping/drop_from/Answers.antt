@@ -1,26 +1,19 @@
--- `add_drop::dropping::drop_from` meets its contract. a is where the place of the id is known.
-use mathlib.Core.Path.{refl}
-use native.Mathlib.Omega.{arith}
-use Rattle.format.specs.Coding.{Bytes}
+-- `add_drop::dropping::drop_from` meets its contract.
+use Rattle.std.proofs.Common.{refl, arith}
+use Rattle.answers.proofs.Results.{refuses}
 use Rattle.add_drop.proofs.Setting.{rules_left, drop_absent, drop_some, drop_asked, drop_left}
 use Rattle.add_drop.proofs.dropping.drop_from.Goals as goal
 
-pub returns-then-r : goal.returns-then-r
-returns-then-r c =
-    let set_bytes : Bytes c.args.s.now = λ i. (c.type_inv.s i).fits in
-    rules_left _ _ _ _ (drop_absent _ _ set_bytes c.requires _ c.series_of-r.ensures c.if-r.true) c.answer_of.ensures
+pub returns-then-series : goal.returns-then-series
+returns-then-series c =
+    rules_left _ _ _ _ (drop_absent _ _ (λ i. (c.type_inv.s i).fits) c.requires _ c.series_of-series.ensures c.if-series.true) (refuses c.at.ensures)
 
-pub overflow_sub-r : goal.overflow_sub-r
-overflow_sub-r c =
-    let set_bytes : Bytes c.args.s.now = λ i. (c.type_inv.s i).fits in
-    omega (arith, drop_some _ _ set_bytes c.requires _ c.series_of-r.ensures c.if-r.false)
+pub overflow_sub-series : goal.overflow_sub-series
+overflow_sub-series c = omega (arith, drop_some _ _ (λ i. (c.type_inv.s i).fits) c.requires _ c.series_of-series.ensures c.if-series.false)
 
 pub put_changed-requires : goal.put_changed-requires
-put_changed-requires c =
-    let set_bytes : Bytes c.args.s.now = λ i. (c.type_inv.s i).fits in
-    drop_asked _ _ set_bytes c.requires _ c.series_of-r.ensures c.if-r.false refl
+put_changed-requires c = drop_asked _ _ (λ i. (c.type_inv.s i).fits) c.requires _ c.series_of-series.ensures c.if-series.false refl
 
 pub returns : goal.returns
 returns c =
-    let set_bytes : Bytes c.args.s.now = λ i. (c.type_inv.s i).fits in
-    drop_left _ _ set_bytes c.requires _ c.series_of-r.ensures c.if-r.false refl _ _ c.put_changed.ensures
+    drop_left _ _ (λ i. (c.type_inv.s i).fits) c.requires _ c.series_of-series.ensures c.if-series.false refl _ _ c.put_changed.ensures

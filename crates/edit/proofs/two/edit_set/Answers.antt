@@ -1,40 +1,46 @@
--- `edit::two::edit_set` meets its contract. j is where the edit was judged, and i where the call begins.
-use mathlib.Core.Path.{◌≡◌, sym, ap, ◌∙◌, subst}
-use mathlib.Core.Bool.{Bool, true, false}
-use Prim.Native.Nat.{ℕ}
-use mathlib.Core.List.{List}
-use Rattle.format.specs.Room.{Left, leaves}
+-- `edit::two::edit_set` meets its contract.
+use mathlib.Core.Path.{refl, sym, subst}
+use mathlib.Core.Bool.{true, false}
+use Rattle.coding.proofs.Tried.{placed_ok, placed_err}
 use Rattle.items.specs.Meet.{form_of}
 use Rattle.find.specs.Places.{holder_of}
-use Rattle.edit_rules.specs.declared.two.Judged.{Judged}
-use Rattle.edit_rules.specs.Meet.{two_of, set_edited, TwoAs}
+use Rattle.edit_rules.specs.Cuts.{low_of}
+use Rattle.edit_rules.specs.Meet.{two_of, Passes, TwoAs}
+use Rattle.edit_rules.proofs.Rules.{err_is}
+use Rattle.answers.proofs.Results.{refuses}
 use Rattle.edit.proofs.Editing.{set_refused, cuts_asked, cuts_left}
 use Rattle.edit.proofs.two.edit_set.Goals as goal
+use Rattle.edit.proofs.two.edit_set.Goals.{In_ok-judged}
+
+-- the rules let them through at the cuts
+passes : (c : In_ok-judged)
+    → let i = c.args in let j = c.in_ok-judged.judged in
+    Passes (form_of i.alone) false i.a.id (two_of i.a.change i.d i.v.now i.w.now) i.s.now j.cuts (low_of j.turned i.v.now i.w.now) (low_of j.turned i.w.now i.v.now)
+passes c =
+    let i = c.args in
+    subst (TwoAs (form_of i.alone) i.a.id i.a.change i.d i.v.now i.w.now i.s.now) (placed_ok 0 _ (sym c.in_ok-judged.ensures)) c.judge.ensures
 
 pub returns-then-a : goal.returns-then-a
 returns-then-a c =
-    let left_by : List ℕ → Bool → Left ℕ = λ lent b. leaves lent (set_edited (form_of c.args.alone) (holder_of b c.args.a.id) (two_of c.args.a.change c.args.d c.args.v.now c.args.w.now) c.args.s.now) in
-    let a = c.args in
-    set_refused (form_of a.alone) (holder_of true a.a.id) (two_of a.a.change a.d a.v.now a.w.now) a.s.now (c.set_fault.ensures a.a.id a.d a.w.now) a.out.now c.answer_of.ensures
-    ∙ ap (left_by a.out.now) (sym c.if-a.true)
+    let i = c.args in
+    rw c.if-a.true
+    (set_refused (form_of i.alone) (holder_of true i.a.id) (two_of i.a.change i.d i.v.now i.w.now) i.s.now (c.set_fault.ensures i.a.id i.d i.w.now) i.out.now (refuses c.at.ensures))
+
+pub returns-in_err-judged : goal.returns-in_err-judged
+returns-in_err-judged c =
+    let i = c.args in
+    let (x, e, z) = placed_err 0 c.judge.result (sym c.in_err-judged.ensures) in
+    let stops = subst (TwoAs (form_of i.alone) i.a.id i.a.change i.d i.v.now i.w.now i.s.now) e c.judge.ensures in
+    rw (err_is _ _ c.from_residual.ensures, ← z, c.if-a.false)
+    (set_refused (form_of i.alone) (holder_of false i.a.id) (two_of i.a.change i.d i.v.now i.w.now) i.s.now stops i.out.now refl)
 
 pub edit_cuts-requires : goal.edit_cuts-requires
 edit_cuts-requires c =
-    let judged : (r : Judged) → c.judge-j.result ≡ r → let i = c.args in TwoAs (form_of i.alone) i.a.id i.a.change i.d i.v.now i.w.now i.s.now r = λ r e. let i = c.args in subst (TwoAs (form_of i.alone) i.a.id i.a.change i.d i.v.now i.w.now i.s.now) e c.judge-j.ensures in
-    cuts_asked (form_of c.args.alone) false c.args.a.id (two_of c.args.a.change c.args.d c.args.v.now c.args.w.now) c.args.s.now (judged _ c.in-Fine.is) c.requires.1.short
+    let i = c.args in
+    cuts_asked (form_of i.alone) false i.a.id (two_of i.a.change i.d i.v.now i.w.now) i.s.now (passes (goal.at.edit_cuts-requires c).In_ok-judged) c.requires.0.short
 
-pub returns-in-Fine : goal.returns-in-Fine
-returns-in-Fine c =
-    let judged : (r : Judged) → c.judge-j.result ≡ r → let i = c.args in TwoAs (form_of i.alone) i.a.id i.a.change i.d i.v.now i.w.now i.s.now r = λ r e. let i = c.args in subst (TwoAs (form_of i.alone) i.a.id i.a.change i.d i.v.now i.w.now i.s.now) e c.judge-j.ensures in
-    let left_by : List ℕ → Bool → Left ℕ = λ lent b. leaves lent (set_edited (form_of c.args.alone) (holder_of b c.args.a.id) (two_of c.args.a.change c.args.d c.args.v.now c.args.w.now) c.args.s.now) in
-    let a = c.args in
-    cuts_left (form_of a.alone) false a.a.id (two_of a.a.change a.d a.v.now a.w.now) a.s.now (judged _ c.in-Fine.is) a.out.now _ c.edit_cuts.ensures
-    ∙ ap (left_by a.out.now) (sym c.if-a.false)
-
-pub returns-in-Wrong : goal.returns-in-Wrong
-returns-in-Wrong c =
-    let judged : (r : Judged) → c.judge-j.result ≡ r → let i = c.args in TwoAs (form_of i.alone) i.a.id i.a.change i.d i.v.now i.w.now i.s.now r = λ r e. let i = c.args in subst (TwoAs (form_of i.alone) i.a.id i.a.change i.d i.v.now i.w.now i.s.now) e c.judge-j.ensures in
-    let left_by : List ℕ → Bool → Left ℕ = λ lent b. leaves lent (set_edited (form_of c.args.alone) (holder_of b c.args.a.id) (two_of c.args.a.change c.args.d c.args.v.now c.args.w.now) c.args.s.now) in
-    let a = c.args in
-    set_refused (form_of a.alone) (holder_of false a.a.id) (two_of a.a.change a.d a.v.now a.w.now) a.s.now (judged _ c.in-Wrong.is) a.out.now c.answer_of-in-Wrong.ensures
-    ∙ ap (left_by a.out.now) (sym c.if-a.false)
+pub returns : goal.returns
+returns c =
+    let i = c.args in
+    rw c.if-a.false
+    (cuts_left (form_of i.alone) false i.a.id (two_of i.a.change i.d i.v.now i.w.now) i.s.now (passes (goal.at.returns c).In_ok-judged) i.out.now _ c.edit_cuts.ensures)

@@ -1,49 +1,41 @@
--- `edit_rules::two::judge_rest` meets its contract. a is where the second item may be named, y where its change was judged, and e where the end was.
-use mathlib.Core.Path.{◌≡◌, sym, ap₂, ◌∙◌, subst}
-use mathlib.Core.Bool.{true, false}
-use borrow.Author.Tests.{not-true, not-false}
-use lib.Dec.{ltb}
-use Rattle.format.specs.Table.{pack, nameable}
+-- `edit_rules::two::judge_rest` meets its contract.
+use mathlib.Core.Path.{sym, ap₂, ◌∙◌}
+use Rattle.std.specs.Prelude.{false, Ok, Err}
+use Rattle.coding.specs.declared.refusals.Refusal.TheVariants.{NotEditable}
+use Rattle.format.specs.Table.{pack}
 use Rattle.items.specs.Meet.{form_of}
-use Rattle.edit_rules.specs.declared.Valued.{Valued}
-use Rattle.edit_rules.specs.Meet.{TurnedAs, in_order}
+use Rattle.edit_rules.specs.Meet.{in_order}
 use Rattle.edit_rules.proofs.Ends.{ends_by}
-use Rattle.edit_rules.proofs.Rules.{unnamed, turn_fine, turn_stops}
+use Rattle.edit_rules.proofs.Rules.{err_is, unnamed, turn_fine, turn_stops}
 use Rattle.edit_rules.proofs.Judging.{two_same, two_second, two_left, two_fine}
 use Rattle.edit_rules.proofs.two.judge_rest.Goals as goal
+use Rattle.edit_rules.proofs.two.judge_rest.Goals.{then-c-d-via-then-c-d, then-c-d-via-else-c-d+then-not-nameable_of}
 
 pub returns-then-c-d : goal.returns-then-c-d
-returns-then-c-d c id v s hb k sv t q = let i = c.args in two_same (form_of i.alone) id i.c i.d v i.w.now s t c.if-c-d.true
+returns-then-c-d c id v s hb k sv t q = let i = c.args in elim c.then-c-d.branch [
+  | then-c-d-via-then-c-d w ↦ two_same (form_of i.alone) id i.c i.d v i.w.now s t w.if-c-d.true
+  | then-c-d-via-else-c-d+then-not-nameable_of w ↦ two_second (form_of i.alone) id i.c i.d v i.w.now s t w.if-c-d.false NotEditable (unnamed (form_of i.alone) false id i.d i.w.now s (sym w.if-not-nameable_of.ensures))
+]
 
-pub returns-then-not-nameable_of : goal.returns-then-not-nameable_of
-returns-then-not-nameable_of c id v s hb k sv t q =
+pub returns-in_err-k : goal.returns-in_err-k
+returns-in_err-k c id v s hb k sv t q =
     let i = c.args in
-    two_second (form_of i.alone) id i.c i.d v i.w.now s t c.if-c-d.false 19
-    (unnamed (form_of i.alone) false id i.d i.w.now s (sym c.nameable_of.ensures ∙ not-true _ c.if-not-nameable_of.true-raw))
+    rw (err_is _ _ c.from_residual.ensures)
+    (two_second (form_of i.alone) id i.c i.d v i.w.now s t c.if-c-d.false _
+    (turn_stops (form_of i.alone) false id i.d i.w.now s (sym c.if-not-nameable_of.ensures) hb k i.q q _ c.in_err-k.ensures))
 
-pub returns-then-n-eq0 : goal.returns-then-n-eq0
-returns-then-n-eq0 c id v s hb k sv t q =
-    let named : nameable pack c.args.d.tag ≡ true = sym c.nameable_of.ensures ∙ not-false _ c.if-not-nameable_of.false-raw in
-    let turned : (x : Valued) → c.turn_of-y.result ≡ x → let i = c.args in TurnedAs (form_of i.alone) pack i.d i.w.now (ltb i.q.at i.q.next) x = λ x e. let i = c.args in subst (TurnedAs (form_of i.alone) pack i.d i.w.now (ltb i.q.at i.q.next)) e c.turn_of-y.ensures in
+pub returns-in_err-ending_fault : goal.returns-in_err-ending_fault
+returns-in_err-ending_fault c id v s hb k sv t q =
     let i = c.args in
-    two_fine (form_of i.alone) id i.c i.d v i.w.now s t c.if-c-d.false
-    (turn_fine (form_of i.alone) false id i.d i.w.now s named hb k i.q q (turned _ c.in-Size.is)) sv c.ending_fault-n.result
-    (ends_by (form_of i.alone) pack c.ending_fault-n.result c.cut_of-first.ensures c.cut_of-second.ensures c.ending_fault-n.ensures) hb k c.if-n-eq0.true
+    let t' = turn_fine (form_of i.alone) false id i.d i.w.now s (sym c.if-not-nameable_of.ensures) hb k i.q q c.in_ok-k.ensures in
+    rw (err_is _ _ c.from_residual-in_err-ending_fault.ensures)
+    (two_left (form_of i.alone) id i.c i.d v i.w.now s t c.if-c-d.false t' sv _
+    (ends_by (form_of i.alone) pack (Err _) c.cut_of-first.ensures c.cut_of-second.ensures c.in_err-ending_fault.ensures))
+
+pub returns : goal.returns
+returns c id v s hb k sv t q =
+    let i = c.args in
+    let t' = turn_fine (form_of i.alone) false id i.d i.w.now s (sym c.if-not-nameable_of.ensures) hb k i.q q c.in_ok-k.ensures in
+    two_fine (form_of i.alone) id i.c i.d v i.w.now s t c.if-c-d.false t' sv
+    (ends_by (form_of i.alone) pack (Ok tt) c.cut_of-first.ensures c.cut_of-second.ensures c.in_ok-ending_fault.ensures) hb k
     (c.in_order.ensures ∙ ap₂ (in_order i.p) c.cut_of-first.ensures c.cut_of-second.ensures)
-
-pub returns-else-n-eq0 : goal.returns-else-n-eq0
-returns-else-n-eq0 c id v s hb k sv t q =
-    let named : nameable pack c.args.d.tag ≡ true = sym c.nameable_of.ensures ∙ not-false _ c.if-not-nameable_of.false-raw in
-    let turned : (x : Valued) → c.turn_of-y.result ≡ x → let i = c.args in TurnedAs (form_of i.alone) pack i.d i.w.now (ltb i.q.at i.q.next) x = λ x e. let i = c.args in subst (TurnedAs (form_of i.alone) pack i.d i.w.now (ltb i.q.at i.q.next)) e c.turn_of-y.ensures in
-    let i = c.args in
-    two_left (form_of i.alone) id i.c i.d v i.w.now s t c.if-c-d.false
-    (turn_fine (form_of i.alone) false id i.d i.w.now s named hb k i.q q (turned _ c.in-Size.is)) sv c.ending_fault-n.result
-    (ends_by (form_of i.alone) pack c.ending_fault-n.result c.cut_of-first.ensures c.cut_of-second.ensures c.ending_fault-n.ensures) c.if-n-eq0.false
-
-pub returns-in-Fault : goal.returns-in-Fault
-returns-in-Fault c id v s hb k sv t q =
-    let named : nameable pack c.args.d.tag ≡ true = sym c.nameable_of.ensures ∙ not-false _ c.if-not-nameable_of.false-raw in
-    let turned : (x : Valued) → c.turn_of-y.result ≡ x → let i = c.args in TurnedAs (form_of i.alone) pack i.d i.w.now (ltb i.q.at i.q.next) x = λ x e. let i = c.args in subst (TurnedAs (form_of i.alone) pack i.d i.w.now (ltb i.q.at i.q.next)) e c.turn_of-y.ensures in
-    let i = c.args in
-    two_second (form_of i.alone) id i.c i.d v i.w.now s t c.if-c-d.false _
-    (turn_stops (form_of i.alone) false id i.d i.w.now s named hb k i.q q (turned _ c.in-Fault.is))

@@ -1,4 +1,4 @@
--- `check_records::span_of` meets its contract: the loop passes one record after the other.
+-- `heads::records::span_of`: the loop passes one record after the other.
 use Prim.Native.Nat.{◌-◌}
 use lib.ListN.{length}
 use Rattle.heads.proofs.Spans.{SpanLeft}

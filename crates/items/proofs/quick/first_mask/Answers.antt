@@ -13,7 +13,7 @@ pub returns-then-most_tag-tag : goal.returns-then-most_tag-tag
 returns-then-most_tag-tag c = λ e. absurd (omega (arith, e))
 
 pub row_at-row-requires : goal.row_at-row-requires
-row_at-row-requires c = (glances_long c.requires, rw c.most_tag.ensures at c.if-most_tag-tag.false)
+row_at-row-requires c = (glances_long c.args.glances.now.told, rw c.most_tag.ensures at c.if-most_tag-tag.false)
 
 pub returns-then-row-least_row : goal.returns-then-row-least_row
 returns-then-row-least_row c = λ e. absurd (omega (arith, e))
@@ -25,5 +25,5 @@ pub returns : goal.returns
 returns c =
     let told = sym c.fits.ensures ∙ not-false _ c.if-not-fits.false-raw in
     λ e.
-    (quick_from c.args.set c.args.alone _ (rw c.most_tag.ensures at c.if-most_tag-tag.false) c.least_row.ensures c.requires c.row_at-row.ensures c.if-row-least_row.false
+    (quick_from c.args.set c.args.alone _ (rw c.most_tag.ensures at c.if-most_tag-tag.false) c.least_row.ensures c.args.glances.now.told c.row_at-row.ensures c.if-row-least_row.false
     (row_any _ _ told e) refl).2

@@ -1,5 +1,4 @@
--- `closer::packs` meets its contract: each turn is a turn of the pack walk. `t` is where a turn begins, `a` where a pack's head was read, `e` where
--- its id was found to be new, and `o` where its items were found to be told to their end, and to end as a pack may.
+-- `closer::packs` meets its contract: each turn is a turn of the pack walk.
 use Prim.Native.Nat.{◌-◌}
 use lib.ListN.{length}
 use Rattle.items.specs.Meet.{form_of}

@@ -4,8 +4,8 @@ use Rattle.items.specs.Meet.{form_of}
 use Rattle.quick_records.proofs.Alikes.{Laying}
 use Rattle.quick_records.proofs.targets.lay.Given as goal
 
-abbrev pub invariant-loop-g : goal.invariant-loop-g
-invariant-loop-g l = Laying (form_of l.alone) l.masks l.s l.p l.count l.held l.top
+abbrev pub invariant-loop-told : goal.invariant-loop-told
+invariant-loop-told l = Laying (form_of l.alone) l.masks l.s l.p l.count l.held l.top
 
-abbrev pub decreases-loop-g : goal.decreases-loop-g
-decreases-loop-g l = length l.s - l.p
+abbrev pub decreases-loop-told : goal.decreases-loop-told
+decreases-loop-told l = length l.s - l.p

@@ -5,7 +5,7 @@ use Rattle.quick_records.proofs.Passings.{Passing}
 use Rattle.quick_records.proofs.targets.many.Given as goal
 
 abbrev pub invariant-loop-p : goal.invariant-loop-p
-invariant-loop-p l = Passing l.alone l.s l.bits l.masks l.p l.rows l.normal l.b l.m × (length l.bits ≡ length l.initial.bits)
+invariant-loop-p l = Passing l.alone l.s l.bits l.masks l.p l.rows l.normal l.b l.last × (length l.bits ≡ length l.initial.bits)
 
 abbrev pub decreases-loop-p : goal.decreases-loop-p
 decreases-loop-p l = length l.s - l.p

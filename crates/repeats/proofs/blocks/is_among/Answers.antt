@@ -3,11 +3,11 @@ use native.Mathlib.Omega.{arith}
 use Rattle.repeats.proofs.Gathers.{among_start, among_more, among_done}
 use Rattle.repeats.proofs.blocks.is_among.Goals as goal
 
-pub loop-i-init : goal.loop-i-init
-loop-i-init c = among_start _ _
+pub loop-k-init : goal.loop-k-init
+loop-k-init c = among_start _ _
 
-pub loop-i-preserved : goal.loop-i-preserved
-loop-i-preserved c = rw c.either-found.ensures (among_more _ _ _ _ c.loop-i.invariant (omega arith))
+pub loop-k-preserved : goal.loop-k-preserved
+loop-k-preserved c = rw c.either-found.ensures (among_more _ _ _ _ c.loop-k.invariant (omega arith))
 
 pub returns : goal.returns
-returns c = among_done _ _ _ _ c.loop-i.invariant (omega arith)
+returns c = among_done _ _ _ _ c.loop-k.invariant (omega arith)

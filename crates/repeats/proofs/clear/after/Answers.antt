@@ -16,9 +16,3 @@ returns-then-clear-eq0 c = clear_first _ _
 
 pub returns-then-clear-gt1 : goal.returns-then-clear-gt1
 returns-then-clear-gt1 c = c.requires
-
-pub returns-then-sheet : goal.returns-then-sheet
-returns-then-sheet c = rw c.if-sheet.true c.clear_to.ensures
-
-pub returns : goal.returns
-returns c = rw c.if-sheet.false c.clear_to-2.ensures

@@ -1,0 +1,2 @@
+-- What a turn of either walk says.
+pub mod Turns

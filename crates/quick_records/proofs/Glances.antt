@@ -1,5 +1,6 @@
 -- The quick way's turns: a record told at a glance is read as the walk over its level reads it.
-use Rattle.std.proofs.Common.{Ok, ◌≡◌, ℕ, zero, suc, ◌+◌, ◌-◌, ◌*◌, ◌%◌, ◌<◌, ◌≤◌, Bool, true, false, not, ◌&&◌, ◌||◌, eqb, List, [], ◌∷◌, length, get_or, take, drop, sym, refl, ap, ◌∙◌, arith, length-drop, length-take-le, get_or-drop, get_or-take, drop-drop, lt-ltb, eq-eqb, le-leb}
+use Rattle.std.specs.Prelude.{Ok, ◌≡◌, ℕ, ◌+◌, ◌-◌, ◌*◌, ◌<◌, ◌≤◌, Bool, true, false, not, ◌&&◌, ◌||◌, eqb, List, ◌∷◌, length, get_or, take, drop}
+use Rattle.std.proofs.Common.{zero, suc, ◌%◌, [], sym, refl, ap, ◌∙◌, arith, length-drop, length-take-le, get_or-drop, get_or-take, drop-drop, lt-ltb, eq-eqb, le-leb}
 use lib.Bits.{bit_or}
 use Rattle.format.specs.Coding.{Bytes, bytes_number, number, oid_bytes, len_width}
 use Rattle.format.specs.Table.{Form, Level, is_set, rule_of, nameable}

@@ -94,7 +94,7 @@
  * thread at any time, and from a signal handler, as long as no one changes the
  * lent bytes while it runs.
  *
- * It takes at most 3,824 bytes of stack, whatever the input: its return address
+ * It takes at most 3,808 bytes of stack, whatever the input: its return address
  * and all below it, summed up over the compiled code (a signal stack of
  * MINSIGSTKSZ may have fewer; a linker that looks memset up at its first call
  * takes more, so link with -z now where the stack is small). It ends for every

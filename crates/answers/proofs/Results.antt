@@ -7,7 +7,7 @@ use mathlib.Core.List.{List}
 use lib.ListN.{length}
 use lib.Dec.{leb}
 use borrow.Author.Tests.{leb-true}
-use Rattle.std.specs.Prelude.{Result, Err}
+use Rattle.std.specs.Prelude.{Result, Ok, Err}
 use Rattle.std.specs.Result.{IsErr, IsErrAnd}
 use Rattle.std.proofs.lemmas.Result.{err_from_is_err_and}
 use Rattle.format.specs.Answer.{Ans, ok, refused, ◌>>=◌, need}
@@ -19,6 +19,7 @@ use Rattle.format.proofs.Bounds.Packets.{parse_answers}
 use Rattle.coding.specs.declared.refusals.Fault.{Fault}
 use Rattle.coding.specs.declared.refusals.Refusal.{Refusal}
 use Rattle.coding.specs.Refusals.{number, fault}
+use Rattle.coding.proofs.Tried.{number_some, one_refusal}
 use Rattle.answers.specs.Meet.{Answer, answer_of, answer, left_of}
 
 -- for `leaves`, `leaves_rows` and `leaves_table` alike, whatever is lent
@@ -26,6 +27,20 @@ pub one_result : {A : Type 0} (a b : Answer) (x y : List A) (l : Left A) → lef
 one_result a b x y l p q =
     let e : left_of a x ≡ left_of b y = p ∙ sym q in
     (λ i. record { number = (e i).number; place = (e i).place }, ap (λ z. z.lent) e)
+
+-- as the code hands it back: no refusal is answered as success, and no two with the same number
+pub one_answered : (r s : Result ℕ Fault) → answer r ≡ answer s → r ≡ s
+one_answered (Ok m) (Ok n) e = ap (λ a. Ok a.place) e
+one_answered (Ok m) (Err y) e = let z : 0 ≡ number y.refusal = ap (λ a. a.number) e in absurd (omega (arith, z, number_some y.refusal))
+one_answered (Err x) (Ok n) e = let z : number x.refusal ≡ 0 = ap (λ a. a.number) e in absurd (omega (arith, z, number_some x.refusal))
+one_answered (Err x) (Err y) e =
+    let p : x.refusal ≡ y.refusal = one_refusal x.refusal y.refusal (ap (λ a. a.number) e) in
+    let q : x.place ≡ y.place = ap (λ a. a.place) e in
+    ap Err (λ i. record { refusal = p i; place = q i })
+
+-- the same of what a contract's result is: as `one_result`, of the code's own
+pub one_told : {A : Type 0} (r s : Result ℕ Fault) (x y : List A) (l : Left A) → left_of (answer r) x ≡ l → left_of (answer s) y ≡ l → (r ≡ s) × (x ≡ y)
+one_told r s x y l p q = let e = one_result (answer r) (answer s) x y l p q in (one_answered r s e.0, e.1)
 
 -- ---- a refusal
 

@@ -1,5 +1,5 @@
 -- A result placed, and later: what it was before, as a `?` finds it.
-use Rattle.std.proofs.Common.{◌≡◌, ℕ, ◌+◌, ◌<◌, Result, Ok, Err, refl, lit<}
+use Rattle.std.proofs.Common.{◌≡◌, ℕ, ◌+◌, ◌-◌, ◌<◌, List, [], ◌∷◌, get_or, Result, Ok, Err, refl, sym, ap, ◌∙◌, lit<}
 use Rattle.coding.specs.declared.refusals.Fault.{Fault}
 use Rattle.coding.specs.declared.refusals.Refusal.{Refusal}
 use Rattle.coding.specs.declared.refusals.Refusal.TheVariants as refusal
@@ -44,3 +44,37 @@ number_some refusal.BadRecord = lit< tt
 number_some refusal.Absent = lit< tt
 number_some refusal.NotEditable = lit< tt
 number_some refusal.HalfCentroid = lit< tt
+
+-- the refusal of a number: so no two have the same
+abbrev refusals : List Refusal
+refusals =
+    refusal.OverLimit ∷ refusal.NotTheKey ∷ refusal.CutOff ∷ refusal.BadTag ∷ refusal.BadLength ∷ refusal.PastEnd ∷ refusal.EmptyValue ∷ refusal.BadId ∷ refusal.TagRepeated ∷ refusal.IdRepeated
+    ∷ refusal.LengthNotAllowed ∷ refusal.PixelZero ∷ refusal.MayNotStand ∷ refusal.Missing ∷ refusal.ChecksumDiffers ∷ refusal.RoomTooShort ∷ refusal.BadRecord ∷ refusal.Absent ∷ refusal.NotEditable ∷ refusal.HalfCentroid ∷ []
+
+abbrev named : ℕ → Refusal
+named n = get_or refusals (n - 1) refusal.OverLimit
+
+number_named : (x : Refusal) → named (number x) ≡ x
+number_named refusal.OverLimit = refl
+number_named refusal.NotTheKey = refl
+number_named refusal.CutOff = refl
+number_named refusal.BadTag = refl
+number_named refusal.BadLength = refl
+number_named refusal.PastEnd = refl
+number_named refusal.EmptyValue = refl
+number_named refusal.BadId = refl
+number_named refusal.TagRepeated = refl
+number_named refusal.IdRepeated = refl
+number_named refusal.LengthNotAllowed = refl
+number_named refusal.PixelZero = refl
+number_named refusal.MayNotStand = refl
+number_named refusal.Missing = refl
+number_named refusal.ChecksumDiffers = refl
+number_named refusal.RoomTooShort = refl
+number_named refusal.BadRecord = refl
+number_named refusal.Absent = refl
+number_named refusal.NotEditable = refl
+number_named refusal.HalfCentroid = refl
+
+pub one_refusal : (x y : Refusal) → number x ≡ number y → x ≡ y
+one_refusal x y e = sym (number_named x) ∙ ap named e ∙ number_named y

@@ -8,7 +8,7 @@ use Rattle.format.specs.Table.{Form, Level}
 use Rattle.frames.specs.Meet.{frame_size}
 use Rattle.find.specs.Places.{Ordered}
 use Rattle.edit_rules.specs.declared.Cuts.{Cuts}
-use Rattle.edit_rules.specs.Cuts.{cut_size, body_size, with_size, Spans, Putting, put_size, cut_bytes}
+use Rattle.edit_rules.specs.Cuts.{cut_size, body_size, with_size, Spans, Small, Putting, put_size, cut_bytes}
 use Rattle.edit_rules.proofs.Sizes.{spans_more, body_few, put_most, bytes_long}
 use Rattle.answers.proofs.Entries.{Sized}
 use Rattle.edit.specs.Meet.{Entered}
@@ -16,6 +16,11 @@ use Rattle.edit.specs.Meet.{Entered}
 module _ {l : Level} {s v w : List ℕ} {k : Cuts} (q : Putting l s k v w) where
   pub spans_are : Spans l 8192 k
   spans_are = spans_more (length s) 8192 k q.spans q.short
+
+  -- the cuts small, and in order within the level
+  pub body_asked : Small k.lo × Small k.hi × (k.place.body ≤ k.lo.at) × (k.lo.at ≤ k.lo.next) × (k.lo.next ≤ k.hi.at) × (k.hi.at ≤ k.hi.next)
+      × (k.hi.next ≤ k.place.last) × (k.place.last ≤ 8192)
+  body_asked = let o = spans_are in (q.low_small, q.high_small, o.to_low, o.low, o.to_high, o.high, o.to_last, omega (arith, o.ordered.to_tail, o.ordered.to_stop, o.ordered.to_end))
 
   -- room for the bytes is room for so many
   pub cut_room : {m : ℕ} → length (cut_bytes l s k v w) ≤ m → put_size l k ≤ m

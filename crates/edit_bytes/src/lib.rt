@@ -3,10 +3,9 @@
 #![tactic(auto)]
 
 ghost use Rattle.std.specs.Prelude.{◌≡◌, ◌+◌, ◌≤◌, length};
-ghost use Rattle.format.specs.Table.{Level};
 ghost use Rattle.items.specs.Meet.{level_of};
 ghost use Rattle.find.specs.Places.{Ordered};
-ghost use Rattle.edit_rules.specs.Cuts.{cut_put, cut_size, part, body_size, packs_size, to_pack, head_of, with_size, Spans, Small, StoredAt};
+ghost use Rattle.edit_rules.specs.Cuts.{cut_put, cut_size, part, body_size, packs_size, to_pack, head_of, with_size, Small, StoredAt};
 ghost use Rattle.edit_rules.specs.Cuts.{low_of, Putting, put_size, cut_bytes};
 
 use edit_rules::{Cut, Cuts};
@@ -53,7 +52,8 @@ pub fn put_part(out: &mut [u8], at: usize, s: &[u8], from: usize, to: usize) -> 
 // The bytes of the pack under its length, or of the set.
 #[inline(always)]
 pub fn body_size(k: Cuts) -> usize
-    requires { (l : Level) × Spans l 8192 k × Small k.lo × Small k.hi }
+    requires { Small k.lo × Small k.hi × (k.place.body ≤ k.lo.at) × (k.lo.at ≤ k.lo.next) × (k.lo.next ≤ k.hi.at) × (k.hi.at ≤ k.hi.next)
+        × (k.hi.next ≤ k.place.last) × (k.place.last ≤ 8192) }
     ensures { result ≡ body_size k (cut_size k.lo) (cut_size k.hi) }
 {
     let low = cut_size(k.lo);

@@ -196,16 +196,17 @@ pub enum Look {
 }
 
 impl Look {
-    // What is next, if such a thing stands there.
-    #[tactic(auto, unfolding(crate::specs::Meet::peek, crate::specs::Records::peek_record))]
+    // What is next, if such a thing stands there. In line, so that a loop over one look makes no jump by a table at each head.
+    #[tactic(auto, unfolding(crate::specs::Meet::peek))]
+    #[inline(always)]
     pub fn next(self, s: &[u8]) -> Option<Next>
         ensures { Peeked (peek_by self) s.now result }
     {
         match self {
             Look::Packs => pack_next(s),
             Look::Items { set } => item_next(s, set),
-            Look::Targets => records::target_next(s),
-            Look::Records { set } => records::record_next(s, set),
+            Look::Targets => records::record_next(s, true, false),
+            Look::Records { set } => records::record_next(s, false, set),
         }
     }
 }

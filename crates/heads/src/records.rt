@@ -111,7 +111,7 @@ fn span_of(s: &[u8], tg: bool) -> usize
 
 // A target with its `TI`s.
 #[tactic(auto, using(crate::proofs::Spans::target_cut, crate::proofs::Spans::target_whole, crate::proofs::Spans::target_bare))]
-pub(super) fn target_next(s: &[u8]) -> Option<Next>
+fn target_next(s: &[u8]) -> Option<Next>
     ensures { Peeked peek_target s.now result }
 {
     if s.len() < 10 {
@@ -141,10 +141,13 @@ fn part_next(s: &[u8]) -> Option<Next>
     val_next(s)
 }
 
-// An item by its tag, and in the set the series by 101.
+// A target by its id; an item by its tag, and in the set the series by 101.
 #[tactic(auto, unfolding(crate::specs::Records::peek_record))]
-pub(super) fn record_next(s: &[u8], set: bool) -> Option<Next>
-    ensures { Peeked (peek_record false set) s.now result }
+pub fn record_next(s: &[u8], ids: bool, set: bool) -> Option<Next>
+    ensures { Peeked (peek_record ids set) s.now result }
 {
+    if ids {
+        return target_next(s);
+    }
     if set { part_next(s) } else { val_next(s) }
 }

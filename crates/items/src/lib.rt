@@ -116,8 +116,8 @@ fn row_at(rows: &[u32], set: bool, tag: u64) -> u32
     rows[at]
 }
 
-// The kind that a row has as a number; no row has a greater one.
-fn kind_from(n: u32) -> Kind
+// The kind that a row has as a number; no row has a greater one than `LOCATION`, and each greater number means bytes.
+pub fn kind_from(n: u32) -> Kind
     ensures { (a b : ℕ) → row_rule (kind_number result) a b ≡ row_rule n a b }
 {
     match n {

@@ -89,7 +89,7 @@ head_fits s p bytes h {head} e =
     let z : head ≡ bytes_number (take 4 (drop p s)) = rw tail_part at e in
     omega (arith, l, z)
 
-size_from : (s : List ℕ) (p : ℕ) → p + 6 < length s → get_or s (p + 4) 0 ≡ 0 → {n : ℕ} → n ≡ get_or s (p + 5) 0 → n ≡ bytes_number (take 2 (take (length s - (p + 4)) (drop (p + 4) s)))
+pub size_from : (s : List ℕ) (p : ℕ) → p + 6 < length s → get_or s (p + 4) 0 ≡ 0 → {n : ℕ} → n ≡ get_or s (p + 5) 0 → n ≡ bytes_number (take 2 (take (length s - (p + 4)) (drop (p + 4) s)))
 size_from s p h z e = rw tail_part (e ∙ two_small s (p + 4) (omega arith) (omega arith) z)
 
 named : (l : Level) (f : Form) (tag n first : ℕ) → 0 < tag → tag < 128 → Glanced l f tag n first → true ≡ nameable l tag

@@ -36,7 +36,7 @@ fn may_stand(key: u64, part: u64, bits: &[u64]) -> bool
 }
 
 // Whether a record of another level stands at q of a sheet, so that a pass may stop.
-pub fn is_other(s: &[u8], q: usize, look: Look) -> bool {
+pub(super) fn is_other(s: &[u8], q: usize, look: Look) -> bool {
     match look {
         Look::Targets => !records::is_mark(s, q, records::TG),
         Look::Records { set: false } => !records::is_mark(s, q, records::TI),
@@ -45,6 +45,7 @@ pub fn is_other(s: &[u8], q: usize, look: Look) -> bool {
 }
 
 // How far no key of a quarter repeats.
+#[inline(always)]
 fn part_clear(s: &[u8], part: u64, look: Look, bits: &mut [u64; 64]) -> usize
     ensures { ClearIn part (peek_by look) s.now result }
 {
@@ -66,8 +67,9 @@ fn part_clear(s: &[u8], part: u64, look: Look, bits: &mut [u64; 64]) -> usize
     q
 }
 
-// No thing that begins before there has a key that stood before it.
-fn clear_to(s: &[u8], look: Look, bits: &mut [u64; 64]) -> usize
+// No thing that begins before there has a key that stood before it: four passes.
+#[inline(always)]
+fn passes(s: &[u8], look: Look, bits: &mut [u64; 64]) -> usize
     ensures { Clear (peek_by look) s.now result }
 {
     let mut r = s.len();
@@ -80,6 +82,20 @@ fn clear_to(s: &[u8], look: Look, bits: &mut [u64; 64]) -> usize
         return super::blocks::clear_to(s, look, bits);
     }
     r
+}
+
+// The same, each look by passes of its own, in which the compiler knows what is next. A call, so that only the tests of `after` stand in the walks.
+#[inline(never)]
+fn clear_to(s: &[u8], look: Look, bits: &mut [u64; 64]) -> usize
+    ensures { Clear (peek_by look) s.now result }
+{
+    match look {
+        Look::Packs => passes(s, Look::Packs, bits),
+        Look::Items { set } => passes(s, Look::Items { set }, bits),
+        Look::Targets => passes(s, Look::Targets, bits),
+        Look::Records { set: true } => passes(s, Look::Records { set: true }, bits),
+        Look::Records { set: false } => passes(s, Look::Records { set: false }, bits),
+    }
 }
 
 // As far as it is known after the key at p: the passes are made once, after the second look back over more than a few heads; 1 says that there was one.

@@ -8,7 +8,8 @@ ghost use Rattle.heads.specs.Meet.{peek_by, Heads, Past, Clear};
 use heads::Look;
 
 // Whether key heads something that begins in the first p bytes.
-fn seen_before(s: &[u8], p: usize, key: u64, look: Look) -> bool
+#[inline(always)]
+fn stood_before(s: &[u8], p: usize, key: u64, look: Look) -> bool
     requires { p ≤ length s.now }
     ensures { (ks : List ℕ) → Heads (peek_by look) s.now p ks → result ≡ has key ks }
 {
@@ -23,6 +24,21 @@ fn seen_before(s: &[u8], p: usize, key: u64, look: Look) -> bool
         q += next.used;
     }
     false
+}
+
+// The same, each look by a loop of its own, in which the compiler knows what is next. A call, as few keys are looked back for.
+#[inline(never)]
+fn seen_before(s: &[u8], p: usize, key: u64, look: Look) -> bool
+    requires { p ≤ length s.now }
+    ensures { (ks : List ℕ) → Heads (peek_by look) s.now p ks → result ≡ has key ks }
+{
+    match look {
+        Look::Packs => stood_before(s, p, key, Look::Packs),
+        Look::Items { set } => stood_before(s, p, key, Look::Items { set }),
+        Look::Targets => stood_before(s, p, key, Look::Targets),
+        Look::Records { set: true } => stood_before(s, p, key, Look::Records { set: true }),
+        Look::Records { set: false } => stood_before(s, p, key, Look::Records { set: false }),
+    }
 }
 
 // The same of the key at p, where no key before p is above top or below low, and none repeats before clear.

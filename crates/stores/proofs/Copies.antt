@@ -1,7 +1,7 @@
 -- A run of numbers stored at once, and one stored as its last and its first numbers, which may overlap.
-use Rattle.std.proofs.Common.{◌≡◌, ℕ, ◌+◌, ◌-◌, ◌≤◌, List, ◌++◌, length, take, drop, sym, ap, ◌∙◌, arith, append_assoc, length-drop, length-take-le, take-append-drop}
+use Rattle.std.proofs.Common.{◌≡◌, ℕ, suc, ◌+◌, ◌-◌, ◌≤◌, ◌<◌, List, [], ◌∷◌, ◌++◌, length, take, drop, set, get_or, refl, sym, ap, ◌∙◌, arith, append_assoc, length-drop, length-take-le, take-append-drop}
 use Rattle.std.proofs.Math.Seq.{paste}
-use Rattle.std.proofs.lemmas.List.{drop-drop, take_all}
+use Rattle.std.proofs.lemmas.List.{drop-drop, take_all, get_or-set_other}
 use Rattle.std.proofs.lemmas.List.Edits.{sets, sets-eq}
 use Rattle.std.proofs.lemmas.Simd.{put_chunk_is}
 use Rattle.std.specs.List.{copy_within}
@@ -47,3 +47,9 @@ copy_ends l i s w least most =
     ∙ ap (λ k. sets (sets l i first) (i + k) last) (sym first_long)
     ∙ sym (sets_append l i first last)
     ∙ ap (sets l i) (take-append-drop w s)
+
+-- ---- what stands where, after a run was stored
+
+pub sets_other : (l : List ℕ) (i : ℕ) (xs : List ℕ) (m : ℕ) → ((j : ℕ) → j < length xs → m ≡ i + j → ⊥) → get_or (sets l i xs) m 0 ≡ get_or l m 0
+sets_other l i [] m n = refl
+sets_other l i (x ∷ xs) m n = sets_other (set l i x) (suc i) xs m (λ j h e. n (suc j) (omega arith) (omega arith)) ∙ get_or-set_other l i m x 0 (λ e. n 0 (omega arith) (omega arith))

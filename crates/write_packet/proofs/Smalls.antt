@@ -30,7 +30,7 @@ low_byte a h e =
     let few : a / 128 % 2 ≡ a / 128 = mod-eq_of_lt (omega (arith, h)) in
     omega (arith, m, e, few)
 
-tested : (a b c d : ℕ) → a < 256 → b < 256 → c < 256 → d < 256 → bit_and (a + 256 * b + 65536 * c + 16777216 * d) 2164228351 ≡ 0 → (a ≡ 0) × (b < 128) × (c ≡ 0) × (d < 128)
+pub tested : (a b c d : ℕ) → a < 256 → b < 256 → c < 256 → d < 256 → bit_and (a + 256 * b + 65536 * c + 16777216 * d) 2164228351 ≡ 0 → (a ≡ 0) × (b < 128) × (c ≡ 0) × (d < 128)
 tested a b c d ha hb hc hd e =
     let n : a + 256 * b + 65536 * c + 16777216 * d ≡ ((d * 256 + c) * 256 + b) * 256 + a = omega arith in
     let first = masked ((d * 256 + c) * 256 + b) a 8454016 255 ha (omega arith) (rw n at e) in

@@ -5,7 +5,7 @@ use Rattle.items.specs.Meet.{form_of, level_of}
 use Rattle.edit_rules.specs.Cuts.{low_of, cut_bytes}
 use Rattle.answers.proofs.Entries.{Sized, sized_long, sized_short, Roomy, opening, entries_from, entries_room, entries_to, closing, written}
 use Rattle.answers.proofs.Results.{refuses}
-use Rattle.edit.proofs.Writing.{spans_are, cut_room, size_asked, frame_asked, sized}
+use Rattle.edit.proofs.Writing.{body_asked, cut_room, size_asked, frame_asked, sized}
 use Rattle.edit.proofs.edit_at.Goals as goal
 use Rattle.edit.proofs.edit_at.Goals.{After-frame_size-total, Else-out-total}
 
@@ -24,7 +24,7 @@ room c = record {
 }
 
 pub body_size-body-requires : goal.body_size-body-requires
-body_size-body-requires c = (_, spans_are c.requires.0, c.requires.0.low_small, c.requires.0.high_small)
+body_size-body-requires c = body_asked c.requires.0
 
 pub edited_size-n-requires : goal.edited_size-n-requires
 edited_size-n-requires c = size_asked c.requires.0 c.body_size-body.ensures

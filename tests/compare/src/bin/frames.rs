@@ -144,19 +144,28 @@ fn tables(code: &str) -> Tables<'_> {
     all
 }
 
-/// Where a jump by a register may lead: the table's labels, if the last three
-/// instructions that name the register, no label after them, look up one.
-fn tabled<'a>(name: &str, before: &[&str], register: &str, tables: &'a Tables) -> &'a [&'a str] {
+/// Where a jump by a register may lead, if the last two instructions that name
+/// the register, no label after them, look up a place in a table and add where
+/// that begins: the labels of the table that the instruction before loads. A
+/// loop may have loaded it long before: then those of all that the function
+/// loads anywhere.
+fn tabled<'a>(name: &str, body: &[&str], at: usize, register: &str, tables: &'a Tables) -> Vec<&'a str> {
     let short = register.strip_prefix("%r").filter(|rest| rest.ends_with(char::is_alphabetic)).unwrap_or(&register[1..]);
-    let block = before.iter().rev().map(|line| instruction(line)).take_while(|line| !line.ends_with(':'));
+    let block = body[..at].iter().rev().map(|line| instruction(line)).take_while(|line| !line.ends_with(':'));
     let steps: Vec<String> = block.skip_while(|line| !line.contains(short)).take(3).map(|line| line.replace('\t', " ")).collect();
-    let table = || {
-        let [added, looked, loaded] = &steps[..] else { return None };
-        let (table, base) = loaded.strip_prefix("leaq ")?.split_once("(%rip), ")?;
-        let place = looked.strip_prefix(&format!("movslq ({base},%"))?;
-        (place.ends_with(&format!(",4), {register}")) && *added == format!("addq {base}, {register}")).then_some(tables.get(table)?)
+    let loaded = |line: &str| Some(tables.get(line.replace('\t', " ").strip_prefix("leaq ")?.split_once("(%rip), ")?.0)?.as_slice());
+    let labels = || {
+        let [added, looked, before @ ..] = &steps[..] else { return None };
+        let (base, place) = looked.strip_prefix("movslq (")?.split_once(",%")?;
+        if !place.ends_with(&format!(",4), {register}")) || *added != format!("addq {base}, {register}") {
+            return None;
+        }
+        let own = before.first().filter(|line| line.ends_with(&format!("(%rip), {base}"))).and_then(|line| loaded(line));
+        Some(own.map_or_else(|| body.iter().filter_map(|line| loaded(instruction(line))).flatten().copied().collect(), <[&str]>::to_vec))
     };
-    table().unwrap_or_else(|| fail(&format!("{name}: a jump by {register}, of which the code does not say where it leads")))
+    labels()
+        .filter(|all: &Vec<&str>| !all.is_empty())
+        .unwrap_or_else(|| fail(&format!("{name}: a jump by {register}, of which the code does not say where it leads")))
 }
 
 fn instruction(line: &str) -> &str {
@@ -200,7 +209,7 @@ fn function(name: &str, body: &[&str], tables: &Tables) -> Function {
                 "ud2" => break,
                 "jmp" | "jmpq" if rest.starts_with(".L") => at = target(rest),
                 "jmpq" if rest.starts_with("*%") => {
-                    todo.extend(tabled(name, &body[..at - 1], &rest[1..], tables).iter().map(|label| (target(label), bytes)));
+                    todo.extend(tabled(name, body, at - 1, &rest[1..], tables).into_iter().map(|label| (target(label), bytes)));
                     break;
                 }
                 "jmp" | "jmpq" => {

@@ -1,7 +1,7 @@
--- `clear::clear_to` meets its contract: as far as each part tells, or as the blocks do.
+-- `clear::passes` meets its contract: as far as each part tells, or as the blocks do.
 use native.Mathlib.Omega.{arith}
 use Rattle.repeats.proofs.Clears.{below_more}
-use Rattle.repeats.proofs.clear.clear_to.Goals as goal
+use Rattle.repeats.proofs.clear.passes.Goals as goal
 
 pub loop-part-init : goal.loop-part-init
 loop-part-init c x h = absurd (omega arith)

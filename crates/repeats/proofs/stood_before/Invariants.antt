@@ -1,8 +1,8 @@
--- `repeats::seen_before` meets its contract: the loop passes what heads the first p bytes, one after the other.
+-- `repeats::stood_before` meets its contract: the loop passes what heads the first p bytes, one after the other.
 use Prim.Native.Nat.{◌-◌}
 use Rattle.heads.proofs.Before.{Left}
 use Rattle.heads.specs.Meet.{peek_by}
-use Rattle.repeats.proofs.seen_before.Given as goal
+use Rattle.repeats.proofs.stood_before.Given as goal
 
 abbrev pub invariant-loop-q : goal.invariant-loop-q
 invariant-loop-q l = Left (peek_by l.look) l.s l.p l.key l.q

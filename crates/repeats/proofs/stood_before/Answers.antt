@@ -1,7 +1,7 @@
--- `repeats::seen_before` meets its contract: the loop passes what heads the first p bytes, one after the other.
+-- `repeats::stood_before` meets its contract: the loop passes what heads the first p bytes, one after the other.
 use native.Mathlib.Omega.{arith}
 use Rattle.heads.proofs.Before.{left_start, left_done, left_gone, left_found, left_passed, look_room}
-use Rattle.repeats.proofs.seen_before.Goals as goal
+use Rattle.repeats.proofs.stood_before.Goals as goal
 
 pub loop-q-init : goal.loop-q-init
 loop-q-init c = left_start _ _ _ _

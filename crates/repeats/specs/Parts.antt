@@ -1,7 +1,10 @@
 -- A bit for each key of a quarter, modulo 4,096.
-use Rattle.std.specs.Prelude.{◌≡◌, ℕ, ◌/◌, ◌%◌, ◌<◌, Bool, true, false, List, length, drop}
+use Rattle.std.specs.Prelude.{◌≡◌, ℕ, ◌/◌, ◌%◌, ◌<◌, Bool, true, false, not, List, length, drop}
 use Rattle.format.specs.Answer.{Got}
 use Rattle.format.specs.Lists.{has}
+use Rattle.format.specs.Sheet.{is, TG, TI}
+use Rattle.heads.specs.declared.Look.{Look}
+use Rattle.heads.specs.declared.Look.TheVariants.{Packs, Items, Targets, Records}
 use Rattle.heads.specs.Meet.{Heads}
 use Rattle.repeats.specs.Notes.{noted}
 
@@ -20,3 +23,11 @@ pub record NotedPart (before after : List ℕ) (key part : ℕ) : Type 0 where
 -- `Clear`, of the keys of the part
 abbrev pub ClearIn : ℕ → (List ℕ → Got ℕ) → List ℕ → ℕ → Type 0
 ClearIn part look s r = (p : ℕ) → p < r → (ks : List ℕ) → Heads look s p ks → quarter (look (drop p s)).val ≡ part → has (look (drop p s)).val ks ≡ false
+
+-- in a look over targets, or over a target's items, that their mark doesn't stand at q of a sheet; false in every other look
+abbrev pub is_other : Look → List ℕ → ℕ → Bool
+is_other Targets s q = not (is TG (drop q s))
+is_other (Records false) s q = not (is TI (drop q s))
+is_other (Records true) s q = false
+is_other Packs s q = false
+is_other (Items set) s q = false

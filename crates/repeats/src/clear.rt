@@ -2,7 +2,7 @@
 // further on it is not known, and two ids with one bit end it too.
 ghost use Rattle.std.specs.Prelude.{◌≡◌, ◌≤◌, false, length};
 ghost use Rattle.heads.specs.Meet.{peek_by, Clear};
-ghost use Rattle.repeats.specs.Parts.{quarter, noted_part, NotedPart, ClearIn};
+ghost use Rattle.repeats.specs.Parts.{quarter, noted_part, is_other, NotedPart, ClearIn};
 
 use heads::{Look, records};
 
@@ -35,8 +35,10 @@ fn may_stand(key: u64, part: u64, bits: &[u64]) -> bool
     is_noted_part(bits, key)
 }
 
-// Whether a record of another level stands at q of a sheet, so that a pass may stop.
-pub(super) fn is_other(s: &[u8], q: usize, look: Look) -> bool {
+// Whether no target's mark stands at q of a sheet, in a look over targets, or no item's of a target, in one over these: a pass may stop there. Else false.
+pub fn is_other(s: &[u8], q: usize, look: Look) -> bool
+    ensures { result ≡ is_other look s.now q }
+{
     match look {
         Look::Targets => !records::is_mark(s, q, records::TG),
         Look::Records { set: false } => !records::is_mark(s, q, records::TI),
@@ -128,4 +130,33 @@ pub fn after(
         return clear;
     }
     clear_to(s, look, bits)
+}
+
+#[cfg(test)]
+mod tests {
+    use super::*;
+
+    // a target and its item, looked over from each mark and from the end
+    #[test]
+    fn other_levels(rt: HostRuntime) {
+        let s = *b"TG\0\0\0\0\0\0\0\x01TI\0\x05\0\x01\x07";
+        let items = Look::Records { set: false };
+        for (q, look) in [
+            (10, Look::Targets),
+            (17, Look::Targets),
+            (0, items),
+            (17, items),
+        ] {
+            assert!(rt; is_other(&s, q, look), "{look:?} at {q}");
+        }
+        for (q, look) in [
+            (0, Look::Targets),
+            (10, items),
+            (0, Look::Records { set: true }),
+            (0, Look::Packs),
+            (0, Look::Items { set: false }),
+        ] {
+            assert!(rt; !is_other(&s, q, look), "{look:?} at {q}");
+        }
+    }
 }

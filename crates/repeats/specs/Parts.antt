@@ -1,4 +1,4 @@
--- A bit for each key of a quarter, modulo 4,096.
+-- What the passes over a level's keys go by: a bit for each key of a quarter, modulo 4,096, and where a pass may stop.
 use Rattle.std.specs.Prelude.{◌≡◌, ℕ, ◌/◌, ◌%◌, ◌<◌, Bool, true, false, not, List, length, drop}
 use Rattle.format.specs.Answer.{Got}
 use Rattle.format.specs.Lists.{has}
@@ -24,7 +24,7 @@ pub record NotedPart (before after : List ℕ) (key part : ℕ) : Type 0 where
 abbrev pub ClearIn : ℕ → (List ℕ → Got ℕ) → List ℕ → ℕ → Type 0
 ClearIn part look s r = (p : ℕ) → p < r → (ks : List ℕ) → Heads look s p ks → quarter (look (drop p s)).val ≡ part → has (look (drop p s)).val ks ≡ false
 
--- in a look over targets, or over a target's items, that their mark doesn't stand at q of a sheet; false in every other look
+-- in a look over targets, no `TG` stands at q of a sheet; over a target's items, no `TI` does; false in other looks
 abbrev pub is_other : Look → List ℕ → ℕ → Bool
 is_other Targets s q = not (is TG (drop q s))
 is_other (Records false) s q = not (is TI (drop q s))

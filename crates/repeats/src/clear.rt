@@ -35,7 +35,7 @@ fn may_stand(key: u64, part: u64, bits: &[u64]) -> bool
     is_noted_part(bits, key)
 }
 
-// Whether no target's mark stands at q of a sheet, in a look over targets, or no item's of a target, in one over these: a pass may stop there. Else false.
+// In a look over targets, whether no `TG` stands at q of a sheet; over a target's items, whether no `TI` does: a pass may stop there. In other looks, false.
 pub fn is_other(s: &[u8], q: usize, look: Look) -> bool
     ensures { result ≡ is_other look s.now q }
 {
